@@ -1,0 +1,6 @@
+//! Lines to blocks.
+#![tactic(auto)]
+
+pub mod parser;
+
+pub use parser::{BlockRows, block_rows};

@@ -1,0 +1,33 @@
+use Rattle.std.proofs.Common.{◌≡◌, IfSome, inl, inr, subst, List, ℕ}
+use Rattle.std.specs.Io.KnownBytes.{Appends}
+use Rattle.std.proofs.lemmas.Bool.{cases_Bool}
+use Rattle.markdown_options.specs.declared.configuration.Options.{Options}
+use Rattle.markdown_definition.specs.Html.{html}
+use Rattle.markdown.specs.Faults.{is_write_error}
+use Rattle.markdown.specs.Plain.{plain_options}
+use Rattle.markdown.specs.Run.{AppendsBeginning}
+use Rattle.markdown.specs.Watched.{device}
+use Rattle.markdown.proofs.Transfers.{begins_kept, begins_whole, written_kept, on_err_from}
+use Rattle.markdown.proofs.command.page.Goals as goal
+
+pub returns-in_err-run_with_options-clause-fault : goal.returns-in_err-run_with_options-clause-fault
+returns-in_err-run_with_options-clause-fault g c =
+    let known = g.R.Read.remaining (device c.args.reader.now) in
+    let old = g.W.Write.contents (device c.args.writer.now) in
+    let new = g.W.Write.contents (device c.run_with_options.new.writer) in
+    let k = c.in_err-run_with_options.ensures in
+    let some : IfSome known (λ text. AppendsBeginning old new (html text plain_options)) =
+    elim (cases_Bool (is_write_error c.in_err-run_with_options.field-0.0)) [
+      | inl h ↦ subst (λ (o : Options). IfSome known (λ text. AppendsBeginning old new (html text o))) c.plain.ensures (k.beginning h)
+      | inr h ↦ begins_kept known old new plain_options (k.nothing h)
+    ] in
+    on_err_from c.from_residual.result some
+
+pub returns-clause-fault : goal.returns-clause-fault
+returns-clause-fault g c =
+    let known = g.R.Read.remaining (device c.args.reader.now) in
+    let old = g.W.Write.contents (device c.args.writer.now) in
+    let mid = g.W.Write.contents (device c.run_with_options.new.writer) in
+    let new = g.W.Write.contents (device c.flush.new.self) in
+    let wrote = subst (λ (o : Options). IfSome known (λ text. Appends old mid (html text o))) c.plain.ensures c.in_ok-run_with_options.ensures.ok in
+    on_err_from c.map_err.result (begins_whole known old new plain_options (written_kept known old mid new plain_options wrote c.flush.ensures.bytes))

@@ -1,0 +1,62 @@
+-- The columns of a line, and what its rest begins with (CommonMark 2.2).
+use Rattle.std.specs.Prelude.{ℕ, ◌+◌, ◌-◌, ◌%◌, Bool, not, if◌then◌else◌, ◌==◌, ◌||◌, leb, List, [], ◌∷◌, ◌++◌, drop, take, length, replicate}
+use Rattle.std.specs.List.{prefix_len, suffix_len, list_all, filter}
+
+-- A rest of a line is a list of codes, one for each column: a byte, or 256 for each column of a tab after its first. Where a prefix ends inside a tab, the rest begins with the columns that are left of it.
+abbrev pub Rest : Type 0
+Rest = List ℕ
+
+-- the code of a column of a tab after its first
+abbrev pub tab_column : ℕ
+tab_column = 256
+
+-- how many columns a tab at this column has after its first, where tab stops are 4 columns apart and the first column is 0
+abbrev pub columns_after_tab : ℕ → ℕ
+columns_after_tab column = 3 - column % 4
+
+-- the codes of bytes from a column on
+abbrev pub codes_from : ℕ → List ℕ → Rest
+codes_from column [] = []
+codes_from column (b ∷ bs) =
+    if b == 9 then 9 ∷ (replicate (columns_after_tab column) tab_column ++ codes_from (column + 1 + columns_after_tab column) bs)
+    else b ∷ codes_from (column + 1) bs
+
+-- a line before anything of it is read
+abbrev pub whole : List ℕ → Rest
+whole content = codes_from 0 content
+
+-- a space, a tab, or a column of a tab
+abbrev pub is_white : ℕ → Bool
+is_white code = (code == 32) || (code == 9) || (code == tab_column)
+
+-- only spaces and tabs
+abbrev pub is_blank : Rest → Bool
+is_blank rest = list_all is_white rest
+
+-- the columns of spaces and tabs ahead
+abbrev pub indent : Rest → ℕ
+indent rest = prefix_len is_white rest
+
+-- the rest after its spaces and tabs
+abbrev pub bare : Rest → Rest
+bare rest = drop (indent rest) rest
+
+abbrev pub is_tab_column : ℕ → Bool
+is_tab_column code = code == tab_column
+
+abbrev pub is_byte : ℕ → Bool
+is_byte code = not (is_tab_column code)
+
+-- the bytes of a rest
+abbrev pub bytes_of : Rest → List ℕ
+bytes_of rest = filter is_byte rest
+
+-- a rest as it stands in a block: the columns left of a tab that a prefix ended in, and the bytes
+abbrev pub block_codes : Rest → List ℕ
+block_codes rest = take (prefix_len is_tab_column rest) rest ++ bytes_of rest
+
+-- without the spaces and tabs at both ends
+abbrev pub trimmed : List ℕ → List ℕ
+trimmed text =
+    let rest = drop (prefix_len is_white text) text in
+    take (length rest - suffix_len is_white rest) rest

@@ -1,0 +1,27 @@
+-- What is printed, and how it is laid out.
+use Rattle.std.specs.Prelude.{ℕ, Bool, true, if◌then◌else◌, ◌==◌, ◌||◌, List, [], ◌∷◌, ◌++◌, Option, None, Some, slice_get, length, ◌-◌}
+use Rattle.std.specs.List.{fold}
+
+-- bytes, the default ending, or that ending unless nothing, CR or LF stands before
+pub data Piece : Type 0 where
+  Bytes : List ℕ → Piece
+  Eol : Piece
+  Fresh : Piece
+
+-- whether this last byte is none, CR or LF
+abbrev pub ends_a_line : Option ℕ → Bool
+ends_a_line None = true
+ends_a_line (Some b) = (b == 10) || (b == 13)
+
+-- whether nothing, CR or LF stands at the end
+abbrev pub is_fresh : List ℕ → Bool
+is_fresh out = ends_a_line (slice_get out (length out - 1))
+
+-- one more piece after what was printed
+abbrev pub print : List ℕ → List ℕ → Piece → List ℕ
+print default out (Bytes bs) = out ++ bs
+print default out Eol = out ++ default
+print default out Fresh = if is_fresh out then out else out ++ default
+
+abbrev pub layout : List ℕ → List Piece → List ℕ
+layout default ps = fold (print default) [] ps

@@ -1,0 +1,6 @@
+//! The written definition of Markdown to HTML, and the rows that the tree road hands on.
+#![tactic(auto)]
+
+pub mod row;
+
+pub use row::Row;

@@ -1,0 +1,33 @@
+-- Which constructs can be read so far.
+use Rattle.std.specs.Prelude.{Bool, not, ◌||◌}
+use Rattle.markdown_options.specs.declared.configuration.Constructs.{Constructs}
+
+-- some of the blocks of CommonMark are on
+abbrev pub has_blocks : Constructs → Bool
+has_blocks on =
+    on.block_quote || on.code_indented || on.code_fenced || on.definition || on.heading_atx
+    || on.heading_setext || on.html_flow || on.list_item || on.thematic_break
+
+-- some of the inline constructs of CommonMark are on
+abbrev pub has_texts : Constructs → Bool
+has_texts on =
+    on.attention || on.autolink || on.character_escape || on.character_reference || on.code_text
+    || on.hard_break_escape || on.hard_break_trailing || on.html_text || on.label_start_image
+    || on.label_start_link || on.label_end
+
+-- some of the extensions are on
+abbrev pub has_extensions : Constructs → Bool
+has_extensions on =
+    on.gfm_autolink_literal || on.gfm_footnote_definition || on.gfm_label_start_footnote
+    || on.gfm_strikethrough || on.gfm_table || on.gfm_task_list_item || on.frontmatter
+    || on.math_flow || on.math_text
+
+-- some of the constructs of MDX are on
+abbrev pub has_mdx : Constructs → Bool
+has_mdx on =
+    on.mdx_esm || on.mdx_expression_flow || on.mdx_expression_text || on.mdx_jsx_flow
+    || on.mdx_jsx_text
+
+-- nothing is on that can't be read: every construct is off
+abbrev pub is_built : Constructs → Bool
+is_built on = not (has_blocks on || has_texts on || has_extensions on || has_mdx on)

@@ -1,0 +1,418 @@
+//! Which constructs are on, and how HTML is printed.
+ghost use Rattle.std.specs.Prelude.{◌≡◌, true};
+ghost use Rattle.markdown_options.specs.Defaults.{no_constructs, default_constructs, gfm_constructs, mdx_constructs};
+ghost use Rattle.markdown_options.specs.Defaults.{default_parse_options, gfm_parse_options, mdx_parse_options};
+ghost use Rattle.markdown_options.specs.Defaults.{default_compile_options, gfm_compile_options, default_options, gfm_options};
+ghost use Rattle.markdown_options.specs.Built.{has_blocks, has_texts, has_extensions, has_mdx, is_built};
+
+use crate::line_ending::LineEnding;
+
+/// The constructs of markdown, each on or off. A construct that is off never occurs.
+#[derive(Clone, Copy, Debug, PartialEq, Eq)]
+pub struct Constructs {
+    /// Emphasis and strong emphasis by `*` and `_` (CommonMark 6.2).
+    pub attention: bool,
+    /// Links in angle brackets, as `<https://example.com>` (CommonMark 6.5).
+    pub autolink: bool,
+    /// Block quotes by `>` (CommonMark 5.1).
+    pub block_quote: bool,
+    /// A backslash before ASCII punctuation (CommonMark 2.4).
+    pub character_escape: bool,
+    /// Characters by name or number, as `&amp;` and `&#38;` (CommonMark 2.5).
+    pub character_reference: bool,
+    /// Code blocks by indentation (CommonMark 4.4).
+    pub code_indented: bool,
+    /// Code blocks between fences of backticks or tildes (CommonMark 4.5).
+    pub code_fenced: bool,
+    /// Code spans between backticks (CommonMark 6.1).
+    pub code_text: bool,
+    /// Definitions of links, as `[a]: b` (CommonMark 4.7).
+    pub definition: bool,
+    /// Metadata at the start of a text, between lines of `---` or `+++`; in neither standard.
+    pub frontmatter: bool,
+    /// Links with no brackets, as `www.example.com` (GFM 6.9).
+    pub gfm_autolink_literal: bool,
+    /// Definitions of footnotes, as `[^a]: b`; GitHub has them, and GFM has no section on them.
+    pub gfm_footnote_definition: bool,
+    /// Calls of footnotes, as `[^a]`; GitHub has them, and GFM has no section on them.
+    pub gfm_label_start_footnote: bool,
+    /// Struck text by `~` (GFM 6.5).
+    pub gfm_strikethrough: bool,
+    /// Tables (GFM 4.10).
+    pub gfm_table: bool,
+    /// Checks at the start of an item, as `[x]` (GFM 5.3).
+    pub gfm_task_list_item: bool,
+    /// Line breaks by a backslash (CommonMark 6.7).
+    pub hard_break_escape: bool,
+    /// Line breaks by spaces at a line's end (CommonMark 6.7).
+    pub hard_break_trailing: bool,
+    /// Headings that begin with `#` (CommonMark 4.2).
+    pub heading_atx: bool,
+    /// Headings with a line of `=` or `-` below (CommonMark 4.3).
+    pub heading_setext: bool,
+    /// HTML blocks (CommonMark 4.6).
+    pub html_flow: bool,
+    /// HTML within text (CommonMark 6.6).
+    pub html_text: bool,
+    /// The start `![` of an image (CommonMark 6.4).
+    pub label_start_image: bool,
+    /// The start `[` of a link (CommonMark 6.3).
+    pub label_start_link: bool,
+    /// The end `]` of a link or an image (CommonMark 6.3 and 6.4).
+    pub label_end: bool,
+    /// List items (CommonMark 5.2).
+    pub list_item: bool,
+    /// Blocks of math between fences of dollars; in neither standard.
+    pub math_flow: bool,
+    /// Math within text, between dollars; in neither standard.
+    pub math_text: bool,
+    /// Imports and exports of MDX; in neither standard.
+    pub mdx_esm: bool,
+    /// Expressions of MDX that stand alone, as `{1 + 1}`; in neither standard.
+    pub mdx_expression_flow: bool,
+    /// Expressions of MDX within text; in neither standard.
+    pub mdx_expression_text: bool,
+    /// Tags of MDX that stand alone; in neither standard.
+    pub mdx_jsx_flow: bool,
+    /// Tags of MDX within text; in neither standard.
+    pub mdx_jsx_text: bool,
+    /// Breaks by a line of `*`, `-` or `_` (CommonMark 4.1).
+    pub thematic_break: bool,
+}
+
+impl Constructs {
+    /// Every construct off.
+    pub fn none() -> Constructs
+        ensures { result ≡ no_constructs }
+    {
+        Constructs {
+            attention: false,
+            autolink: false,
+            block_quote: false,
+            character_escape: false,
+            character_reference: false,
+            code_indented: false,
+            code_fenced: false,
+            code_text: false,
+            definition: false,
+            frontmatter: false,
+            gfm_autolink_literal: false,
+            gfm_footnote_definition: false,
+            gfm_label_start_footnote: false,
+            gfm_strikethrough: false,
+            gfm_table: false,
+            gfm_task_list_item: false,
+            hard_break_escape: false,
+            hard_break_trailing: false,
+            heading_atx: false,
+            heading_setext: false,
+            html_flow: false,
+            html_text: false,
+            label_start_image: false,
+            label_start_link: false,
+            label_end: false,
+            list_item: false,
+            math_flow: false,
+            math_text: false,
+            mdx_esm: false,
+            mdx_expression_flow: false,
+            mdx_expression_text: false,
+            mdx_jsx_flow: false,
+            mdx_jsx_text: false,
+            thematic_break: false,
+        }
+    }
+
+    /// The default with all that GFM and GitHub's footnotes add.
+    pub fn gfm() -> Constructs
+        ensures { result ≡ gfm_constructs }
+    {
+        Constructs {
+            gfm_autolink_literal: true,
+            gfm_footnote_definition: true,
+            gfm_label_start_footnote: true,
+            gfm_strikethrough: true,
+            gfm_table: true,
+            gfm_task_list_item: true,
+            ..Constructs::default()
+        }
+    }
+
+    /// The default with MDX in place of autolinks, indented code and HTML: flags alone, since no
+    /// call reads MDX.
+    pub fn mdx() -> Constructs
+        ensures { result ≡ mdx_constructs }
+    {
+        Constructs {
+            autolink: false,
+            code_indented: false,
+            html_flow: false,
+            html_text: false,
+            mdx_esm: true,
+            mdx_expression_flow: true,
+            mdx_expression_text: true,
+            mdx_jsx_flow: true,
+            mdx_jsx_text: true,
+            ..Constructs::default()
+        }
+    }
+
+    /// Whether some of the blocks of CommonMark are on.
+    fn has_blocks(&self) -> bool
+        ensures { result ≡ has_blocks self.now }
+    {
+        self.block_quote
+            || self.code_indented
+            || self.code_fenced
+            || self.definition
+            || self.heading_atx
+            || self.heading_setext
+            || self.html_flow
+            || self.list_item
+            || self.thematic_break
+    }
+
+    /// Whether some of the inline constructs of CommonMark are on.
+    fn has_texts(&self) -> bool
+        ensures { result ≡ has_texts self.now }
+    {
+        self.attention
+            || self.autolink
+            || self.character_escape
+            || self.character_reference
+            || self.code_text
+            || self.hard_break_escape
+            || self.hard_break_trailing
+            || self.html_text
+            || self.label_start_image
+            || self.label_start_link
+            || self.label_end
+    }
+
+    /// Whether some of the extensions are on.
+    fn has_extensions(&self) -> bool
+        ensures { result ≡ has_extensions self.now }
+    {
+        self.gfm_autolink_literal
+            || self.gfm_footnote_definition
+            || self.gfm_label_start_footnote
+            || self.gfm_strikethrough
+            || self.gfm_table
+            || self.gfm_task_list_item
+            || self.frontmatter
+            || self.math_flow
+            || self.math_text
+    }
+
+    /// Whether some of the constructs of MDX are on.
+    pub fn has_mdx(&self) -> bool
+        ensures { result ≡ has_mdx self.now }
+    {
+        self.mdx_esm
+            || self.mdx_expression_flow
+            || self.mdx_expression_text
+            || self.mdx_jsx_flow
+            || self.mdx_jsx_text
+    }
+}
+
+/// What CommonMark has.
+impl Default for Constructs {
+    ghost is_default = { λ c. c ≡ default_constructs };
+
+    fn default() -> Constructs {
+        Constructs {
+            attention: true,
+            autolink: true,
+            block_quote: true,
+            character_escape: true,
+            character_reference: true,
+            code_indented: true,
+            code_fenced: true,
+            code_text: true,
+            definition: true,
+            frontmatter: false,
+            gfm_autolink_literal: false,
+            gfm_footnote_definition: false,
+            gfm_label_start_footnote: false,
+            gfm_strikethrough: false,
+            gfm_table: false,
+            gfm_task_list_item: false,
+            hard_break_escape: true,
+            hard_break_trailing: true,
+            heading_atx: true,
+            heading_setext: true,
+            html_flow: true,
+            html_text: true,
+            label_start_image: true,
+            label_start_link: true,
+            label_end: true,
+            list_item: true,
+            math_flow: false,
+            math_text: false,
+            mdx_esm: false,
+            mdx_expression_flow: false,
+            mdx_expression_text: false,
+            mdx_jsx_flow: false,
+            mdx_jsx_text: false,
+            thematic_break: true,
+        }
+    }
+}
+
+/// How a text is read.
+#[derive(Clone, Copy, Debug, PartialEq, Eq)]
+pub struct ParseOptions {
+    /// The constructs that are on.
+    pub constructs: Constructs,
+    /// Whether one tilde strikes text too, as in `~a~`, and not only two (GFM 6.5).
+    pub gfm_strikethrough_single_tilde: bool,
+    /// Whether one dollar makes math within text too, as in `$a$`, and not only two or more.
+    pub math_text_single_dollar: bool,
+}
+
+impl ParseOptions {
+    /// Whether all that is on can be read so far.
+    pub fn built(&self) -> bool
+        ensures { result ≡ is_built self.now.constructs }
+    {
+        let on = &self.constructs;
+        !(on.has_blocks() || on.has_texts() || on.has_extensions() || on.has_mdx())
+    }
+
+    /// Reads what GitHub has.
+    pub fn gfm() -> ParseOptions
+        ensures { result ≡ gfm_parse_options }
+    {
+        ParseOptions {
+            constructs: Constructs::gfm(),
+            ..ParseOptions::default()
+        }
+    }
+
+    /// Reads what MDX has, by its flags alone.
+    pub fn mdx() -> ParseOptions
+        ensures { result ≡ mdx_parse_options }
+    {
+        ParseOptions {
+            constructs: Constructs::mdx(),
+            ..ParseOptions::default()
+        }
+    }
+}
+
+/// Reads what CommonMark has.
+impl Default for ParseOptions {
+    ghost is_default = { λ options. options ≡ default_parse_options };
+
+    fn default() -> ParseOptions {
+        ParseOptions {
+            constructs: Constructs::default(),
+            gfm_strikethrough_single_tilde: true,
+            math_text_single_dollar: true,
+        }
+    }
+}
+
+/// How HTML is printed.
+///
+/// A copy would take memory, so there is no `Clone`.
+#[derive(Debug, Drop)]
+pub struct CompileOptions {
+    /// Whether an image may have any protocol, while links keep to the safe ones.
+    pub allow_any_img_src: bool,
+    /// Whether HTML of the text is printed as it is, and not encoded.
+    pub allow_dangerous_html: bool,
+    /// Whether links and images may have any protocol, as `javascript`.
+    pub allow_dangerous_protocol: bool,
+    /// The line ending that is printed where the text has none.
+    pub default_line_ending: LineEnding,
+    /// What a screen reader says for a way back to a footnote's call; `Back to content` if there
+    /// is none.
+    pub gfm_footnote_back_label: Option<String>,
+    /// What the ids of footnotes begin with; `user-content-` if there is none.
+    pub gfm_footnote_clobber_prefix: Option<String>,
+    /// The heading of the footnotes; `Footnotes` if there is none.
+    pub gfm_footnote_label: Option<String>,
+    /// The attributes of that heading, printed as they are; `class="sr-only"` if there are none.
+    pub gfm_footnote_label_attributes: Option<String>,
+    /// The element of that heading; `h2` if there is none.
+    pub gfm_footnote_label_tag_name: Option<String>,
+    /// Whether some elements of dangerous HTML are taken out (GFM 6.11).
+    pub gfm_tagfilter: bool,
+    /// Whether readers can click the checks of items (GFM 5.3).
+    pub gfm_task_list_item_checkable: bool,
+}
+
+impl CompileOptions {
+    /// Prints what GitHub does: the default with the tag filter.
+    pub fn gfm() -> CompileOptions
+        ensures { result ≡ gfm_compile_options }
+    {
+        CompileOptions {
+            gfm_tagfilter: true,
+            ..CompileOptions::default()
+        }
+    }
+}
+
+/// Nothing dangerous, line feeds, and no texts of one's own.
+impl Default for CompileOptions {
+    ghost is_default = { λ options. options ≡ default_compile_options };
+
+    fn default() -> CompileOptions {
+        CompileOptions {
+            allow_any_img_src: false,
+            allow_dangerous_html: false,
+            allow_dangerous_protocol: false,
+            default_line_ending: LineEnding::default(),
+            gfm_footnote_back_label: None,
+            gfm_footnote_clobber_prefix: None,
+            gfm_footnote_label: None,
+            gfm_footnote_label_attributes: None,
+            gfm_footnote_label_tag_name: None,
+            gfm_tagfilter: false,
+            gfm_task_list_item_checkable: false,
+        }
+    }
+}
+
+/// How a text is read, and how its HTML is printed.
+#[derive(Debug, Drop)]
+pub struct Options {
+    /// How the text is read.
+    pub parse: ParseOptions,
+    /// How its HTML is printed.
+    pub compile: CompileOptions,
+}
+
+impl Options {
+    /// Reads and prints what GitHub does.
+    pub fn gfm() -> Options
+        ensures { result ≡ gfm_options }
+    {
+        Options {
+            parse: ParseOptions::gfm(),
+            compile: CompileOptions::gfm(),
+        }
+    }
+
+    /// Whether a construct of MDX is on.
+    pub fn has_mdx(&self) -> bool
+        ensures { result ≡ has_mdx self.now.parse.constructs }
+    {
+        self.parse.constructs.has_mdx()
+    }
+}
+
+/// Reads what CommonMark has, and prints nothing dangerous.
+impl Default for Options {
+    ghost is_default = { λ options. options ≡ default_options };
+
+    fn default() -> Options {
+        Options {
+            parse: ParseOptions::default(),
+            compile: CompileOptions::default(),
+        }
+    }
+}

@@ -1,0 +1,96 @@
+//! Readers and writers that give and take little, and fail.
+use crate::rows::plain;
+use markdown::{RunError, Watched, run_with_options};
+use std::io::{self, Read, Write};
+
+/// A device that moves at most so many bytes a call. After some calls it fails to read, and takes nothing.
+#[derive(Drop)]
+pub struct Short<D> {
+    device: D,
+    most: usize,
+    calls: usize,
+}
+
+impl<D> Short<D> {
+    pub fn new(device: D, most: usize, calls: usize) -> Short<D> {
+        Short {
+            device,
+            most,
+            calls,
+        }
+    }
+
+    pub fn into_inner(self) -> D {
+        let Short { device, .. } = self;
+        device
+    }
+}
+
+impl<D: Read> Read for Short<D> {
+    fn read(&mut self, buf: &mut [u8]) -> io::Result<usize> {
+        if self.calls == 0 {
+            return Err(io::Error::from(io::ErrorKind::Interrupted));
+        }
+        self.calls -= 1;
+        let some = buf.len().min(self.most);
+        self.device.read(&mut buf[..some])
+    }
+}
+
+impl<D: Write> Write for Short<D> {
+    fn write(&mut self, buf: &[u8]) -> io::Result<usize> {
+        if self.calls == 0 {
+            return Ok(0);
+        }
+        self.calls -= 1;
+        let some = buf.len().min(self.most);
+        self.device.write(&buf[..some])
+    }
+
+    fn flush(&mut self) -> io::Result<()> {
+        self.device.flush()
+    }
+}
+
+const TEXT: &[u8] = b"# a & b\n\nc";
+
+const PAGE: &[u8] = b"<p># a &amp; b</p>\n<p>c</p>";
+
+#[test]
+fn moves_few_bytes_a_call(rt: HostRuntime) -> Result<(), RunError> {
+    for most in 1..9 {
+        let mut reader = Watched::new(Short::new(TEXT, most, 100));
+        let mut writer = Watched::new(Short::new(Vec::new(rt.alloc()), most, 100));
+        run_with_options(rt.alloc(), &mut reader, &mut writer, &plain())?;
+        assert!(rt; !reader.failed());
+        assert!(rt; !writer.failed());
+        let out = writer.into_inner().into_inner();
+        assert_eq!(rt; out.as_slice(), PAGE, "at {most}");
+    }
+    Ok(())
+}
+
+#[test]
+fn answers_failed_reads(rt: HostRuntime) {
+    for calls in 0..4 {
+        let mut reader = Watched::new(Short::new(&b"abc"[..], 1, calls));
+        let mut writer = Watched::new(Vec::new(rt.alloc()));
+        let result = run_with_options(rt.alloc(), &mut reader, &mut writer, &plain());
+        assert!(rt; matches!(result, Err(RunError::Read(_))), "at {calls}");
+        assert!(rt; reader.failed(), "at {calls}");
+        assert!(rt; writer.into_inner().is_empty(), "at {calls}");
+    }
+}
+
+#[test]
+fn answers_stopped_writers(rt: HostRuntime) {
+    for calls in 0..PAGE.len() {
+        let mut reader = Watched::new(TEXT);
+        let mut writer = Watched::new(Short::new(Vec::new(rt.alloc()), 1, calls));
+        let result = run_with_options(rt.alloc(), &mut reader, &mut writer, &plain());
+        assert!(rt; matches!(result, Err(RunError::Stopped)), "at {calls}");
+        assert!(rt; writer.failed(), "at {calls}");
+        let out = writer.into_inner().into_inner();
+        assert_eq!(rt; out.as_slice(), &PAGE[..calls], "at {calls}");
+    }
+}

@@ -1,0 +1,4 @@
+pub mod Ascii
+pub mod FirstLine
+pub mod MarkBytes
+pub mod Codes

@@ -1,0 +1,53 @@
+//! Spaces and tabs (CommonMark 2.1).
+ghost use Rattle.std.specs.Prelude.{◌≡◌, ◌-◌, drop, take, length};
+ghost use Rattle.std.specs.List.{list_all, prefix_len, suffix_len};
+ghost use Rattle.markdown_definition.specs.Columns.{is_white, is_blank, whole, trimmed};
+
+/// Whether a text holds only spaces and tabs.
+pub fn is_blank(text: &str) -> bool
+    ensures { result ≡ is_blank (whole text.now) }
+{
+    is_white(text.as_bytes())
+}
+
+fn is_white(bytes: &[u8]) -> bool
+    ensures { result ≡ list_all is_white bytes.now }
+{
+    bytes.iter().all(|b| is_space_or_tab(*b))
+}
+
+fn is_space_or_tab(byte: u8) -> bool
+    ensures { result ≡ is_white byte }
+{
+    byte == b' ' || byte == b'\t'
+}
+
+/// A text without the spaces and tabs at both ends.
+pub fn trim(text: &str) -> &str
+    ensures { result.now ≡ trimmed text.now }
+{
+    trim_end(trim_start(text))
+}
+
+fn trim_start(text: &str) -> &str
+    ensures { result.now ≡ drop (prefix_len is_white text.now) text.now }
+{
+    let bytes = text.as_bytes();
+    for (i, b) in bytes.iter().enumerate() {
+        if !is_space_or_tab(*b) {
+            return &text[i..];
+        }
+    }
+    ""
+}
+
+fn trim_end(text: &str) -> &str
+    ensures { result.now ≡ take (length text.now - suffix_len is_white text.now) text.now }
+{
+    let bytes = text.as_bytes();
+    let mut end = bytes.len();
+    while end > 0 && is_space_or_tab(bytes[end - 1]) {
+        end -= 1;
+    }
+    &text[..end]
+}

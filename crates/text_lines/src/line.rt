@@ -1,0 +1,130 @@
+//! Lines and their endings (CommonMark 2.1).
+//!
+//!     line   ::= content ending?
+//!     ending ::= CR LF | CR | LF
+ghost use Rattle.std.specs.Prelude.{◌≡◌, ◌<◌, ◌∷◌, length, drop, take, Some, None};
+ghost use Rattle.std.specs.List.{position_or_len};
+ghost use Rattle.markdown_definition.specs.Lines.{ends_line, lines, first_line, text_line};
+ghost use Rattle.markdown_definition.specs.Columns.{block_codes, whole};
+ghost use Rattle.text_lines.specs.Endings.{BeginsWithEnding};
+
+use markdown_options::LineEnding;
+
+/// A line: its content, and its ending, which a text's last line may lack.
+#[derive(Clone, Copy)]
+pub struct Line<'a> {
+    /// The text from this line on.
+    pub from: &'a str,
+    pub content: &'a str,
+    pub ending: Option<LineEnding>,
+    pub ghost first: { first_line from.now ≡ text_line content.now ending },
+    pub ghost codes: { block_codes (whole content.now) ≡ content.now },
+}
+
+/// The lines of what is left of a text.
+#[derive(Clone, Copy)]
+pub struct Lines<'a> {
+    rest: &'a str,
+}
+
+impl<'a> Lines<'a> {
+    ghost use Rattle.text_lines.specs.Rest.{rest_lines};
+    ghost use Rattle.markdown_definition.specs.Lines.{lines, first_line, text_line};
+
+    /// The lines of a text.
+    pub fn new(text: &'a str) -> Lines<'a>
+        ensures { rest_lines result ≡ lines text.now }
+    {
+        Lines { rest: text }
+    }
+
+    /// The first line. The empty text begins with an empty line.
+    pub fn first(text: &'a str) -> Line<'a>
+        ensures { text_line result.content.now result.ending ≡ first_line text.now }
+    {
+        let (line, _) = split_first(text);
+        line
+    }
+}
+
+impl<'a> Iterator for Lines<'a> {
+    ghost use Rattle.text_lines.specs.Rest.{rest_lines, view_line};
+    ghost use Rattle.std.specs.Iterator.{YieldsFirstBy, item_count};
+
+    type Item = Line<'a>;
+
+    ghost next_gives = { YieldsFirstBy view_line rest_lines };
+
+    ghost remaining = { item_count rest_lines };
+
+    fn next(&mut self) -> Option<Line<'a>> {
+        if self.rest.is_empty() {
+            return None;
+        }
+        let (line, rest) = split_first(self.rest);
+        self.rest = rest;
+        Some(line)
+    }
+}
+
+/// The first line, and what follows it. The empty text begins with an empty line.
+fn split_first(text: &str) -> (Line<'_>, &str)
+    ensures from { result.0.from.now ≡ text.now }
+    ensures rest { 0 < length text.now → lines text.now ≡ text_line result.0.content.now result.0.ending ∷ lines result.1.now }
+{
+    let (content, after) = split_content(text);
+    let (ending, rest) = split_ending(after);
+    (
+        Line {
+            from: text,
+            content,
+            ending,
+        },
+        rest,
+    )
+}
+
+/// The bytes before the first CR or LF, and what follows them.
+fn split_content(text: &str) -> (&str, &str)
+    ensures content { result.0.now ≡ take (position_or_len ends_line text.now) text.now }
+    ensures after { result.1.now ≡ drop (position_or_len ends_line text.now) text.now }
+{
+    let end = content_len(text.as_bytes());
+    text.split_at(end)
+}
+
+/// How many bytes stand before the first CR or LF.
+fn content_len(bytes: &[u8]) -> usize
+    ensures { result ≡ position_or_len ends_line bytes.now }
+{
+    for (i, b) in bytes.iter().enumerate() {
+        if *b == b'\n' || *b == b'\r' {
+            return i;
+        }
+    }
+    bytes.len()
+}
+
+/// The ending that a text begins with, and what follows it.
+fn split_ending(text: &str) -> (Option<LineEnding>, &str)
+    ensures { BeginsWithEnding text.now result.0 result.1.now }
+{
+    if let Some(rest) = text.strip_prefix('\n') {
+        return (Some(LineEnding::LineFeed), rest);
+    }
+    match text.strip_prefix('\r') {
+        None => (None, text),
+        Some(rest) => after_return(rest),
+    }
+}
+
+/// The ending that begins with a CR, and what follows it.
+fn after_return(text: &str) -> (Option<LineEnding>, &str)
+    ensures { BeginsWithEnding (13 ∷ text.now) result.0 result.1.now }
+{
+    match text.strip_prefix('\n') {
+        None => (Some(LineEnding::CarriageReturn), text),
+        Some(rest) => (Some(LineEnding::CarriageReturnLineFeed), rest),
+    }
+}
+

@@ -1,0 +1,8 @@
+//! Blocks to HTML.
+#![tactic(auto)]
+
+pub mod encode;
+pub mod page;
+
+pub use encode::push_encoded;
+pub use page::print_rows;
