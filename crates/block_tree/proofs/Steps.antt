@@ -1,16 +1,16 @@
 -- What rows show after one more line.
-use Rattle.std.proofs.Common.{◌≡◌, ℕ, ◌+◌, ◌-◌, ◌≤◌, List, [], ◌∷◌, ◌++◌, Option, None, Bool, true, false, refl, sym, ap, ◌∙◌, subst, take, drop, length, append_assoc, arith, inl, inr}
-use Rattle.std.specs.List.{fold, sum_by}
+use Rattle.std.proofs.Common.{◌≡◌, ℕ, ◌+◌, ◌-◌, ◌≤◌, List, [], ◌∷◌, ◌++◌, Option, None, true, false, refl, sym, ap, ◌∙◌, take, drop, length, append_assoc, arith}
+use Rattle.std.specs.List.{fold}
 use Rattle.std.proofs.lemmas.Bool.{cond-true, cond-false}
-use Rattle.std.proofs.lemmas.List.{append-nil, take-append-le, drop-append-le, length-drop, length-append, take_all, drop_all}
+use Rattle.std.proofs.lemmas.List.{take-append-le, drop-append-le, length-drop, take_all, drop_all}
 use Rattle.std.proofs.lemmas.List.Sums.{fold_push, sum_by-cons}
 use Rattle.markdown_options.specs.declared.line_ending.LineEnding.{LineEnding}
 use Rattle.markdown_definition.specs.declared.row.Row.{Row}
 use Rattle.markdown_definition.specs.declared.row.Row.TheVariants as row
 use Rattle.markdown_definition.specs.Lines.{TextLine}
 use Rattle.markdown_definition.specs.Columns.{whole, is_blank, block_codes}
-use Rattle.markdown_definition.specs.Tree.{BlockLine, block_line, Block, Paragraph, Ending, Blank, Blocks, Nil, Cons, join, one, Opening, Lines, Tree, tree, last_ending, own_lines, close, closed, with_line, grow, step}
-use Rattle.markdown_definition.specs.Rows.{BlockRow, Single, rows_of, Shown, shown, shown_as, show_row, block_shown, lines_taken, all_taken}
+use Rattle.markdown_definition.specs.Tree.{BlockLine, block_line, Paragraph, Ending, Blank, Blocks, Nil, Cons, join, one, Opening, Lines, Tree, tree, last_ending, own_lines, close, closed, with_line, step}
+use Rattle.markdown_definition.specs.Rows.{BlockRow, Single, rows_of, Shown, shown, shown_as, show_row, lines_taken, all_taken}
 use Rattle.block_tree.specs.Shows.{open_lines, Shows}
 
 -- ---- lists of blocks

@@ -91,7 +91,10 @@ impl<'a, A: Allocator> Parser<'a, A> {
 }
 
 /// The blocks of a text without a byte order mark.
-pub fn block_rows<'a, A: Allocator + Clone>(alloc: A, text: &'a str) -> Result<BlockRows<'a, A>, AllocError>
+pub fn block_rows<'a, A: Allocator + Clone>(
+    alloc: A,
+    text: &'a str,
+) -> Result<BlockRows<'a, A>, AllocError>
     ensures shown { IfOk result (λ r. shown r.rows.items (pool_lines r.lines.items) ≡ shown_as (rows_of (blocks text.entry.now)) []) }
     ensures enough { IfOk result (λ r. all_taken r.rows.items ≤ length r.lines.items) }
 {

@@ -9,9 +9,9 @@ ghost use Rattle.markdown.specs.Watched.{device, has_failed};
 ghost use Rattle.markdown.specs.Faults.{is_read_error, is_write_error, is_size_error, is_utf8_error, read_failed, write_failed};
 ghost use Rattle.markdown.specs.Run.{AppendsBeginning};
 
-use markdown_options::{Message, Options};
 use crate::to_html::{SIZE_MAX, to_html_with_options};
 use crate::watched::Watched;
+use markdown_options::{Message, Options};
 use std::alloc::{AllocError, Allocator};
 use std::io::{self, Read, Write};
 use thiserror::Error;
@@ -71,7 +71,11 @@ pub fn run_with_options<A: Allocator + Clone, R: Read, W: Write>(
 }
 
 /// The HTML of what was read.
-fn page_of<A: Allocator + Clone>(alloc: A, bytes: &[u8], options: &Options) -> Result<String<A>, RunError>
+fn page_of<A: Allocator + Clone>(
+    alloc: A,
+    bytes: &[u8],
+    options: &Options,
+) -> Result<String<A>, RunError>
     requires built { is_built options.now.parse.constructs ≡ true }
     requires fits { length bytes.now ≤ SIZE_MAX }
     ensures ok { IfOk result (λ page. string_bytes page ≡ html bytes.now options.now) }

@@ -1,1 +1,2 @@
 pub mod RowsOf
+pub mod Visible

@@ -1,8 +1,7 @@
 -- The rows of blocks print what the blocks print.
-use Rattle.std.proofs.Common.{◌≡◌, Bool, false, List, ◌++◌, refl, ap, ◌∙◌}
+use Rattle.std.proofs.Common.{◌≡◌, Bool, false, ◌++◌, refl, ap, ◌∙◌}
 use Rattle.std.specs.List.{fold, flat_map}
 use Rattle.markdown_definition.specs.Tree.{Blocks, Nil, Cons}
-use Rattle.markdown_definition.specs.Pieces.{Piece}
 use Rattle.markdown_definition.specs.Html.{block_pieces, children_pieces, is_blank_ending, ends_blank, last_piece, document_pieces}
 use Rattle.markdown_definition.specs.Rows.{rows_of, row_pieces, is_blank_row, ends_blank_rows, rows_pieces}
 

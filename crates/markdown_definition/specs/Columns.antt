@@ -1,5 +1,5 @@
 -- The columns of a line, and what its rest begins with (CommonMark 2.2).
-use Rattle.std.specs.Prelude.{ℕ, ◌+◌, ◌-◌, ◌%◌, Bool, not, if◌then◌else◌, ◌==◌, ◌||◌, leb, List, [], ◌∷◌, ◌++◌, drop, take, length, replicate}
+use Rattle.std.specs.Prelude.{ℕ, ◌+◌, ◌-◌, ◌%◌, Bool, not, if◌then◌else◌, ◌==◌, ◌||◌, List, [], ◌∷◌, ◌++◌, drop, take, length, replicate}
 use Rattle.std.specs.List.{prefix_len, suffix_len, list_all, filter}
 
 -- A rest of a line is a list of codes, one for each column: a byte, or 256 for each column of a tab after its first. Where a prefix ends inside a tab, the rest begins with the columns that are left of it.

@@ -5,3 +5,4 @@ pub mod Tree
 pub mod Pieces
 pub mod Html
 pub mod Rows
+pub mod Laws

@@ -1,5 +1,5 @@
 -- What is printed, and how it is laid out.
-use Rattle.std.specs.Prelude.{ℕ, Bool, true, if◌then◌else◌, ◌==◌, ◌||◌, List, [], ◌∷◌, ◌++◌, Option, None, Some, slice_get, length, ◌-◌}
+use Rattle.std.specs.Prelude.{ℕ, Bool, true, if◌then◌else◌, ◌==◌, ◌||◌, List, [], ◌++◌, Option, None, Some, slice_get, length, ◌-◌}
 use Rattle.std.specs.List.{fold}
 
 -- bytes, the default ending, or that ending unless nothing, CR or LF stands before

@@ -1,6 +1,7 @@
 //! The written definition of Markdown to HTML, and the rows that the tree road hands on.
 #![tactic(auto)]
 
+pub mod laws;
 pub mod row;
 
 pub use row::Row;

@@ -20,7 +20,11 @@ fn answers(
     let mut faults = Vec::new(rt.alloc());
     let answer = program(rt, &words, &mut reader, &mut writer, &mut faults);
     assert_eq!(rt; answer, status, "at {word}");
-    assert_eq!(rt; writer.into_inner().as_slice(), want.as_bytes(), "at {word}");
+    assert_eq!(rt;
+        writer.into_inner().as_slice(),
+        want.as_bytes(),
+        "at {word}"
+    );
     assert_eq!(rt; faults.as_slice(), fault.as_bytes(), "at {word}");
     Ok(())
 }
@@ -76,7 +80,10 @@ fn complains_of_devices(rt: HostRuntime) -> io::Result<()> {
     let mut writer = Watched::new(Short::new(Vec::new(rt.alloc()), 1, 2));
     let answer = program(&rt, &words, &mut reader, &mut writer, &mut faults);
     assert_eq!(rt; answer, 1);
-    assert_eq!(rt; faults.as_slice(), b"markdown: cannot read\nmarkdown: cannot write\n".as_slice());
+    assert_eq!(rt;
+        faults.as_slice(),
+        b"markdown: cannot read\nmarkdown: cannot write\n".as_slice()
+    );
     Ok(())
 }
 

@@ -2,7 +2,9 @@
 ghost use Rattle.std.specs.Prelude.{◌≡◌, true};
 ghost use Rattle.markdown_options.specs.Built.{is_built};
 
-use markdown::{CompileOptions, Constructs, Options, ParseOptions, RunError, Watched, run_with_options};
+use markdown::{
+    CompileOptions, Constructs, Options, ParseOptions, RunError, Watched, run_with_options,
+};
 
 /// Texts and their HTML, with every construct off.
 const PLAIN: [(&str, &str); 20] = [
@@ -23,7 +25,10 @@ const PLAIN: [(&str, &str); 20] = [
     ("a\r\r\nb", "<p>a</p>\r<p>b</p>"),
     ("a\n  \n \t", "<p>a</p>\n"),
     ("\r\na\n\nb", "<p>a</p>\n<p>b</p>"),
-    ("\"<&>\" \u{1FA90}", "<p>&quot;&lt;&amp;&gt;&quot; \u{1FA90}</p>"),
+    (
+        "\"<&>\" \u{1FA90}",
+        "<p>&quot;&lt;&amp;&gt;&quot; \u{1FA90}</p>",
+    ),
     ("a \u{A0} b\u{A0}", "<p>a \u{A0} b\u{A0}</p>"),
     ("\u{85}a\u{2028}b\u{B}c", "<p>\u{85}a\u{2028}b\u{B}c</p>"),
 ];

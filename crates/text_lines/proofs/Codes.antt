@@ -1,9 +1,9 @@
 -- The codes of whole lines.
-use Rattle.std.proofs.Common.{◌≡◌, ℕ, ◌+◌, ◌<◌, suc, zero, List, [], ◌∷◌, ◌++◌, Bool, true, false, cond, ◌&&◌, not, eqb, inl, inr, refl, sym, ap, ◌∙◌, subst, get_or, take, length, arith}
-use Rattle.std.specs.Prelude.{if◌then◌else◌, replicate}
-use Rattle.std.specs.List.{list_all, filter, prefix_len}
+use Rattle.std.proofs.Common.{◌≡◌, ℕ, ◌+◌, ◌<◌, suc, zero, List, [], ◌∷◌, ◌++◌, false, ◌&&◌, not, eqb, inl, inr, refl, sym, ap, ◌∙◌, get_or, take, arith}
+use Rattle.std.specs.Prelude.{replicate}
+use Rattle.std.specs.List.{list_all, prefix_len}
 use Rattle.std.proofs.lemmas.Bool.{cases_Bool, cond-true, cond-false, ne_eqb, eqb-true}
-use Rattle.markdown_definition.specs.Columns.{Rest, codes_from, whole, is_white, is_blank, is_byte, is_tab_column, bytes_of, block_codes, tab_column, columns_after_tab}
+use Rattle.markdown_definition.specs.Columns.{codes_from, whole, is_white, is_blank, is_byte, is_tab_column, bytes_of, block_codes, tab_column, columns_after_tab}
 
 -- ---- columns of a tab are white, and no bytes
 

@@ -127,4 +127,3 @@ fn after_return(text: &str) -> (Option<LineEnding>, &str)
         Some(rest) => (Some(LineEnding::CarriageReturnLineFeed), rest),
     }
 }
-

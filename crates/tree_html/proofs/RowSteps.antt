@@ -1,7 +1,7 @@
 -- One more row.
-use Rattle.std.proofs.Common.{◌≡◌, ℕ, ◌+◌, ◌<◌, ◌≤◌, List, [], ◌∷◌, ◌++◌, refl, sym, ap, ◌∙◌, take, drop, get_or, length, arith}
+use Rattle.std.proofs.Common.{◌≡◌, ℕ, ◌+◌, ◌<◌, List, [], ◌∷◌, ◌++◌, ap, ◌∙◌, take, drop, get_or, length}
 use Rattle.std.specs.Prelude.{map}
-use Rattle.std.specs.List.{fold, flat_map, sum_by, drop-map}
+use Rattle.std.specs.List.{fold, flat_map, drop-map}
 use Rattle.std.proofs.lemmas.List.{append-nil, drop-drop}
 use Rattle.std.proofs.lemmas.List.Concat.{flat_map-append}
 use Rattle.std.proofs.lemmas.List.Sums.{fold_more, fold-append, sum_by-drop_more}

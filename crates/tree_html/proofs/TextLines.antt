@@ -1,12 +1,11 @@
 -- One more line of text.
-use Rattle.std.proofs.Common.{◌≡◌, List, [], ◌∷◌, ◌++◌, Option, ℕ, None, refl, sym, ap, ◌∙◌, append_assoc, take, get_or, length, ◌<◌, ◌+◌}
+use Rattle.std.proofs.Common.{◌≡◌, List, [], ◌∷◌, ◌++◌, ℕ, refl, sym, ap, ◌∙◌, append_assoc, take, get_or, length, ◌<◌, ◌+◌}
 use Rattle.std.proofs.lemmas.List.{append-nil, take_more, map-append}
 use Rattle.std.specs.Prelude.{map}
-use Rattle.markdown_options.specs.declared.line_ending.LineEnding.{LineEnding}
 use Rattle.markdown_definition.specs.Lines.{ending_text}
 use Rattle.markdown_definition.specs.Columns.{trimmed}
 use Rattle.markdown_definition.specs.Encode.{encode}
-use Rattle.markdown_definition.specs.Tree.{BlockLine, block_line, own_lines, last_ending}
+use Rattle.markdown_definition.specs.Tree.{BlockLine, own_lines, last_ending}
 use Rattle.markdown_definition.specs.Html.{line_text, text_of}
 
 pub last_ending_more : (ls : List BlockLine) (l : BlockLine) → last_ending (ls ++ l ∷ []) ≡ l.ending

@@ -18,10 +18,10 @@ returns g c =
     let ending = c.default_ending-ending.ensures c.args.options.now refl in
     IfOk-weaker c.print_rows.result _ _
     (λ page printed.
-     printed
-     ∙ ap (λ (rs : List Row). layout (ending_bytes c.default_ending-ending.result) (rows_pieces (shown rs (pool_lines c.deref-2.result.now)).rows)) rows
-     ∙ ap (λ ls. layout (ending_bytes c.default_ending-ending.result) (rows_pieces (shown c.in_ok-blocks.blocks.rows.items (pool_lines ls)).rows)) lines
-     ∙ ap (λ (s : Shown). layout (ending_bytes c.default_ending-ending.result) (rows_pieces s.rows)) c.in_ok-blocks.ensures.shown
-     ∙ ap (layout (ending_bytes c.default_ending-ending.result)) (pieces_of_rows (blocks text))
-     ∙ ap (λ (e : LineEnding). layout (ending_bytes e) (document_pieces (blocks text))) ending)
+    printed
+    ∙ ap (λ (rs : List Row). layout (ending_bytes c.default_ending-ending.result) (rows_pieces (shown rs (pool_lines c.deref-2.result.now)).rows)) rows
+    ∙ ap (λ ls. layout (ending_bytes c.default_ending-ending.result) (rows_pieces (shown c.in_ok-blocks.blocks.rows.items (pool_lines ls)).rows)) lines
+    ∙ ap (λ (s : Shown). layout (ending_bytes c.default_ending-ending.result) (rows_pieces s.rows)) c.in_ok-blocks.ensures.shown
+    ∙ ap (layout (ending_bytes c.default_ending-ending.result)) (pieces_of_rows (blocks text))
+    ∙ ap (λ (e : LineEnding). layout (ending_bytes e) (document_pieces (blocks text))) ending)
     c.print_rows.ensures

@@ -3,7 +3,7 @@ use Rattle.std.specs.List.{position_or_len}
 use Rattle.markdown_definition.specs.Columns.{block_codes, whole}
 use Rattle.text_lines.proofs.Codes.{block_codes_whole, front_bytes}
 use Rattle.text_lines.proofs.FirstLine.{first_line_is, next_lines}
-use Rattle.markdown_definition.specs.Lines.{ends_line, first_line, lines, text_line}
+use Rattle.markdown_definition.specs.Lines.{ends_line, lines, text_line}
 use Rattle.text_lines.proofs.line.split_first.Goals as goal
 
 pub invariant_of-result : goal.invariant_of-result

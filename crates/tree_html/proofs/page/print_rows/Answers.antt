@@ -1,4 +1,4 @@
-use Rattle.std.proofs.Common.{◌≡◌, ◌+◌, List, string_bytes, sym, ap, ◌∙◌, take, drop, get_or, arith, length, ◌-◌}
+use Rattle.std.proofs.Common.{◌+◌, List, string_bytes, sym, ap, ◌∙◌, take, drop, get_or, arith, length, ◌-◌}
 use Rattle.std.specs.List.{fold}
 use Rattle.std.proofs.lemmas.List.{take_rest}
 use Rattle.markdown_options.specs.declared.line_ending.LineEnding.{LineEnding}

@@ -1,6 +1,5 @@
-use Rattle.std.proofs.Common.{◌≡◌, ◌++◌, ◌∷◌, [], ◌∙◌, sym, subst, List}
+use Rattle.std.proofs.Common.{[], sym, subst, List}
 use Rattle.markdown_definition.specs.declared.row.Row.{Row}
-use Rattle.markdown_definition.specs.declared.row.Row.TheVariants.{Blank}
 use Rattle.markdown_definition.specs.Tree.{tree, join, closed, one, Lines}
 use Rattle.markdown_definition.specs.Tree.{Blank as BlankBlock}
 use Rattle.markdown_definition.specs.Rows.{pool_lines}

@@ -1,7 +1,6 @@
-use Rattle.std.proofs.Common.{◌≡◌, ◌∙◌, sym, subst}
+use Rattle.std.proofs.Common.{◌∙◌, sym, subst}
 use Rattle.std.proofs.lemmas.Result.{on_ok_weaker}
 use Rattle.markdown_definition.specs.Lines.{text_line}
-use Rattle.markdown_definition.specs.Tree.{Tree}
 use Rattle.block_tree.specs.View.{HasRead}
 use Rattle.block_tree.proofs.Steps.{blank_step, text_step}
 use Rattle.block_tree.proofs.parser.Parser.line.Goals as goal

@@ -1,7 +1,7 @@
-use Rattle.std.proofs.Common.{◌≡◌, ◌≤◌, ◌++◌, ◌∷◌, [], ◌∙◌, sym, ap, subst, length, arith, List}
+use Rattle.std.proofs.Common.{◌≡◌, ◌++◌, ◌∷◌, [], ◌∙◌, sym, ap, subst, arith, List}
 use Rattle.std.proofs.lemmas.List.{length-map, map-append}
 use Rattle.markdown_definition.specs.Tree.{BlockLine, block_line, tree, with_line}
-use Rattle.markdown_definition.specs.Rows.{pool_lines, pool_line, line_in_block, all_taken}
+use Rattle.markdown_definition.specs.Rows.{pool_lines, pool_line, line_in_block}
 use Rattle.block_tree.specs.Shows.{Shows}
 use Rattle.block_tree.proofs.Steps.{with_text_line}
 use Rattle.block_tree.proofs.parser.Parser.text_line.Goals as goal

@@ -1,4 +1,4 @@
-use Rattle.std.proofs.Common.{◌≡◌, string_bytes, sym, ap, subst, List}
+use Rattle.std.proofs.Common.{◌≡◌, string_bytes, sym, subst, List}
 use Rattle.std.specs.List.{fold, take-map}
 use Rattle.std.specs.Result.{OnOk}
 use Rattle.markdown_options.specs.LineEndings.{ending_bytes}

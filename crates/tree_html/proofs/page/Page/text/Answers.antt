@@ -1,10 +1,10 @@
-use Rattle.std.proofs.Common.{◌≡◌, ◌++◌, ◌∷◌, [], string_bytes, sym, ap, ◌∙◌, take, get_or, List, ℕ, ◌+◌}
+use Rattle.std.proofs.Common.{◌≡◌, ◌++◌, ◌∷◌, [], string_bytes, sym, ap, ◌∙◌, take, get_or, ◌+◌}
 use Rattle.markdown_definition.specs.Lines.{ending_text, TextLine}
 use Rattle.markdown_definition.specs.Columns.{trimmed}
 use Rattle.markdown_definition.specs.Encode.{encode}
 use Rattle.markdown_definition.specs.Tree.{own_lines, last_ending}
 use Rattle.markdown_definition.specs.Html.{text_of}
-use Rattle.markdown_definition.specs.Rows.{pool_line, pool_lines, line_in_block}
+use Rattle.markdown_definition.specs.Rows.{pool_line, pool_lines}
 use Rattle.tree_html.proofs.TextLines.{text_printed, last_ending_more, map_more}
 use Rattle.tree_html.proofs.page.Page.text.Goals as goal
 
