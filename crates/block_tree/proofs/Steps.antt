@@ -1,164 +1,205 @@
--- What rows show after one more line.
-use Rattle.std.proofs.Common.{◌≡◌, ℕ, ◌+◌, ◌-◌, ◌≤◌, List, [], ◌∷◌, ◌++◌, Option, None, true, false, refl, sym, ap, ◌∙◌, take, drop, length, append_assoc, arith}
-use Rattle.std.specs.List.{fold}
+-- The steps of the definition, case by case, and what a parser shows after them.
+use Rattle.std.proofs.Common.{◌≡◌, ℕ, ◌+◌, ◌≤◌, zero, suc, List, [], ◌∷◌, ◌++◌, Option, None, Some, Bool, true, false, not, ◌&&◌, refl, sym, ap, ◌∙◌, subst, length, arith}
 use Rattle.std.proofs.lemmas.Bool.{cond-true, cond-false}
-use Rattle.std.proofs.lemmas.List.{take-append-le, drop-append-le, length-drop, take_all, drop_all}
-use Rattle.std.proofs.lemmas.List.Sums.{fold_push, sum_by-cons}
+use Rattle.std.proofs.lemmas.List.{length-map}
 use Rattle.markdown_options.specs.declared.line_ending.LineEnding.{LineEnding}
+use Rattle.markdown_options.specs.declared.configuration.Constructs.{Constructs}
 use Rattle.markdown_definition.specs.declared.row.Row.{Row}
-use Rattle.markdown_definition.specs.declared.row.Row.TheVariants as row
 use Rattle.markdown_definition.specs.Lines.{TextLine}
-use Rattle.markdown_definition.specs.Columns.{whole, is_blank, block_codes}
-use Rattle.markdown_definition.specs.Tree.{BlockLine, block_line, Paragraph, Ending, Blank, Blocks, Nil, Cons, join, one, Opening, Lines, Tree, tree, last_ending, own_lines, close, closed, with_line, step}
-use Rattle.markdown_definition.specs.Rows.{BlockRow, Single, rows_of, Shown, shown, shown_as, show_row, lines_taken, all_taken}
-use Rattle.block_tree.specs.Shows.{open_lines, Shows}
+use Rattle.markdown_definition.specs.Columns.{Rest, whole, is_blank}
+use Rattle.markdown_definition.specs.Indents.{small_indent, outdented}
+use Rattle.markdown_definition.specs.ListItem.{item_start}
+use Rattle.markdown_definition.specs.Containers.{starts, quote_or}
+use Rattle.markdown_definition.specs.CodeIndented.{starts_code_indented}
+use Rattle.markdown_definition.specs.CodeFenced.{Fence, fence_start, is_fence_end, fence_line}
+use Rattle.markdown_definition.specs.HeadingAtx.{Atx, heading_atx}
+use Rattle.markdown_definition.specs.ThematicBreak.{is_break}
+use Rattle.markdown_definition.specs.Tree.{BlockLine, block_line, Block, Heading, Break, FencedCode, Blank, Blocks, Nil, join, one, ended, OpenLeaf, Text, Indented, Fenced, Opening, Leaf, Inside, Tree, tree, nothing, last_ending, last_ending_or, close, closed, after, has_text, with_line, rest_line, leaf_line, begins, begun, or_fence, or_heading, break_or_text, text_line_of, takes, taken, new, start, step}
+use Rattle.markdown_definition.specs.Rows.{all_taken, piece_lines, piece_line}
+use Rattle.block_tree.specs.declared.parser.Parser.{Parser}
+use Rattle.block_tree.specs.Leaves.{leaf_state}
+use Rattle.block_tree.specs.Shows.{LeafState, InText, InIndented, InFenced, state_of, Shows, ShowsTree}
+use Rattle.block_tree.specs.Containers.{HasNoContainers}
+use Rattle.block_tree.specs.View.{HasRead, with_more, leaf_step, closed_tree}
+use Rattle.block_tree.proofs.Shown.{join-nil, join-assoc}
 
--- ---- lists of blocks
+-- ---- parsers
 
-pub join-nil : (bs : Blocks) → join bs Nil ≡ bs
-join-nil Nil = refl
-join-nil (Cons b bs) = ap (Cons b) (join-nil bs)
+pub enough_lines : {A : Type 0} (p : Parser A) → all_taken p.rows.items ≤ length (piece_lines p.pieces.items)
+enough_lines p = omega (arith, length-map p.pieces.items piece_line, p.counted, p.enough, p.pieces.ok.0)
 
-pub join-assoc : (bs cs ds : Blocks) → join (join bs cs) ds ≡ join bs (join cs ds)
-join-assoc Nil cs ds = refl
-join-assoc (Cons b bs) cs ds = ap (Cons b) (join-assoc bs cs ds)
+-- ---- what follows where all is closed
 
-pub rows_of-join : (bs cs : Blocks) → rows_of (join bs cs) ≡ rows_of bs ++ rows_of cs
-rows_of-join Nil cs = refl
-rows_of-join (Cons b bs) cs = ap (λ x. Single b ∷ x) (rows_of-join bs cs)
+pub after_shows : (rows : List Row) (pool : List BlockLine) (state : LeafState) (t : Tree) (bs : Blocks) (now : Opening)
+    → ShowsTree rows pool state (tree (join (closed t) bs) now) → ShowsTree rows pool state (with_more t (after t.now (tree bs now)))
+after_shows rows pool state t bs now h = subst (λ (x : Blocks). ShowsTree rows pool state (tree x now)) (join-assoc t.done (close t.now) bs) h
 
--- ---- more lines beside the rows
+pub after_opens : (rows : List Row) (pool : List BlockLine) (state : LeafState) (t : Tree) (now : Opening)
+    → ShowsTree rows pool state (tree (closed t) now) → ShowsTree rows pool state (with_more t (after t.now (tree Nil now)))
+after_opens rows pool state t now h = after_shows rows pool state t Nil now (subst (λ (x : Blocks). ShowsTree rows pool state (tree x now)) (sym (join-nil (closed t))) h)
 
-abbrev with_left : Shown → List BlockLine → Shown
-with_left s more = shown_as s.rows (s.left ++ more)
+-- ---- a leaf is taken apart by what is kept of it
 
-row_longer : (r : Row) (out : List BlockRow) (ls more : List BlockLine) → lines_taken r ≤ length ls
-    → show_row (shown_as out (ls ++ more)) r ≡ with_left (show_row (shown_as out ls) r) more
-row_longer (row.Paragraph n) out ls more le =
-    ap (λ front. shown_as (out ++ Single (Paragraph (own_lines front)) ∷ []) (drop n (ls ++ more))) (take-append-le n ls more le)
-    ∙ ap (shown_as (out ++ Single (Paragraph (own_lines (take n ls))) ∷ [])) (drop-append-le n ls more le)
-row_longer (row.Ending e) out ls more le = refl
-row_longer (row.Blank e) out ls more le = refl
+module _ (rows : List Row) (pool : List BlockLine) (state : LeafState) (P : Tree → Type 0) where
+  text_case : (e : Option LineEnding) → state ≡ InText e → ((ls : List BlockLine) (done : Blocks) → e ≡ last_ending ls → ShowsTree rows pool state (tree done (Leaf (Text ls))) → P (tree done (Leaf (Text ls))))
+      → (done : Blocks) (now : Opening) → ShowsTree rows pool state (tree done now) → P (tree done now)
+  text_case e is k done (Leaf (Text ls)) h = k ls done (let same : InText e ≡ InText (last_ending ls) = sym is ∙ h.same_state in cc) h
+  text_case e is k done (Leaf (Indented ls pending)) h = let wrong : InText e ≡ InIndented (length ls) (last_ending ls) = sym is ∙ h.same_state in cc
+  text_case e is k done (Leaf (Fenced fence opening ls)) h = let wrong : InText e ≡ InFenced fence (last_ending_or opening ls) = sym is ∙ h.same_state in cc
+  text_case e is k done (Inside c kids inner) h = absurd h
 
-pub shown_longer : (rows : List Row) (out : List BlockRow) (ls more : List BlockLine) → all_taken rows ≤ length ls
-    → fold show_row (shown_as out (ls ++ more)) rows ≡ with_left (fold show_row (shown_as out ls) rows) more
-shown_longer [] out ls more le = refl
-shown_longer (r ∷ rs) out ls more le =
-    let e = sum_by-cons lines_taken r rs in
-    let first = show_row (shown_as out ls) r in
-    ap (λ s. fold show_row s rs) (row_longer r out ls more (omega arith))
-    ∙ shown_longer rs first.rows first.left more (omega (arith, e, length-drop (lines_taken r) ls))
+  indented_case : (n : ℕ) (e : Option LineEnding) → state ≡ InIndented n e
+      → ((ls pending : List BlockLine) (done : Blocks) → n ≡ length ls → e ≡ last_ending ls → ShowsTree rows pool state (tree done (Leaf (Indented ls pending))) → P (tree done (Leaf (Indented ls pending))))
+      → (done : Blocks) (now : Opening) → ShowsTree rows pool state (tree done now) → P (tree done now)
+  indented_case n e is k done (Leaf (Text ls)) h = let wrong : InIndented n e ≡ InText (last_ending ls) = sym is ∙ h.same_state in cc
+  indented_case n e is k done (Leaf (Indented ls pending)) h =
+      let same : InIndented n e ≡ InIndented (length ls) (last_ending ls) = sym is ∙ h.same_state in
+      k ls pending done (cc) (cc) h
+  indented_case n e is k done (Leaf (Fenced fence opening ls)) h = let wrong : InIndented n e ≡ InFenced fence (last_ending_or opening ls) = sym is ∙ h.same_state in cc
+  indented_case n e is k done (Inside c kids inner) h = absurd h
 
--- how many lines the rows leave
-left_count : (rows : List Row) (out : List BlockRow) (ls : List BlockLine) → all_taken rows ≤ length ls
-    → all_taken rows + length (fold show_row (shown_as out ls) rows).left ≡ length ls
-left_count [] out ls le = omega arith
-left_count (r ∷ rs) out ls le =
-    let e = sum_by-cons lines_taken r rs in
-    let d = length-drop (lines_taken r) ls in
-    let first = show_row (shown_as out ls) r in
-    omega (arith, e, d, left_count rs first.rows first.left (omega (arith, e, d)))
+  fenced_case : (f : Fence) (e : Option LineEnding) → state ≡ InFenced f e
+      → ((opening : Option LineEnding) (ls : List BlockLine) (done : Blocks) → e ≡ last_ending_or opening ls → ShowsTree rows pool state (tree done (Leaf (Fenced f opening ls))) → P (tree done (Leaf (Fenced f opening ls))))
+      → (done : Blocks) (now : Opening) → ShowsTree rows pool state (tree done now) → P (tree done now)
+  fenced_case f e is k done (Leaf (Text ls)) h = let wrong : InFenced f e ≡ InText (last_ending ls) = sym is ∙ h.same_state in cc
+  fenced_case f e is k done (Leaf (Indented ls pending)) h = let wrong : InFenced f e ≡ InIndented (length ls) (last_ending ls) = sym is ∙ h.same_state in cc
+  fenced_case f e is k done (Leaf (Fenced fence opening ls)) h =
+      let same : InFenced f e ≡ InFenced fence (last_ending_or opening ls) = sym is ∙ h.same_state in
+      let is_fence : fence ≡ f = cc in
+      let ends : e ≡ last_ending_or opening ls = cc in
+      subst (λ (x : Fence). P (tree done (Leaf (Fenced x opening ls)))) (sym is_fence)
+      (k opening ls done ends (subst (λ (x : Fence). ShowsTree rows pool state (tree done (Leaf (Fenced x opening ls)))) is_fence h))
+  fenced_case f e is k done (Inside c kids inner) h = absurd h
 
-pub open_count : (rows : List Row) (pool : List BlockLine) (ending : Option LineEnding) (t : Tree) → Shows rows pool ending t → all_taken rows ≤ length pool
-    → all_taken rows + length (open_lines t.now) ≡ length pool
-open_count rows pool ending t h le = ap (λ (s : Shown). all_taken rows + length s.left) (sym h.rows_shown) ∙ left_count rows [] pool le
+pub of_text : (rows : List Row) (pool : List BlockLine) (state : LeafState) (P : Tree → Type 0) (e : Option LineEnding) → state ≡ InText e
+    → ((ls : List BlockLine) (done : Blocks) → e ≡ last_ending ls → ShowsTree rows pool state (tree done (Leaf (Text ls))) → P (tree done (Leaf (Text ls))))
+    → (t : Tree) → ShowsTree rows pool state t → P t
+of_text rows pool state P e is k t h = text_case rows pool state P e is k t.done t.now h
 
--- ---- one more row
+pub of_indented : (rows : List Row) (pool : List BlockLine) (state : LeafState) (P : Tree → Type 0) (n : ℕ) (e : Option LineEnding) → state ≡ InIndented n e
+    → ((ls pending : List BlockLine) (done : Blocks) → n ≡ length ls → e ≡ last_ending ls → ShowsTree rows pool state (tree done (Leaf (Indented ls pending))) → P (tree done (Leaf (Indented ls pending))))
+    → (t : Tree) → ShowsTree rows pool state t → P t
+of_indented rows pool state P n e is k t h = indented_case rows pool state P n e is k t.done t.now h
 
-pub row_shown : (rows : List Row) (pool : List BlockLine) (r : Row) (s : Shown) → shown rows pool ≡ s → shown (rows ++ r ∷ []) pool ≡ show_row s r
-row_shown rows pool r s h = fold_push show_row (shown_as [] pool) rows r ∙ ap (λ x. show_row x r) h
+pub of_fenced : (rows : List Row) (pool : List BlockLine) (state : LeafState) (P : Tree → Type 0) (f : Fence) (e : Option LineEnding) → state ≡ InFenced f e
+    → ((opening : Option LineEnding) (ls : List BlockLine) (done : Blocks) → e ≡ last_ending_or opening ls → ShowsTree rows pool state (tree done (Leaf (Fenced f opening ls))) → P (tree done (Leaf (Fenced f opening ls))))
+    → (t : Tree) → ShowsTree rows pool state t → P t
+of_fenced rows pool state P f e is k t h = fenced_case rows pool state P f e is k t.done t.now h
 
--- ---- the open paragraph is closed
+-- ---- the open leaf takes a line
 
-closed_rows : (done : Blocks) (l : BlockLine) (ls : List BlockLine)
-    → (rows_of done ++ Single (Paragraph (own_lines (l ∷ ls))) ∷ []) ++ Single (Ending (last_ending (l ∷ ls))) ∷ [] ≡ rows_of (closed (tree done (Lines (l ∷ ls))))
-closed_rows done l ls =
-    append_assoc (rows_of done) (Single (Paragraph (own_lines (l ∷ ls))) ∷ []) (Single (Ending (last_ending (l ∷ ls))) ∷ [])
-    ∙ sym (rows_of-join done (close (Lines (l ∷ ls))))
+module _ (on : Constructs) (e : Option LineEnding) (r : Rest) where
+  abbrev other_line : OpenLeaf → Tree
+  other_line leaf = leaf_line on (Leaf leaf) r e
 
--- the open paragraph is the lines that are left
-abbrev pub ClosesTo : List Row → List BlockLine → Tree → Type 0
-ClosesTo rows pool t = Shows rows pool None (tree (closed t) (Lines []))
+  pub indented_blank : (ls pending : List BlockLine) → is_blank r ≡ true
+      → leaf_step on e (Leaf (Indented ls pending)) r ≡ tree Nil (Leaf (Indented ls (pending ++ rest_line (outdented 4 r) e ∷ [])))
+  indented_blank ls pending h = ap (λ o. taken o (other_line (Indented ls pending))) (cond-true (is_blank r) _ _ h)
 
-closes_some : (rows : List Row) (pool : List BlockLine) (ending : Option LineEnding) (done : Blocks) (ls : List BlockLine) (count : ℕ)
-    → Shows rows pool ending (tree done (Lines ls)) → count ≡ length ls → (count ≡ 0 → ⊥)
-    → ClosesTo ((rows ++ row.Paragraph count ∷ []) ++ row.Ending ending ∷ []) pool (tree done (Lines ls))
-closes_some rows pool ending done [] count h all some = absurd (some all)
-closes_some rows pool ending done (l ∷ ls) count h all some =
-    let whole_front : take count (l ∷ ls) ≡ l ∷ ls = take_all count (l ∷ ls) (omega arith) in
-    let no_rest : drop count (l ∷ ls) ≡ [] = drop_all count (l ∷ ls) (omega arith) in
-    record {
-      rows_shown =
-          row_shown (rows ++ row.Paragraph count ∷ []) pool (row.Ending ending) _ (row_shown rows pool (row.Paragraph count) _ h.rows_shown)
-          ∙ ap (λ front. shown_as ((rows_of done ++ Single (Paragraph (own_lines front)) ∷ []) ++ Single (Ending ending) ∷ []) (drop count (l ∷ ls))) whole_front
-          ∙ ap (shown_as ((rows_of done ++ Single (Paragraph (own_lines (l ∷ ls))) ∷ []) ++ Single (Ending ending) ∷ [])) no_rest
-          ∙ ap (λ e. shown_as ((rows_of done ++ Single (Paragraph (own_lines (l ∷ ls))) ∷ []) ++ Single (Ending e) ∷ []) []) h.same_ending
-          ∙ ap (λ out. shown_as out []) (closed_rows done l ls);
-      same_ending = refl;
-    }
+  pub indented_code : (ls pending : List BlockLine) → is_blank r ≡ false → starts_code_indented on r ≡ true
+      → leaf_step on e (Leaf (Indented ls pending)) r ≡ tree Nil (Leaf (Indented (ls ++ pending ++ rest_line (outdented 4 r) e ∷ []) []))
+  indented_code ls pending h k =
+      ap (λ o. taken o (other_line (Indented ls pending))) (cond-false (is_blank r) _ _ h ∙ cond-true (starts_code_indented on r) _ _ k)
 
-closes_none : (rows : List Row) (pool : List BlockLine) (ending : Option LineEnding) (done : Blocks) (ls : List BlockLine)
-    → Shows rows pool ending (tree done (Lines ls)) → length ls ≡ 0 → Shows rows pool ending (tree (closed (tree done (Lines ls))) (Lines []))
-closes_none rows pool ending done [] h none = record {
-  rows_shown = h.rows_shown ∙ ap (λ bs. shown_as (rows_of bs) []) (sym (join-nil done));
-  same_ending = h.same_ending;
-}
-closes_none rows pool ending done (l ∷ ls) h none = absurd (omega arith)
+  pub indented_other : (ls pending : List BlockLine) → is_blank r ≡ false → starts_code_indented on r ≡ false
+      → leaf_step on e (Leaf (Indented ls pending)) r ≡ leaf_line on (Leaf (Indented ls pending)) r e
+  indented_other ls pending h k =
+      ap (λ o. taken o (other_line (Indented ls pending))) (cond-false (is_blank r) _ _ h ∙ cond-false (starts_code_indented on r) _ _ k)
 
-closes_some_of : (rows : List Row) (pool : List BlockLine) (ending : Option LineEnding) (done : Blocks) (now : Opening) (count : ℕ)
-    → Shows rows pool ending (tree done now) → count ≡ length (open_lines now) → (count ≡ 0 → ⊥)
-    → ClosesTo ((rows ++ row.Paragraph count ∷ []) ++ row.Ending ending ∷ []) pool (tree done now)
-closes_some_of rows pool ending done (Lines ls) count h all some = closes_some rows pool ending done ls count h all some
+  pub fenced_end : (f : Fence) (opening : Option LineEnding) (ls : List BlockLine) → is_fence_end on f r ≡ true
+      → leaf_step on e (Leaf (Fenced f opening ls)) r ≡ tree (ended (FencedCode f.info true ls) e) nothing
+  fenced_end f opening ls h = ap (λ o. taken o (other_line (Fenced f opening ls))) (cond-true (is_fence_end on f r) _ _ h)
 
-closes_none_of : (rows : List Row) (pool : List BlockLine) (ending : Option LineEnding) (done : Blocks) (now : Opening)
-    → Shows rows pool ending (tree done now) → length (open_lines now) ≡ 0 → Shows rows pool ending (tree (closed (tree done now)) (Lines []))
-closes_none_of rows pool ending done (Lines ls) h none = closes_none rows pool ending done ls h none
+  pub fenced_goes_on : (f : Fence) (opening : Option LineEnding) (ls : List BlockLine) → is_fence_end on f r ≡ false
+      → leaf_step on e (Leaf (Fenced f opening ls)) r ≡ tree Nil (Leaf (Fenced f opening (ls ++ rest_line (fence_line f r) e ∷ [])))
+  fenced_goes_on f opening ls h = ap (λ o. taken o (other_line (Fenced f opening ls))) (cond-false (is_fence_end on f r) _ _ h)
 
-pub closes : (rows : List Row) (pool : List BlockLine) (ending : Option LineEnding) (t : Tree) (count : ℕ) → all_taken rows ≤ length pool
-    → count ≡ length pool - all_taken rows → (count ≡ 0 → ⊥) → Shows rows pool ending t
-    → ClosesTo ((rows ++ row.Paragraph count ∷ []) ++ row.Ending ending ∷ []) pool t
-closes rows pool ending t count le is some h =
-    closes_some_of rows pool ending t.done t.now count h (omega (arith, open_count rows pool ending t h le)) some
+-- ---- a line that the open leaf doesn't take
 
-pub stays_closed : (rows : List Row) (pool : List BlockLine) (ending : Option LineEnding) (t : Tree) → all_taken rows ≤ length pool
-    → length pool - all_taken rows ≡ 0 → Shows rows pool ending t → Shows rows pool ending (tree (closed t) (Lines []))
-stays_closed rows pool ending t le none h = closes_none_of rows pool ending t.done t.now h (omega (arith, open_count rows pool ending t h le))
+module _ (on : Constructs) (away : Opening) (r : Rest) (e : Option LineEnding) where
+  abbrev rest_of_leaves : Option Tree → Tree
+  rest_of_leaves o = begun o away (break_or_text on away r e)
 
--- ---- a blank line
+  pub blank_leaf : is_blank r ≡ true → leaf_line on away r e ≡ after away (tree (one (Blank e)) nothing)
+  blank_leaf h = cond-true (is_blank r) _ _ h
 
-pub with_blank : (rows : List Row) (pool : List BlockLine) (ending blank : Option LineEnding) (done : Blocks) → Shows rows pool ending (tree done (Lines []))
-    → Shows (rows ++ row.Blank blank ∷ []) pool ending (tree (join done (one (Blank blank))) (Lines []))
-with_blank rows pool ending blank done h = record {
-  rows_shown = row_shown rows pool (row.Blank blank) _ h.rows_shown ∙ ap (λ out. shown_as out []) (sym (rows_of-join done (one (Blank blank))));
-  same_ending = h.same_ending;
-}
+  pub indented_leaf : is_blank r ≡ false → starts_code_indented on r ≡ true → has_text away ≡ false
+      → leaf_line on away r e ≡ after away (tree Nil (Leaf (Indented (rest_line (outdented 4 r) e ∷ []) [])))
+  indented_leaf h k p =
+      cond-false (is_blank r) _ _ h ∙ ap rest_of_leaves (cond-true (starts_code_indented on r && not (has_text away)) _ _ (ap (λ b. b && not (has_text away)) k ∙ ap not p))
 
-pub blank_step : (t : Tree) (line : TextLine) → is_blank (whole line.content) ≡ true → step t line ≡ tree (join (closed t) (one (Blank line.ending))) (Lines [])
-blank_step t line blank =
-    ap (λ (more : Tree). tree (join t.done more.done) more.now) (cond-true (is_blank (whole line.content)) _ _ blank)
-    ∙ ap (λ bs. tree bs (Lines [])) (sym (join-assoc t.done (close t.now) (one (Blank line.ending))))
+  -- no indented code begins
+  other_leaf : is_blank r ≡ false → (starts_code_indented on r && not (has_text away)) ≡ false
+      → leaf_line on away r e ≡ rest_of_leaves (or_fence e (fence_start on r) (or_heading e (heading_atx on r)))
+  other_leaf h k = cond-false (is_blank r) _ _ h ∙ ap rest_of_leaves (cond-false (starts_code_indented on r && not (has_text away)) _ _ k)
 
--- ---- another line
+  pub fenced_leaf : (f : Fence) → is_blank r ≡ false → (starts_code_indented on r && not (has_text away)) ≡ false → fence_start on r ≡ Some f
+      → leaf_line on away r e ≡ after away (tree Nil (Leaf (Fenced f e [])))
+  fenced_leaf f h k fence = other_leaf h k ∙ ap (λ o. rest_of_leaves (or_fence e o (or_heading e (heading_atx on r)))) fence
 
-last_ending_more : (ls : List BlockLine) (l : BlockLine) → last_ending (ls ++ l ∷ []) ≡ l.ending
-last_ending_more [] l = refl
-last_ending_more (a ∷ []) l = refl
-last_ending_more (a ∷ b ∷ bs) l = last_ending_more (b ∷ bs) l
+  pub heading_leaf : (atx : Atx) → is_blank r ≡ false → (starts_code_indented on r && not (has_text away)) ≡ false → fence_start on r ≡ None → heading_atx on r ≡ Some atx
+      → leaf_line on away r e ≡ after away (tree (ended (Heading atx.rank (block_line atx.content None ∷ [])) e) nothing)
+  heading_leaf atx h k fence heading =
+      other_leaf h k ∙ ap (λ o. rest_of_leaves (or_fence e o (or_heading e (heading_atx on r)))) fence ∙ ap (λ o. rest_of_leaves (or_heading e o)) heading
 
-with_text : (rows : List Row) (pool : List BlockLine) (ending : Option LineEnding) (done : Blocks) (now : Opening) (l : BlockLine) → all_taken rows ≤ length pool
-    → Shows rows pool ending (tree done now) → Shows rows (pool ++ l ∷ []) l.ending (tree done (with_line l now))
-with_text rows pool ending done (Lines ls) l le h = record {
-  rows_shown = shown_longer rows [] pool (l ∷ []) le ∙ ap (λ s. with_left s (l ∷ [])) h.rows_shown;
-  same_ending = sym (last_ending_more ls l);
-}
+  plain_leaf : is_blank r ≡ false → (starts_code_indented on r && not (has_text away)) ≡ false → fence_start on r ≡ None → heading_atx on r ≡ None
+      → leaf_line on away r e ≡ break_or_text on away r e
+  plain_leaf h k fence heading =
+      other_leaf h k ∙ ap (λ o. rest_of_leaves (or_fence e o (or_heading e (heading_atx on r)))) fence ∙ ap (λ o. rest_of_leaves (or_heading e o)) heading
 
-pub with_text_line : (rows : List Row) (pool : List BlockLine) (ending : Option LineEnding) (t : Tree) (l : BlockLine) → all_taken rows ≤ length pool
-    → Shows rows pool ending t → Shows rows (pool ++ l ∷ []) l.ending (tree t.done (with_line l t.now))
-with_text_line rows pool ending t l le h = with_text rows pool ending t.done t.now l le h
+  pub break_leaf : is_blank r ≡ false → (starts_code_indented on r && not (has_text away)) ≡ false → fence_start on r ≡ None → heading_atx on r ≡ None → is_break on r ≡ true
+      → leaf_line on away r e ≡ after away (tree (ended Break e) nothing)
+  break_leaf h k fence heading b = plain_leaf h k fence heading ∙ cond-true (is_break on r) _ _ b
 
-pub text_step : (t : Tree) (line : TextLine) → is_blank (whole line.content) ≡ false → block_codes (whole line.content) ≡ line.content
-    → step t line ≡ tree t.done (with_line (block_line line.content line.ending) t.now)
-text_step t line other plain =
-    ap (λ (more : Tree). tree (join t.done more.done) more.now) (cond-false (is_blank (whole line.content)) _ _ other)
-    ∙ ap (λ bs. tree bs (with_line (block_line (block_codes (whole line.content)) line.ending) t.now)) (join-nil t.done)
-    ∙ ap (λ codes. tree t.done (with_line (block_line codes line.ending) t.now)) plain
+  pub text_leaf : is_blank r ≡ false → (starts_code_indented on r && not (has_text away)) ≡ false → fence_start on r ≡ None → heading_atx on r ≡ None → is_break on r ≡ false
+      → leaf_line on away r e ≡ text_line_of away r e
+  text_leaf h k fence heading b = plain_leaf h k fence heading ∙ cond-false (is_break on r) _ _ b
+
+-- ---- a line of text
+
+module _ (rows rows2 : List Row) (pool pool2 : List BlockLine) (state state2 : LeafState) (r : Rest) (e : Option LineEnding) where
+  text_goes_on_at : ((ls : List BlockLine) (done : Blocks) → ShowsTree rows pool state (tree done (Leaf (Text ls))) → ShowsTree rows2 pool2 state2 (tree done (Leaf (Text (ls ++ rest_line r e ∷ [])))))
+      → (done : Blocks) (now : Opening) → ShowsTree rows pool state (tree done now) → has_text now ≡ true
+      → ShowsTree rows2 pool2 state2 (with_more (tree done now) (text_line_of now r e))
+  text_goes_on_at k done (Leaf (Text [])) h some = cc
+  text_goes_on_at k done (Leaf (Text (l ∷ ls))) h some =
+      subst (λ (bs : Blocks). ShowsTree rows2 pool2 state2 (tree bs (Leaf (Text ((l ∷ ls) ++ rest_line r e ∷ []))))) (sym (join-nil done)) (k (l ∷ ls) done h)
+  text_goes_on_at k done (Leaf (Indented ls pending)) h some = cc
+  text_goes_on_at k done (Leaf (Fenced f opening ls)) h some = cc
+  text_goes_on_at k done (Inside c kids inner) h some = absurd h
+
+pub text_goes_on : (rows rows2 : List Row) (pool pool2 : List BlockLine) (state state2 : LeafState) (r : Rest) (e : Option LineEnding)
+    → ((ls : List BlockLine) (done : Blocks) → ShowsTree rows pool state (tree done (Leaf (Text ls))) → ShowsTree rows2 pool2 state2 (tree done (Leaf (Text (ls ++ rest_line r e ∷ [])))))
+    → (t : Tree) → ShowsTree rows pool state t → has_text t.now ≡ true → ShowsTree rows2 pool2 state2 (with_more t (text_line_of t.now r e))
+text_goes_on rows rows2 pool pool2 state state2 r e k t h some = text_goes_on_at rows rows2 pool pool2 state state2 r e k t.done t.now h some
+
+-- the first line of a paragraph
+pub text_starts : (rows : List Row) (pool : List BlockLine) (state : LeafState) (t : Tree) (r : Rest) (e : Option LineEnding)
+    → ShowsTree rows pool state (tree (closed t) (Leaf (Text (rest_line r e ∷ [])))) → has_text t.now ≡ false
+    → ShowsTree rows pool state (with_more t (text_line_of t.now r e))
+text_starts rows pool state t r e h none =
+    subst (λ (more : Tree). ShowsTree rows pool state (with_more t more)) (sym (cond-false (has_text t.now) _ _ none))
+    (after_opens rows pool state t (Leaf (Text (rest_line r e ∷ []))) h)
+
+-- ---- no containers
+
+no_starts : (on : Constructs) (all : Bool) (r : Rest) → HasNoContainers on → starts on all r ≡ None
+no_starts on all r none =
+    ap (quote_or (item_start on all r)) (cond-false (on.block_quote && small_indent on r) _ _ (ap (λ b. b && small_indent on r) none.quotes))
+    ∙ cond-false (on.list_item && small_indent on r && not (is_break on r)) _ _ (ap (λ b. b && small_indent on r && not (is_break on r)) none.items)
+
+new_plain : (most : ℕ) (on : Constructs) (all : Bool) (away : Opening) (e : Option LineEnding) (r : Rest) → HasNoContainers on → new most on all away e r ≡ leaf_line on away r e
+new_plain zero on all away e r none = refl
+new_plain (suc most) on all away e r none =
+    ap (λ s. start s away (leaf_line on away r e) (new most on true nothing e)) (no_starts on (all && has_text away) r none)
+
+line_step_at : (on : Constructs) (rows : List Row) (pool : List BlockLine) (state : LeafState) (line : TextLine) → HasNoContainers on → (done : Blocks) (now : Opening)
+    → ShowsTree rows pool state (tree done now) → with_more (tree done now) (leaf_step on line.ending now (whole line.content)) ≡ step on (tree done now) line
+line_step_at on rows pool state line none done (Leaf leaf) h =
+    let r = whole line.content in
+    ap (λ other. with_more (tree done (Leaf leaf)) (taken (takes on leaf r line.ending) other)) (sym (new_plain (length r) on true (Leaf leaf) line.ending r none))
+line_step_at on rows pool state line none done (Inside c kids inner) h = absurd h
+
+pub line_step : (on : Constructs) (rows : List Row) (pool : List BlockLine) (state : LeafState) (line : TextLine) → HasNoContainers on → (t : Tree)
+    → ShowsTree rows pool state t → with_more t (leaf_step on line.ending t.now (whole line.content)) ≡ step on t line
+line_step on rows pool state line none t h = line_step_at on rows pool state line none t.done t.now h

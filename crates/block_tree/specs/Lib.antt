@@ -1,2 +1,4 @@
 pub mod Shows
+pub mod Leaves
+pub mod Containers
 pub mod View

@@ -1,6 +1,7 @@
 //! Lines to blocks.
 #![tactic(auto)]
 
-pub mod parser;
+mod leaf;
+mod parser;
 
 pub use parser::{BlockRows, block_rows};

@@ -1,7 +1,18 @@
--- What `--plain` asks for.
+-- The options that the words of a command line ask for.
+use Rattle.std.specs.Prelude.{ℕ, true, if◌then◌else◌, List, [], ◌∷◌}
+use Rattle.markdown_options.specs.declared.configuration.Constructs.{Constructs}
 use Rattle.markdown_options.specs.declared.configuration.Options.{Options}
 use Rattle.markdown_options.specs.Defaults.{no_constructs, default_parse_options, default_options}
 
--- every construct off, and otherwise the default options
-abbrev pub plain_options : Options
-plain_options = record default_options { parse = record default_parse_options { constructs = no_constructs } }
+-- the default options with other constructs
+abbrev pub options_with : Constructs → Options
+options_with on = record default_options { parse = record default_parse_options { constructs = on } }
+
+-- the default constructs that can be read so far
+abbrev pub default_built : Constructs
+default_built = record no_constructs { code_fenced = true; code_indented = true; heading_atx = true; thematic_break = true }
+
+-- no words ask for the defaults, `--plain` for no constructs
+abbrev pub options_of : List (List ℕ) → Options
+options_of [] = options_with default_built
+options_of (word ∷ words) = options_with no_constructs

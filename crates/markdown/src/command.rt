@@ -1,11 +1,12 @@
 //! The program, over any reader and writer.
 ghost use Rattle.std.specs.Prelude.{◌≡◌, ◌≤◌, ◌↔◌, IfSome, OnOk, OnErr, map, string_bytes, true, false};
 ghost use Rattle.std.specs.Io.KnownBytes.{Appends, Keeps};
-ghost use Rattle.markdown.specs.Plain.{plain_options};
+ghost use Rattle.markdown.specs.Plain.{options_of, options_with, default_built};
+ghost use Rattle.markdown_options.specs.Built.{is_built};
 ghost use Rattle.markdown_definition.specs.Html.{html};
 ghost use Rattle.markdown.specs.Run.{AppendsBeginning};
 ghost use Rattle.markdown.specs.Watched.{device, has_failed};
-ghost use Rattle.markdown.specs.Words.{is_plain};
+ghost use Rattle.markdown.specs.Words.{is_command};
 
 use crate::run::{RunError, run_with_options};
 use crate::watched::Watched;
@@ -37,22 +38,22 @@ pub fn program<R: Read, W: Write, F: Write>(
 
     // 0: the page of all that was read was written, and nothing else.
     ensures ok { result ≡ 0 → IfSome (R.remaining (device reader.old)) (λ text.
-        Appends (W.contents (device writer.old)) (W.contents (device writer.new)) (html text plain_options)) }
+        Appends (W.contents (device writer.old)) (W.contents (device writer.new)) (html text (options_of (map string_bytes words.now)))) }
 
     // 1: what was written is a beginning of the page.
     ensures fault { result ≡ 1 → IfSome (R.remaining (device reader.old)) (λ text.
-        AppendsBeginning (W.contents (device writer.old)) (W.contents (device writer.new)) (html text plain_options)) }
+        AppendsBeginning (W.contents (device writer.old)) (W.contents (device writer.new)) (html text (options_of (map string_bytes words.now)))) }
 
     // 2: the words are no command line, and nothing was written.
-    ensures words { (result ≡ 2) ↔ (is_plain (map string_bytes words.now) ≡ false) }
+    ensures words { (result ≡ 2) ↔ (is_command (map string_bytes words.now) ≡ false) }
     ensures nothing { result ≡ 2 → Keeps (W.contents (device writer.old)) (W.contents (device writer.new)) }
     ensures status { result ≤ 2 }
 {
-    if !is_plain(words) {
+    if !is_command(words) {
         let _ = faults.write_all(b"markdown: wrong command line\n");
         return STATUS_WORDS;
     }
-    match page(rt.alloc(), reader, writer) {
+    match page(rt.alloc(), words, reader, writer) {
         Ok(()) => STATUS_OK,
         Err(fault) => {
             let _ = writeln!(faults, "markdown: {fault}");
@@ -61,42 +62,70 @@ pub fn program<R: Read, W: Write, F: Write>(
     }
 }
 
-/// Whether the words are `--plain` alone.
-fn is_plain(words: &[String]) -> bool
-    ensures { result ≡ is_plain (map string_bytes words.now) }
+/// Whether there are no words, or `--plain` alone.
+fn is_command(words: &[String]) -> bool
+    ensures { result ≡ is_command (map string_bytes words.now) }
 {
     match words {
+        [] => true,
         [word] => word.as_str() == "--plain",
         _ => false,
     }
 }
 
-/// Every construct off.
-fn plain() -> Options
-    ensures { result ≡ plain_options }
+/// The options that the words ask for: no words the defaults, `--plain` no constructs.
+fn options_of(words: &[String]) -> Options
+    ensures options { result ≡ options_of (map string_bytes words.now) }
+    ensures built { is_built result.parse.constructs ≡ true }
+{
+    if words.is_empty() {
+        options_with(default_built())
+    } else {
+        options_with(Constructs::none())
+    }
+}
+
+/// The default options with other constructs.
+fn options_with(constructs: Constructs) -> Options
+    ensures { result ≡ options_with constructs }
 {
     Options {
         parse: ParseOptions {
-            constructs: Constructs::none(),
+            constructs,
             ..ParseOptions::default()
         },
         compile: CompileOptions::default(),
     }
 }
 
-/// Prints the page, and flushes it.
+/// The default constructs that can be read so far.
+fn default_built() -> Constructs
+    ensures { result ≡ default_built }
+{
+    Constructs {
+        code_fenced: true,
+        code_indented: true,
+        heading_atx: true,
+        thematic_break: true,
+        ..Constructs::none()
+    }
+}
+
+/// Prints the page that the words ask for, and flushes it.
 fn page<R: Read, W: Write>(
     alloc: Global,
+    words: &[String],
     reader: &mut Watched<R>,
     writer: &mut Watched<W>,
 ) -> Result<(), RunError>
     requires reader { has_failed reader.old ≡ false }
     requires writer { has_failed writer.old ≡ false }
     ensures ok { OnOk result (IfSome (R.remaining (device reader.old)) (λ text.
-        Appends (W.contents (device writer.old)) (W.contents (device writer.new)) (html text plain_options))) }
+        Appends (W.contents (device writer.old)) (W.contents (device writer.new)) (html text (options_of (map string_bytes words.now))))) }
     ensures fault { OnErr result (IfSome (R.remaining (device reader.old)) (λ text.
-        AppendsBeginning (W.contents (device writer.old)) (W.contents (device writer.new)) (html text plain_options))) }
+        AppendsBeginning (W.contents (device writer.old)) (W.contents (device writer.new)) (html text (options_of (map string_bytes words.now))))) }
 {
-    run_with_options(alloc, reader, writer, &plain())?;
+    let options = options_of(words);
+    run_with_options(alloc, reader, writer, &options)?;
     writer.flush().map_err(RunError::Write)
 }

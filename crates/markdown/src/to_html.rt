@@ -45,11 +45,18 @@ fn print<A: Allocator + Clone>(
     options: &Options,
 ) -> Result<String<A>, AllocError>
     requires size { length text.now ≤ SIZE_MAX }
+    requires built { is_built options.now.parse.constructs ≡ true }
     ensures { IfOk result (λ page. string_bytes page ≡ marked_html text.now options.now) }
 {
-    let blocks = block_rows(alloc.clone()?, text)?;
+    let blocks = block_rows(alloc.clone()?, text, &options.parse.constructs)?;
     let ending = default_ending(text, options.compile.default_line_ending);
-    print_rows(alloc, room(text.len()), ending, &blocks.rows, &blocks.lines)
+    print_rows(
+        alloc,
+        room(text.len()),
+        ending,
+        &blocks.rows,
+        &blocks.pieces,
+    )
 }
 
 /// How many bytes a page is given at once: those of the text, and some for tags and references.
@@ -61,6 +68,7 @@ fn room(len: usize) -> usize
 
 /// The text's first ending, or another.
 fn default_ending(text: &str, other: LineEnding) -> LineEnding
+    requires { length text.now ≤ SIZE_MAX }
     ensures { (options : Options) → options.compile.default_line_ending ≡ other → result ≡ default_ending options text.now }
 {
     Lines::first(text).ending.unwrap_or(other)

@@ -1,2 +1,5 @@
-pub mod RowsOf
+mod Rows
+pub mod Plain
 pub mod Visible
+pub mod LinkRenaming
+pub mod ContentBytes

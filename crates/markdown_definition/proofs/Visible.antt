@@ -10,13 +10,16 @@ use Rattle.markdown_options.specs.declared.line_ending.LineEnding.{LineEnding}
 use Rattle.markdown_options.specs.declared.line_ending.LineEnding.TheVariants.{CarriageReturnLineFeed, CarriageReturn, LineFeed}
 use Rattle.markdown_options.specs.declared.configuration.Options.{Options}
 use Rattle.markdown_options.specs.LineEndings.{ending_bytes}
+use Rattle.markdown_options.specs.Defaults.{no_constructs}
 use Rattle.markdown_definition.specs.Lines.{TextLine, text_line, in_first_line, after_return, lines, ends_line, ending_text, without_mark}
-use Rattle.markdown_definition.specs.Columns.{codes_from, whole, is_white, is_blank, is_byte, is_tab_column, bytes_of, block_codes, trimmed, tab_column, columns_after_tab}
+use Rattle.markdown_definition.specs.Columns.{Rest, codes_from, whole, is_white, is_blank, is_byte, is_tab_column, bytes_of, block_codes, trimmed, tab_column, columns_after_tab}
 use Rattle.markdown_definition.specs.Encode.{replacement_character, encoded_byte, encode}
-use Rattle.markdown_definition.specs.Tree.{BlockLine, block_line, Block, Paragraph, Ending, Blank, Blocks, Nil, Cons, join, one, Opening, Lines, Tree, tree, empty_tree, own_lines, close, with_line, grow, step, closed}
+use Rattle.markdown_definition.specs.Tree.{BlockLine, Block, Paragraph, Ending, Blank, Blocks, Nil, Cons, join, one, Text, Opening, Leaf, Tree, tree, empty_tree, own_lines, close_leaf, close, rest_line, grow, step, closed, blocks}
+use Rattle.markdown_definition.specs.Lists.{before, grouped_block, grouped}
 use Rattle.markdown_definition.specs.Pieces.{Piece, Bytes, Fresh, is_fresh, print, layout}
-use Rattle.markdown_definition.specs.Html.{line_text, text_of, block_pieces, children_pieces, ends_blank, last_piece, document_pieces, default_ending, marked_html}
+use Rattle.markdown_definition.specs.Html.{line_text, text_of, silences, block_pieces, children_pieces, ends_blank, last_piece, document_pieces, default_ending, marked_html}
 use Rattle.markdown_definition.specs.Laws.{visible, is_not_blank, said_by, all_said_by, VisibleLaw}
+use Rattle.markdown_definition.proofs.Plain.{paragraph, blank_tree, text_tree, plain_tree, plain_grow}
 
 -- ---- bytes that end no line
 
@@ -245,27 +248,38 @@ lines_show (line ∷ ls) p =
 -- what blocks say: the lines of their paragraphs
 abbrev said_in_block : Block → List ℕ
 said_in_block (Paragraph ls) = said_in_lines ls
-said_in_block (Ending ending) = []
-said_in_block (Blank ending) = []
+said_in_block b = []
 
 abbrev said_in_blocks : Blocks → List ℕ
 said_in_blocks Nil = []
 said_in_blocks (Cons b bs) = said_in_block b ++ said_in_blocks bs
 
--- no line of a paragraph holds CR or LF before its ending
+-- a block is a paragraph, in which no line holds CR or LF before its ending, or an ending
 abbrev BlockEndsNowhere : Block → Type 0
 BlockEndsNowhere (Paragraph ls) = LinesEndNowhere ls
 BlockEndsNowhere (Ending ending) = Unit {0}
 BlockEndsNowhere (Blank ending) = Unit {0}
+BlockEndsNowhere b = ⊥
 
 abbrev BlocksEndNowhere : Blocks → Type 0
 BlocksEndNowhere Nil = Unit {0}
 BlocksEndNowhere (Cons b bs) = BlockEndsNowhere b × BlocksEndNowhere bs
 
+-- there are no items to put into lists
+no_item : (b : Block) (bs : Blocks) → BlockEndsNowhere b → before (grouped_block b) bs ≡ Cons b bs
+no_item (Paragraph ls) bs p = refl
+no_item (Ending ending) bs p = refl
+no_item (Blank ending) bs p = refl
+no_item b bs p = absurd p
+
+no_lists : (bs : Blocks) → BlocksEndNowhere bs → grouped bs ≡ bs
+no_lists Nil p = refl
+no_lists (Cons b bs) p = no_item b (grouped bs) p.0 ∙ ap (Cons b) (no_lists bs p.1)
+
 -- blocks show what they say
-paragraph_shows : (default : List ℕ) (ls : List BlockLine) → Shows default [] → LinesEndNowhere ls
-    → PiecesShow default (block_pieces (Paragraph ls)) (said_in_lines ls)
-paragraph_shows default ls d p =
+paragraph_shows : (default : List ℕ) (silent : Bool) (ls : List BlockLine) → Shows default [] → LinesEndNowhere ls
+    → PiecesShow default (block_pieces true false silent (Paragraph ls)) (said_in_lines ls)
+paragraph_shows default silent ls d p =
     let start = codes "<p>" in
     let end = codes "</p>" in
     let said = said_in_lines ls in
@@ -274,18 +288,28 @@ paragraph_shows default ls d p =
     (pieces_bytes default (text_of ls) said (lines_show ls p)) (pieces_bytes default end [] shows_end_of_p) in
     let more = pieces-append default (Bytes start ∷ []) (Bytes (text_of ls) ∷ Bytes end ∷ []) [] (said ++ []) (pieces_bytes default start [] shows_p) last in
     let all = pieces-append default (Fresh ∷ []) (Bytes start ∷ Bytes (text_of ls) ∷ Bytes end ∷ []) [] (said ++ []) (pieces_fresh default d) more in
-    subst (PiecesShow default (block_pieces (Paragraph ls))) (append-nil said) all
+    subst (PiecesShow default (block_pieces true false silent (Paragraph ls))) (append-nil said) all
 
-block_shows : (default : List ℕ) (b : Block) → Shows default [] → BlockEndsNowhere b → PiecesShow default (block_pieces b) (said_in_block b)
-block_shows default (Paragraph ls) d p = paragraph_shows default ls d p
-block_shows default (Ending ending) d p = pieces_bytes default (ending_text ending) [] (shows_ending_text ending)
-block_shows default (Blank ending) d p = pieces_none default
+ending_shows : (default : List ℕ) (silent : Bool) (ending : Option LineEnding) → PiecesShow default (block_pieces true false silent (Ending ending)) []
+ending_shows default silent ending =
+    cond_both silent [] (Bytes (ending_text ending) ∷ []) (λ ps. PiecesShow default ps [])
+    (λ _. pieces_none default)
+    (λ _. pieces_bytes default (ending_text ending) [] (shows_ending_text ending))
 
-blocks_show : (default : List ℕ) (bs : Blocks) → Shows default [] → BlocksEndNowhere bs → PiecesShow default (children_pieces bs) (said_in_blocks bs)
-blocks_show default Nil d p = pieces_none default
-blocks_show default (Cons b bs) d p =
-    pieces-append default (block_pieces b) (children_pieces bs) (said_in_block b) (said_in_blocks bs)
-    (block_shows default b d p.0) (blocks_show default bs d p.1)
+block_shows : (default : List ℕ) (silent : Bool) (b : Block) → Shows default [] → BlockEndsNowhere b
+    → PiecesShow default (block_pieces true false silent b) (said_in_block b)
+block_shows default silent (Paragraph ls) d p = paragraph_shows default silent ls d p
+block_shows default silent (Ending ending) d p = ending_shows default silent ending
+block_shows default silent (Blank ending) d p = pieces_none default
+block_shows default silent b d p = absurd p
+
+blocks_show : (default : List ℕ) (silent : Bool) (bs : Blocks) → Shows default [] → BlocksEndNowhere bs
+    → PiecesShow default (children_pieces true false silent bs) (said_in_blocks bs)
+blocks_show default silent Nil d p = pieces_none default
+blocks_show default silent (Cons b bs) d p =
+    let next = silences true false b in
+    pieces-append default (block_pieces true false silent b) (children_pieces true false next bs) (said_in_block b) (said_in_blocks bs)
+    (block_shows default silent b d p.0) (blocks_show default next bs d p.1)
 
 -- blocks joined
 nowhere-join : (bs cs : Blocks) → BlocksEndNowhere bs → BlocksEndNowhere cs → BlocksEndNowhere (join bs cs)
@@ -301,10 +325,18 @@ said-join (Cons b bs) cs =
 
 -- what is open, as its lines
 abbrev said_in_open : Opening → List ℕ
-said_in_open (Lines ls) = said_in_lines ls
+said_in_open (Leaf (Text ls)) = said_in_lines ls
+said_in_open now = []
 
+-- nothing is open but a paragraph, in which no line holds CR or LF before its ending
 abbrev OpenEndsNowhere : Opening → Type 0
-OpenEndsNowhere (Lines ls) = LinesEndNowhere ls
+OpenEndsNowhere (Leaf (Text ls)) = LinesEndNowhere ls
+OpenEndsNowhere now = ⊥
+
+-- what holds of an open paragraph holds of what is open
+at_paragraph : (P : Opening → Type 0) (now : Opening) → OpenEndsNowhere now → ((ls : List BlockLine) → LinesEndNowhere ls → P (paragraph ls)) → P now
+at_paragraph P (Leaf (Text ls)) p f = f ls p
+at_paragraph P now p f = absurd p
 
 -- what a tree says, and that its lines end nowhere inside
 record TreeSays (t : Tree) (said : List ℕ) : Type 0 where
@@ -313,32 +345,35 @@ record TreeSays (t : Tree) (said : List ℕ) : Type 0 where
   says : said_in_blocks t.done ++ said_in_open t.now ≡ said
 
 -- closing keeps what is said
-nowhere_closed : (now : Opening) → OpenEndsNowhere now → BlocksEndNowhere (close now)
-nowhere_closed (Lines []) p = tt
-nowhere_closed (Lines (line ∷ others)) p = (nowhere_in_own (line ∷ others) p, (tt, tt))
+nowhere_closed : (ls : List BlockLine) → LinesEndNowhere ls → BlocksEndNowhere (close_leaf (Text ls))
+nowhere_closed [] p = tt
+nowhere_closed (line ∷ others) p = (nowhere_in_own (line ∷ others) p, (tt, tt))
 
-said_closed : (now : Opening) → said_in_blocks (close now) ≡ said_in_open now
-said_closed (Lines []) = refl
-said_closed (Lines (line ∷ others)) = append-nil (said_in_lines (own_lines (line ∷ others))) ∙ said_in_own (line ∷ others)
+said_closed : (ls : List BlockLine) → said_in_blocks (close_leaf (Text ls)) ≡ said_in_lines ls
+said_closed [] = refl
+said_closed (line ∷ others) = append-nil (said_in_lines (own_lines (line ∷ others))) ∙ said_in_own (line ∷ others)
 
 -- a blank line says nothing
-blank_says : (now : Opening) (ending : Option LineEnding) → OpenEndsNowhere now
-    → TreeSays (tree (join (close now) (one (Blank ending))) (Lines [])) (said_in_open now)
-blank_says now ending p = record {
-  done = nowhere-join (close now) (one (Blank ending)) (nowhere_closed now p) (tt, tt);
-  now = tt;
-  says = append-nil (said_in_blocks (join (close now) (one (Blank ending)))) ∙ said-join (close now) (one (Blank ending))
-      ∙ append-nil (said_in_blocks (close now)) ∙ said_closed now;
-}
+blank_says : (ls : List BlockLine) (ending : Option LineEnding) → LinesEndNowhere ls → TreeSays (blank_tree ls ending) (said_in_lines ls)
+blank_says ls ending p =
+    let done = close_leaf (Text ls) in
+    record {
+      done = nowhere-join done (one (Blank ending)) (nowhere_closed ls p) (tt, tt);
+      now = tt;
+      says = append-nil (said_in_blocks (join done (one (Blank ending)))) ∙ said-join done (one (Blank ending))
+          ∙ append-nil (said_in_blocks done) ∙ said_closed ls;
+    }
 
 -- a line goes into the open paragraph
-line_says : (now : Opening) (line : BlockLine) → OpenEndsNowhere now → EndsNowhere line.codes
-    → TreeSays (tree Nil (with_line line now)) (said_in_open now ++ said_in_line line)
-line_says (Lines ls) line p q = record {
-  done = tt;
-  now = nowhere_push ls line p q;
-  says = flat_map-append said_in_line ls (line ∷ []) ∙ ap (λ t. said_in_lines ls ++ t) (append-nil (said_in_line line));
-}
+line_says : (ls : List BlockLine) (rest : Rest) (ending : Option LineEnding) → LinesEndNowhere ls → EndsNowhere (block_codes rest)
+    → TreeSays (text_tree ls rest ending) (said_in_lines ls ++ said_in_line (rest_line rest ending))
+line_says ls rest ending p q =
+    let line = rest_line rest ending in
+    record {
+      done = tt;
+      now = nowhere_push ls line p q;
+      says = flat_map-append said_in_line ls (line ∷ []) ∙ ap (λ t. said_in_lines ls ++ t) (append-nil (said_in_line line));
+    }
 
 -- what is finished before stands in front
 after_done : (done : Blocks) (more : Tree) (said : List ℕ) → BlocksEndNowhere done → TreeSays more said
@@ -359,28 +394,35 @@ said_by_other : (line : TextLine) → is_blank (whole line.content) ≡ false �
 said_by_other line e = ap (flat_map said_by) (cond-true (is_not_blank line) (line ∷ []) [] (ap not e)) ∙ append-nil (said_by line)
 
 -- one more line
-grow_says : (now : Opening) (line : TextLine) → OpenEndsNowhere now → EndsNowhere line.content
-    → TreeSays (grow now (whole line.content) line.ending) (said_in_open now ++ all_said_by (line ∷ []))
-grow_says now line p q =
+plain_says : (ls : List BlockLine) (line : TextLine) → LinesEndNowhere ls → EndsNowhere line.content
+    → TreeSays (plain_tree ls (whole line.content) line.ending) (said_in_lines ls ++ all_said_by (line ∷ []))
+plain_says ls line p q =
     let rest = whole line.content in
-    let added = block_line (block_codes rest) line.ending in
-    let blank = tree (join (close now) (one (Blank line.ending))) (Lines []) in
-    let other = tree Nil (with_line added now) in
-    let here = said_in_open now in
-    let nothing = blank_says now line.ending p in
-    let more = line_says now added p (nowhere_in_block line.content q) in
+    let blank = blank_tree ls line.ending in
+    let other = text_tree ls rest line.ending in
+    let here = said_in_lines ls in
+    let nothing = blank_says ls line.ending p in
+    let more = line_says ls rest line.ending p (nowhere_in_block line.content q) in
     cond_both (is_blank rest) blank other (λ t. TreeSays t (here ++ all_said_by (line ∷ [])))
     (λ e. subst (TreeSays blank) (sym (ap (λ t. here ++ t) (said_by_blank line e) ∙ append-nil here)) nothing)
     (λ e. subst (TreeSays other) (sym (ap (λ t. here ++ t) (said_by_other line e))) more)
 
+grow_says : (now : Opening) (line : TextLine) → OpenEndsNowhere now → EndsNowhere line.content
+    → TreeSays (grow no_constructs line.ending now (whole line.content)) (said_in_open now ++ all_said_by (line ∷ []))
+grow_says now line p q =
+    let rest = whole line.content in
+    let new = all_said_by (line ∷ []) in
+    at_paragraph (λ o. TreeSays (grow no_constructs line.ending o rest) (said_in_open o ++ new)) now p
+    (λ ls r. subst (λ t. TreeSays t (said_in_lines ls ++ new)) (sym (plain_grow ls rest line.ending)) (plain_says ls line r q))
+
 step_says : (t : Tree) (said : List ℕ) (line : TextLine) → TreeSays t said → EndsNowhere line.content
-    → TreeSays (step t line) (said ++ all_said_by (line ∷ []))
+    → TreeSays (step no_constructs t line) (said ++ all_said_by (line ∷ []))
 step_says t said line p q =
-    let more = grow t.now (whole line.content) line.ending in
+    let more = grow no_constructs line.ending t.now (whole line.content) in
     let before = said_in_blocks t.done in
     let here = said_in_open t.now in
     let new = all_said_by (line ∷ []) in
-    subst (TreeSays (step t line)) (sym (append_assoc before here new) ∙ ap (λ s. s ++ new) p.says)
+    subst (TreeSays (step no_constructs t line)) (sym (append_assoc before here new) ∙ ap (λ s. s ++ new) p.says)
     (after_done t.done more (here ++ new) p.done (grow_says t.now line p.now q))
 
 -- the lines of a list that aren't blank, one by one
@@ -398,46 +440,58 @@ said-cons line ls =
 
 -- all lines
 steps_say : (ls : List TextLine) (t : Tree) (said : List ℕ) → TreeSays t said → ContentsEndNowhere ls
-    → TreeSays (fold step t ls) (said ++ all_said_by ls)
+    → TreeSays (fold (step no_constructs) t ls) (said ++ all_said_by ls)
 steps_say [] t said p q = subst (TreeSays t) (sym (append-nil said)) p
 steps_say (line ∷ ls) t said p q =
     let new = all_said_by (line ∷ []) in
-    subst (TreeSays (fold step (step t line) ls)) (append_assoc said new (all_said_by ls) ∙ ap (λ s. said ++ s) (sym (said-cons line ls)))
-    (steps_say ls (step t line) (said ++ new) (step_says t said line p q.0) q.1)
+    let more = step no_constructs t line in
+    subst (TreeSays (fold (step no_constructs) more ls)) (append_assoc said new (all_said_by ls) ∙ ap (λ s. said ++ s) (sym (said-cons line ls)))
+    (steps_say ls more (said ++ new) (step_says t said line p q.0) q.1)
 
 -- ---- the page
 
 -- the tree of a whole text, and its blocks
-tree_says : (text : List ℕ) → TreeSays (fold step empty_tree (lines text)) (all_said_by (lines text))
+tree_says : (text : List ℕ) → TreeSays (fold (step no_constructs) empty_tree (lines text)) (all_said_by (lines text))
 tree_says text = steps_say (lines text) empty_tree [] (record { done = tt; now = tt; says = refl }) (nowhere_in_lines text)
 
 said_at_end : (t : Tree) (said : List ℕ) → TreeSays t said → said_in_blocks (closed t) ≡ said
-said_at_end t said p = said-join t.done (close t.now) ∙ ap (λ s. said_in_blocks t.done ++ s) (said_closed t.now) ∙ p.says
+said_at_end t said p =
+    let kept = at_paragraph (λ o. said_in_blocks (close o) ≡ said_in_open o) t.now p.now (λ ls r. said_closed ls) in
+    said-join t.done (close t.now) ∙ ap (λ s. said_in_blocks t.done ++ s) kept ∙ p.says
 
 nowhere_at_end : (t : Tree) (said : List ℕ) → TreeSays t said → BlocksEndNowhere (closed t)
-nowhere_at_end t said p = nowhere-join t.done (close t.now) p.done (nowhere_closed t.now p.now)
+nowhere_at_end t said p =
+    nowhere-join t.done (close t.now) p.done (at_paragraph (λ o. BlocksEndNowhere (close o)) t.now p.now nowhere_closed)
 
 -- a page shows what its blocks say
 document_shows : (default : List ℕ) (bs : Blocks) → Shows default [] → BlocksEndNowhere bs
     → Shows (layout default (document_pieces bs)) (said_in_blocks bs)
 document_shows default bs d p =
-    let blank = ends_blank false bs in
-    let all = pieces-append default (children_pieces bs) (last_piece blank) (said_in_blocks bs) [] (blocks_show default bs d p) (pieces_last default blank d) in
-    subst (Shows (layout default (document_pieces bs))) (append-nil (said_in_blocks bs)) (all [] [] (λ y. refl))
+    let last = last_piece (ends_blank false bs) in
+    let shown = blocks_show default false bs d p in
+    let all = pieces-append default (children_pieces true false false bs) last (said_in_blocks bs) [] shown (pieces_last default (ends_blank false bs) d) in
+    subst (λ cs. Shows (layout default (children_pieces true false false cs ++ last)) (said_in_blocks bs)) (sym (no_lists bs p))
+    (subst (Shows (layout default (children_pieces true false false bs ++ last))) (append-nil (said_in_blocks bs)) (all [] [] (λ y. refl)))
 
 -- what bytes show where nothing follows
 shows_alone : (x t : List ℕ) → Shows x t → visible false x ≡ t
 shows_alone x t p = ap (visible false) (sym (append-nil x)) ∙ p [] ∙ append-nil t
 
-marked_page_shows : (text : List ℕ) (options : Options) → visible false (marked_html text options) ≡ all_said_by (lines text)
-marked_page_shows text options =
-    let t = fold step empty_tree (lines text) in
+page_shows : (text : List ℕ) (ending : LineEnding)
+    → visible false (layout (ending_bytes ending) (document_pieces (blocks no_constructs text))) ≡ all_said_by (lines text)
+page_shows text ending =
+    let t = fold (step no_constructs) empty_tree (lines text) in
     let said = all_said_by (lines text) in
     let p : TreeSays t said = tree_says text in
-    let ending = default_ending options text in
-    shows_alone (marked_html text options) (said_in_blocks (closed t))
+    shows_alone (layout (ending_bytes ending) (document_pieces (closed t))) (said_in_blocks (closed t))
     (document_shows (ending_bytes ending) (closed t) (shows_ending ending) (nowhere_at_end t said p))
     ∙ said_at_end t said p
 
+marked_page_shows : (text : List ℕ) (options : Options) → options.parse.constructs ≡ no_constructs
+    → visible false (marked_html text options) ≡ all_said_by (lines text)
+marked_page_shows text options off =
+    let ending = default_ending options text in
+    ap (λ on. visible false (layout (ending_bytes ending) (document_pieces (blocks on text)))) off ∙ page_shows text ending
+
 pub visible_law : VisibleLaw
-visible_law text options = marked_page_shows (without_mark text) options
+visible_law text options off = marked_page_shows (without_mark text) options off

@@ -1,14 +1,20 @@
 -- The HTML of a text.
-use Rattle.std.specs.Prelude.{ℕ, Bool, true, false, if◌then◌else◌, List, [], ◌∷◌, ◌++◌, None, Some, unwrap_or, codes}
+use Rattle.std.specs.Prelude.{ℕ, ◌+◌, Bool, true, false, if◌then◌else◌, ◌==◌, ◌&&◌, ◌||◌, not, List, [], ◌∷◌, ◌++◌, Option, None, Some, unwrap_or, codes, map}
 use Rattle.std.specs.List.{flat_map}
+use Rattle.std.specs.Fmt.{decimal}
 use Rattle.markdown_options.specs.declared.line_ending.LineEnding.{LineEnding}
 use Rattle.markdown_options.specs.declared.configuration.Options.{Options}
 use Rattle.markdown_options.specs.LineEndings.{ending_bytes}
+use Rattle.markdown_definition.specs.declared.container.Container.{Container}
+use Rattle.markdown_definition.specs.declared.container.Container.TheVariants.{Quote, Item}
 use Rattle.markdown_definition.specs.Lines.{ending_text, first_line, without_mark}
-use Rattle.markdown_definition.specs.Columns.{trimmed}
+use Rattle.markdown_definition.specs.Columns.{trimmed, is_tab_column}
 use Rattle.markdown_definition.specs.Encode.{encode}
-use Rattle.markdown_definition.specs.Tree.{BlockLine, Block, Paragraph, Ending, Blank, Blocks, Nil, Cons, blocks}
-use Rattle.markdown_definition.specs.Pieces.{Piece, Bytes, Fresh, layout}
+use Rattle.markdown_definition.specs.Tree.{BlockLine, Block, Paragraph, Heading, Break, IndentedCode, FencedCode, Holds, Items, Ending, Blank, Blocks, Nil, Cons, own_lines, is_ending, blocks}
+use Rattle.markdown_definition.specs.Lists.{grouped, is_loose}
+use Rattle.markdown_definition.specs.Pieces.{Piece, Bytes, Eol, Fresh, layout}
+
+-- ---- text
 
 -- a line of text: the spaces and tabs at its ends are dropped
 abbrev pub line_text : BlockLine → List ℕ
@@ -18,22 +24,108 @@ line_text line = encode (trimmed line.codes) ++ ending_text line.ending
 abbrev pub text_of : List BlockLine → List ℕ
 text_of ls = flat_map line_text ls
 
--- a child of the document; the ending of a blank line prints nothing
-abbrev pub block_pieces : Block → List Piece
-block_pieces (Paragraph ls) = Fresh ∷ Bytes (codes "<p>") ∷ Bytes (text_of ls) ∷ Bytes (codes "</p>") ∷ []
-block_pieces (Ending ending) = Bytes (ending_text ending) ∷ []
-block_pieces (Blank ending) = []
+-- a code of a line of code: a column left of a tab is a space
+abbrev pub code_byte : ℕ → ℕ
+code_byte code = if is_tab_column code then 32 else code
 
-abbrev pub children_pieces : Blocks → List Piece
-children_pieces Nil = []
-children_pieces (Cons b bs) = block_pieces b ++ children_pieces bs
+-- lines of code with their endings
+abbrev pub code_line : BlockLine → List ℕ
+code_line line = encode (map code_byte line.codes) ++ ending_text line.ending
+
+abbrev pub code_of : List BlockLine → List ℕ
+code_of ls = flat_map code_line ls
+
+-- ---- tags, where 48 is the digit 0
+
+abbrev pub heading_tag : ℕ → List ℕ
+heading_tag rank = codes "<h" ++ (48 + rank) ∷ codes ">"
+
+abbrev pub heading_end : ℕ → List ℕ
+heading_end rank = codes "</h" ++ (48 + rank) ∷ codes ">"
+
+-- the class of fenced code with an info
+abbrev pub class_of : List ℕ → List ℕ
+class_of [] = []
+class_of (b ∷ bs) = codes " class=\"language-" ++ encode (b ∷ bs) ++ codes "\""
+
+-- the start of an ordered list, unless it is 1
+abbrev pub start_of : ℕ → List ℕ
+start_of number = if number == 1 then [] else (codes " start=\"" ++ decimal number ++ codes "\"")
+
+abbrev pub number_tag : Option ℕ → List ℕ
+number_tag None = codes "<ul>"
+number_tag (Some number) = codes "<ol" ++ start_of number ++ codes ">"
+
+abbrev pub number_end : Option ℕ → List ℕ
+number_end None = codes "</ul>"
+number_end (Some number) = codes "</ol>"
+
+-- the number of the first item of a list
+abbrev pub container_number : Container → Option ℕ
+container_number Quote = None
+container_number (Item item) = item.number
+
+abbrev pub list_number : Blocks → Option ℕ
+list_number (Cons (Holds c kids) bs) = container_number c
+list_number bs = None
+
+-- ---- pieces
+
+-- Fenced code that isn't closed has the ending of its last line, too: at the top that is one of its content, inside a container it stands outside and the default one is printed.
+abbrev pub fenced_lines : Bool → Bool → List BlockLine → List Piece
+fenced_lines top closed ls =
+    if top || closed then Bytes (code_of ls) ∷ [] else Bytes (code_of (own_lines ls)) ∷ Eol ∷ []
+
+abbrev pub fenced_content : Bool → Bool → List BlockLine → List Piece
+fenced_content top closed [] = []
+fenced_content top closed (line ∷ others) = fenced_lines top closed (line ∷ others) ++ Fresh ∷ []
+
+abbrev pub fresh_unless : Bool → List Piece
+fresh_unless said = if said then [] else Fresh ∷ []
+
+-- whether the ending after this child prints nothing: after a tight paragraph, and after fenced code at the top that isn't closed
+abbrev pub silences : Bool → Bool → Block → Bool
+silences top tight (Paragraph ls) = tight
+silences top tight (FencedCode info closed ls) = top && not closed
+silences top tight b = false
+
+-- whether the last block of an item, if it has any, is a tight paragraph; `before` says it of the blocks before
+abbrev pub ends_tight : Bool → Bool → Blocks → Bool
+ends_tight tight before Nil = before
+ends_tight tight before (Cons (Paragraph ls) bs) = ends_tight tight tight bs
+ends_tight tight before (Cons b bs) = ends_tight tight (before && is_ending b) bs
+
+abbrev mutual
+  -- a child, at the top or not, of a tight item or not, after a child that silences an ending or not
+  pub block_pieces : Bool → Bool → Bool → Block → List Piece
+  block_pieces top tight silent (Paragraph ls) =
+      if tight then Bytes (text_of ls) ∷ [] else Fresh ∷ Bytes (codes "<p>") ∷ Bytes (text_of ls) ∷ Bytes (codes "</p>") ∷ []
+  block_pieces top tight silent (Heading rank ls) =
+      Fresh ∷ Bytes (heading_tag rank) ∷ Bytes (text_of ls) ∷ Bytes (heading_end rank) ∷ []
+  block_pieces top tight silent Break = Fresh ∷ Bytes (codes "<hr />") ∷ []
+  block_pieces top tight silent (IndentedCode ls) =
+      Fresh ∷ Bytes (codes "<pre><code>") ∷ Bytes (code_of ls) ∷ Fresh ∷ Bytes (codes "</code></pre>") ∷ []
+  block_pieces top tight silent (FencedCode info closed ls) =
+      Fresh ∷ Bytes (codes "<pre><code" ++ class_of info ++ codes ">") ∷ fenced_content top closed ls
+      ++ Bytes (codes "</code></pre>") ∷ fresh_unless closed
+  block_pieces top tight silent (Holds Quote kids) =
+      Fresh ∷ Bytes (codes "<blockquote>") ∷ children_pieces false false false kids ++ Fresh ∷ Bytes (codes "</blockquote>") ∷ []
+  block_pieces top tight silent (Holds (Item item) kids) =
+      Fresh ∷ Bytes (codes "<li>") ∷ children_pieces false tight false kids ++ fresh_unless (ends_tight tight true kids) ++ Bytes (codes "</li>") ∷ []
+  block_pieces top tight silent (Items items) =
+      Fresh ∷ Bytes (number_tag (list_number items)) ∷ children_pieces false (not (is_loose items)) false items
+      ++ Eol ∷ Bytes (number_end (list_number items)) ∷ []
+  block_pieces top tight silent (Ending ending) = if silent then [] else Bytes (ending_text ending) ∷ []
+  block_pieces top tight silent (Blank ending) = []
+
+  pub children_pieces : Bool → Bool → Bool → Blocks → List Piece
+  children_pieces top tight silent Nil = []
+  children_pieces top tight silent (Cons b bs) = block_pieces top tight silent b ++ children_pieces top tight (silences top tight b) bs
 
 -- whether this is the ending of a blank line
 abbrev pub is_blank_ending : Block → Bool
-is_blank_ending (Paragraph ls) = false
-is_blank_ending (Ending ending) = false
-is_blank_ending (Blank None) = false
 is_blank_ending (Blank (Some ending)) = true
+is_blank_ending b = false
 
 -- whether the last child is the ending of a blank line; `before` says it of the child before these
 abbrev pub ends_blank : Bool → Blocks → Bool
@@ -45,7 +137,9 @@ abbrev pub last_piece : Bool → List Piece
 last_piece blank = if blank then Fresh ∷ [] else []
 
 abbrev pub document_pieces : Blocks → List Piece
-document_pieces bs = children_pieces bs ++ last_piece (ends_blank false bs)
+document_pieces bs = children_pieces true false false (grouped bs) ++ last_piece (ends_blank false bs)
+
+-- ---- the whole
 
 -- the text's first ending, or the one of the options
 abbrev pub default_ending : Options → List ℕ → LineEnding
@@ -53,7 +147,7 @@ default_ending options text = unwrap_or (first_line text).ending options.compile
 
 -- the HTML of a text without a byte order mark
 abbrev pub marked_html : List ℕ → Options → List ℕ
-marked_html text options = layout (ending_bytes (default_ending options text)) (document_pieces (blocks text))
+marked_html text options = layout (ending_bytes (default_ending options text)) (document_pieces (blocks options.parse.constructs text))
 
 -- the HTML of a text: its blocks, laid out
 abbrev pub html : List ℕ → Options → List ℕ

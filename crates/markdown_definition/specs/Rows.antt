@@ -1,13 +1,11 @@
 -- The rows of a block tree: what the block parser hands to the printer.
-use Rattle.std.specs.Prelude.{ℕ, Bool, false, List, [], ◌∷◌, ◌++◌, map, take, drop}
-use Rattle.std.specs.List.{fold, flat_map, sum_by}
+use Rattle.std.specs.Prelude.{ℕ, ◌+◌, true, false, List, [], ◌∷◌, ◌++◌, map, take, drop, replicate}
+use Rattle.std.specs.List.{fold, sum_by}
 use Rattle.markdown_definition.specs.declared.row.Row.{Row}
 use Rattle.markdown_definition.specs.declared.row.Row.TheVariants as row
-use Rattle.markdown_definition.specs.Lines.{TextLine, first_line}
-use Rattle.std.proofs.Common.{Bor}
-use Rattle.markdown_definition.specs.Tree.{BlockLine, block_line, Block, Paragraph, Ending, Blank, Blocks, Nil, Cons, own_lines}
-use Rattle.markdown_definition.specs.Pieces.{Piece}
-use Rattle.markdown_definition.specs.Html.{block_pieces, is_blank_ending, last_piece}
+use Rattle.markdown_definition.specs.declared.row.Piece.{Piece}
+use Rattle.markdown_definition.specs.Columns.{tab_column}
+use Rattle.markdown_definition.specs.Tree.{BlockLine, block_line, Block, Paragraph, Heading, Break, IndentedCode, FencedCode, Ending, Blank, Blocks, Nil, Cons, own_lines}
 
 -- a block that holds no other, or an ending
 pub data BlockRow : Type 0 where
@@ -17,20 +15,6 @@ abbrev pub rows_of : Blocks → List BlockRow
 rows_of Nil = []
 rows_of (Cons b bs) = Single b ∷ rows_of bs
 
--- what rows print
-abbrev pub row_pieces : BlockRow → List Piece
-row_pieces (Single b) = block_pieces b
-
-abbrev pub is_blank_row : BlockRow → Bool
-is_blank_row (Single b) = is_blank_ending b
-
--- whether the last row is the ending of a blank line
-abbrev pub ends_blank_rows : List BlockRow → Bool
-ends_blank_rows rows = fold (λ before r. is_blank_row r) false rows
-
-abbrev pub rows_pieces : List BlockRow → List Piece
-rows_pieces rows = flat_map row_pieces rows ++ last_piece (ends_blank_rows rows)
-
 -- rows, and the lines that they leave
 pub record Shown : Type 0 where
   pub rows : List BlockRow
@@ -39,18 +23,33 @@ pub record Shown : Type 0 where
 abbrev pub shown_as : List BlockRow → List BlockLine → Shown
 shown_as rows left = record { rows = rows; left = left }
 
--- how many lines a row takes
+-- how many lines a row takes: fenced code takes its info as one before its lines
 abbrev pub lines_taken : Row → ℕ
 lines_taken (row.Paragraph count) = count
+lines_taken (row.Heading rank) = 1
+lines_taken row.Break = 0
+lines_taken (row.IndentedCode count) = count
+lines_taken (row.FencedCode count) = 1 + count
+lines_taken (row.UnclosedCode count) = 1 + count
 lines_taken (row.Ending ending) = 0
 lines_taken (row.Blank ending) = 0
 
 abbrev pub all_taken : List Row → ℕ
 all_taken rows = sum_by lines_taken rows
 
+-- the codes of the first line
+abbrev pub first_codes : List BlockLine → List ℕ
+first_codes [] = []
+first_codes (line ∷ others) = line.codes
+
 -- what a row stands for: it takes its lines from the front of those that are left
 abbrev pub block_shown : Row → List BlockLine → Block
 block_shown (row.Paragraph count) left = Paragraph (own_lines (take count left))
+block_shown (row.Heading rank) left = Heading rank (take 1 left)
+block_shown row.Break left = Break
+block_shown (row.IndentedCode count) left = IndentedCode (own_lines (take count left))
+block_shown (row.FencedCode count) left = FencedCode (first_codes left) true (take count (drop 1 left))
+block_shown (row.UnclosedCode count) left = FencedCode (first_codes left) false (take count (drop 1 left))
 block_shown (row.Ending ending) left = Ending ending
 block_shown (row.Blank ending) left = Blank ending
 
@@ -60,13 +59,9 @@ show_row s r = shown_as (s.rows ++ Single (block_shown r s.left) ∷ []) (drop (
 abbrev pub shown : List Row → List BlockLine → Shown
 shown rows ls = fold show_row (shown_as [] ls) rows
 
--- a line of a text as a line of a block
-abbrev pub line_in_block : TextLine → BlockLine
-line_in_block line = block_line line.content line.ending
+-- the line that a piece of the text stands for
+abbrev pub piece_line : Piece → BlockLine
+piece_line piece = block_line (replicate piece.owed tab_column ++ piece.text.now) piece.ending
 
--- the lines of blocks, each given by the text from it on
-abbrev pub pool_line : Bor (List ℕ) → BlockLine
-pool_line from = line_in_block (first_line from.now)
-
-abbrev pub pool_lines : List (Bor (List ℕ)) → List BlockLine
-pool_lines lines = map pool_line lines
+abbrev pub piece_lines : List Piece → List BlockLine
+piece_lines pieces = map piece_line pieces

@@ -1,9 +1,21 @@
 -- The block tree of a text, line by line (CommonMark 4, 5 and appendix, phase 1).
-use Rattle.std.specs.Prelude.{ℕ, if◌then◌else◌, List, [], ◌∷◌, ◌++◌, Option, None}
+use Rattle.std.specs.Prelude.{ℕ, suc, zero, Bool, true, false, if◌then◌else◌, ◌&&◌, not, List, [], ◌∷◌, ◌++◌, Option, None, Some, length}
 use Rattle.std.specs.List.{fold}
 use Rattle.markdown_options.specs.declared.line_ending.LineEnding.{LineEnding}
+use Rattle.markdown_options.specs.declared.configuration.Constructs.{Constructs}
+use Rattle.markdown_definition.specs.declared.container.Container.{Container}
+use Rattle.markdown_definition.specs.declared.container.Container.TheVariants.{Quote, Item}
 use Rattle.markdown_definition.specs.Lines.{TextLine, lines}
 use Rattle.markdown_definition.specs.Columns.{Rest, whole, is_blank, block_codes}
+use Rattle.markdown_definition.specs.Indents.{outdented}
+use Rattle.markdown_definition.specs.Started.{Started}
+use Rattle.markdown_definition.specs.Containers.{continues, starts}
+use Rattle.markdown_definition.specs.CodeIndented.{starts_code_indented}
+use Rattle.markdown_definition.specs.CodeFenced.{Fence, fence_start, is_fence_end, fence_line}
+use Rattle.markdown_definition.specs.HeadingAtx.{Atx, heading_atx}
+use Rattle.markdown_definition.specs.ThematicBreak.{is_break}
+
+-- ---- blocks
 
 -- a line of a block: what it holds after the prefixes of containers, and its ending
 pub record BlockLine : Type 0 where
@@ -13,15 +25,22 @@ pub record BlockLine : Type 0 where
 abbrev pub block_line : List ℕ → Option LineEnding → BlockLine
 block_line codes ending = record { codes = codes; ending = ending }
 
--- a child of a container: a paragraph with its lines, the ending of a block's last line, or the ending of a blank line
-pub data Block : Type 0 where
-  Paragraph : List BlockLine → Block
-  Ending : Option LineEnding → Block
-  Blank : Option LineEnding → Block
+-- A child of a container: a paragraph; a heading of a rank; a thematic break; indented code; fenced code with its info, and whether it was closed; a container with its children; a list with its items and the endings between them, which is made after the lines are read; the ending of a block's last line; the ending of a blank line.
+mutual
+  pub data Block : Type 0 where
+    Paragraph : List BlockLine → Block
+    Heading : ℕ → List BlockLine → Block
+    Break : Block
+    IndentedCode : List BlockLine → Block
+    FencedCode : List ℕ → Bool → List BlockLine → Block
+    Holds : Container → Blocks → Block
+    Items : Blocks → Block
+    Ending : Option LineEnding → Block
+    Blank : Option LineEnding → Block
 
-pub data Blocks : Type 0 where
-  Nil : Blocks
-  Cons : Block → Blocks → Blocks
+  pub data Blocks : Type 0 where
+    Nil : Blocks
+    Cons : Block → Blocks → Blocks
 
 abbrev pub join : Blocks → Blocks → Blocks
 join Nil others = others
@@ -30,9 +49,22 @@ join (Cons b bs) others = Cons b (join bs others)
 abbrev pub one : Block → Blocks
 one b = Cons b Nil
 
--- what is open: the lines of a paragraph, of which there are none where it isn't open
+-- a block, and the ending of its last line
+abbrev pub ended : Block → Option LineEnding → Blocks
+ended b ending = Cons b (one (Ending ending))
+
+-- ---- what is open
+
+-- A leaf block that is open: a paragraph with its lines, none where no leaf is open; indented code with its lines, and the blank lines after them, which may turn out to be no part of it; fenced code with its fence, the ending of the fence's line, and its lines.
+pub data OpenLeaf : Type 0 where
+  Text : List BlockLine → OpenLeaf
+  Indented : List BlockLine → List BlockLine → OpenLeaf
+  Fenced : Fence → Option LineEnding → List BlockLine → OpenLeaf
+
+-- what is open: a leaf, or a container with the children that it has so far, and what is open in it
 pub data Opening : Type 0 where
-  Lines : List BlockLine → Opening
+  Leaf : OpenLeaf → Opening
+  Inside : Container → Blocks → Opening → Opening
 
 -- the children that are finished, and what is open after them
 pub record Tree : Type 0 where
@@ -42,14 +74,21 @@ pub record Tree : Type 0 where
 abbrev pub tree : Blocks → Opening → Tree
 tree done now = record { done = done; now = now }
 
-abbrev pub empty_tree : Tree
-empty_tree = tree Nil (Lines [])
+abbrev pub nothing : Opening
+nothing = Leaf (Text [])
 
--- the ending of the last line
+abbrev pub empty_tree : Tree
+empty_tree = tree Nil nothing
+
+-- ---- closing
+
+-- the ending of the last line, or this one where there is none
+abbrev pub last_ending_or : Option LineEnding → List BlockLine → Option LineEnding
+last_ending_or ending [] = ending
+last_ending_or ending (line ∷ others) = last_ending_or line.ending others
+
 abbrev pub last_ending : List BlockLine → Option LineEnding
-last_ending [] = None
-last_ending (line ∷ []) = line.ending
-last_ending (line ∷ next ∷ others) = last_ending (next ∷ others)
+last_ending ls = last_ending_or None ls
 
 -- the lines of a block: the ending of its last line stands outside
 abbrev pub own_lines : List BlockLine → List BlockLine
@@ -57,29 +96,198 @@ own_lines [] = []
 own_lines (line ∷ []) = block_line line.codes None ∷ []
 own_lines (line ∷ next ∷ others) = line ∷ own_lines (next ∷ others)
 
+-- the endings of blank lines
+abbrev pub blanks : List BlockLine → Blocks
+blanks [] = Nil
+blanks (line ∷ others) = Cons (Blank line.ending) (blanks others)
+
+-- the children that are finished where this leaf is closed
+abbrev pub close_leaf : OpenLeaf → Blocks
+close_leaf (Text []) = Nil
+close_leaf (Text (line ∷ others)) = ended (Paragraph (own_lines (line ∷ others))) (last_ending (line ∷ others))
+close_leaf (Indented ls pending) = join (ended (IndentedCode (own_lines ls)) (last_ending ls)) (blanks pending)
+close_leaf (Fenced fence ending ls) = ended (FencedCode fence.info false ls) (last_ending_or ending ls)
+
+abbrev pub is_ending : Block → Bool
+is_ending (Ending ending) = true
+is_ending (Blank ending) = true
+is_ending b = false
+
+abbrev pub all_endings : Blocks → Bool
+all_endings Nil = true
+all_endings (Cons b bs) = is_ending b && all_endings bs
+
+-- children without the endings at their end, and those
+abbrev pub front : Blocks → Blocks
+front Nil = Nil
+front (Cons b bs) = if all_endings (Cons b bs) then Nil else Cons b (front bs)
+
+abbrev pub trailing : Blocks → Blocks
+trailing Nil = Nil
+trailing (Cons b bs) = if all_endings (Cons b bs) then Cons b bs else trailing bs
+
+-- children without the last, if it is an ending, and that
+abbrev pub without_last : Blocks → Blocks
+without_last Nil = Nil
+without_last (Cons b Nil) = if is_ending b then Nil else one b
+without_last (Cons b (Cons c bs)) = Cons b (without_last (Cons c bs))
+
+abbrev pub last_of : Blocks → Blocks
+last_of Nil = Nil
+last_of (Cons b Nil) = if is_ending b then one b else Nil
+last_of (Cons b (Cons c bs)) = last_of (Cons c bs)
+
+-- A container ends right before the ending of its last line. Each line of a quote has its marker; blank lines at an item's end are not its own.
+abbrev pub holds : Container → Blocks → Blocks
+holds Quote kids = Cons (Holds Quote (without_last kids)) (last_of kids)
+holds (Item item) kids = Cons (Holds (Item item) (front kids)) (trailing kids)
+
 -- the children that are finished where this is closed
 abbrev pub close : Opening → Blocks
-close (Lines []) = Nil
-close (Lines (line ∷ others)) = Cons (Paragraph (own_lines (line ∷ others))) (one (Ending (last_ending (line ∷ others))))
+close (Leaf leaf) = close_leaf leaf
+close (Inside c kids inner) = holds c (join kids (close inner))
 
--- an open paragraph goes on, or one starts (CommonMark 4.8)
+-- ---- a line
+
+-- the lines of the open paragraph, none where it isn't open
+abbrev pub leaf_text : OpenLeaf → List BlockLine
+leaf_text (Text ls) = ls
+leaf_text (Indented ls pending) = []
+leaf_text (Fenced fence ending ls) = []
+
+abbrev pub text_of : Opening → List BlockLine
+text_of (Leaf leaf) = leaf_text leaf
+text_of (Inside c kids inner) = text_of inner
+
+abbrev pub is_some_line : List BlockLine → Bool
+is_some_line [] = false
+is_some_line (line ∷ others) = true
+
+-- whether a paragraph is open
+abbrev pub has_text : Opening → Bool
+has_text now = is_some_line (text_of now)
+
+-- one more line of the open paragraph
+abbrev pub leaf_with_line : BlockLine → OpenLeaf → OpenLeaf
+leaf_with_line line (Text ls) = Text (ls ++ line ∷ [])
+leaf_with_line line (Indented ls pending) = Indented ls pending
+leaf_with_line line (Fenced fence ending ls) = Fenced fence ending ls
+
 abbrev pub with_line : BlockLine → Opening → Opening
-with_line line (Lines ls) = Lines (ls ++ line ∷ [])
+with_line line (Leaf leaf) = Leaf (leaf_with_line line leaf)
+with_line line (Inside c kids inner) = Inside c kids (with_line line inner)
 
--- the rest of a line, where this is open: a blank one closes a paragraph (CommonMark 4.9)
-abbrev pub grow : Opening → Rest → Option LineEnding → Tree
-grow now rest ending =
-    if is_blank rest then tree (join (close now) (one (Blank ending))) (Lines [])
-    else tree Nil (with_line (block_line (block_codes rest) ending) now)
+-- a line of a block, by its rest
+abbrev pub rest_line : Rest → Option LineEnding → BlockLine
+rest_line rest ending = block_line (block_codes rest) ending
+
+-- indented code goes on where the rest is indented 4 columns, and may go on over a blank one (CommonMark 4.4)
+abbrev pub indented_takes : Constructs → List BlockLine → List BlockLine → Rest → Option LineEnding → Option Tree
+indented_takes on ls pending rest ending =
+    if is_blank rest then Some (tree Nil (Leaf (Indented ls (pending ++ rest_line (outdented 4 rest) ending ∷ []))))
+    else (if starts_code_indented on rest then Some (tree Nil (Leaf (Indented (ls ++ pending ++ rest_line (outdented 4 rest) ending ∷ []) [])))
+    else None)
+
+-- fenced code takes every line up to its closing fence (CommonMark 4.5)
+abbrev pub fenced_takes : Constructs → Fence → Option LineEnding → List BlockLine → Rest → Option LineEnding → Option Tree
+fenced_takes on fence opening ls rest ending =
+    if is_fence_end on fence rest then Some (tree (ended (FencedCode fence.info true ls) ending) nothing)
+    else Some (tree Nil (Leaf (Fenced fence opening (ls ++ rest_line (fence_line fence rest) ending ∷ []))))
+
+-- what an open leaf makes of a rest, where it takes it before anything else may start
+abbrev pub takes : Constructs → OpenLeaf → Rest → Option LineEnding → Option Tree
+takes on (Text ls) rest ending = None
+takes on (Indented ls pending) rest ending = indented_takes on ls pending rest ending
+takes on (Fenced fence opening ls) rest ending = fenced_takes on fence opening ls rest ending
+
+abbrev pub or_heading : Option LineEnding → Option Atx → Option Tree
+or_heading ending None = None
+or_heading ending (Some atx) = Some (tree (ended (Heading atx.rank (block_line atx.content None ∷ [])) ending) nothing)
+
+abbrev pub or_fence : Option LineEnding → Option Fence → Option Tree → Option Tree
+or_fence ending None other = other
+or_fence ending (Some fence) other = Some (tree Nil (Leaf (Fenced fence ending [])))
+
+-- the leaf that a rest begins, other than a paragraph or a break: indented code, which can't interrupt a paragraph, fenced code, or an ATX heading, in this order
+abbrev pub begins : Constructs → Bool → Rest → Option LineEnding → Option Tree
+begins on paragraph rest ending =
+    if starts_code_indented on rest && not paragraph then Some (tree Nil (Leaf (Indented (rest_line (outdented 4 rest) ending ∷ []) [])))
+    else or_fence ending (fence_start on rest) (or_heading ending (heading_atx on rest))
+
+-- what a line leaves where something new starts on it, after what it isn't in is closed
+abbrev pub after : Opening → Tree → Tree
+after away t = tree (join (close away) t.done) t.now
+
+-- a line of text goes on the open paragraph, also where it isn't in all of its containers, or starts one (CommonMark 4.8)
+abbrev pub text_line_of : Opening → Rest → Option LineEnding → Tree
+text_line_of away rest ending =
+    if has_text away then tree Nil (with_line (rest_line rest ending) away)
+    else after away (tree Nil (Leaf (Text (rest_line rest ending ∷ []))))
+
+-- a rest in which no other leaf begins: a break, or text
+abbrev pub break_or_text : Constructs → Opening → Rest → Option LineEnding → Tree
+break_or_text on away rest ending =
+    if is_break on rest then after away (tree (ended Break ending) nothing) else text_line_of away rest ending
+
+abbrev pub begun : Option Tree → Opening → Tree → Tree
+begun None away other = other
+begun (Some t) away other = after away t
+
+-- the rest of a line that starts no container, where `away` is what the line isn't in: a blank one closes it (CommonMark 4.9)
+abbrev pub leaf_line : Constructs → Opening → Rest → Option LineEnding → Tree
+leaf_line on away rest ending =
+    if is_blank rest then after away (tree (one (Blank ending)) nothing)
+    else begun (begins on (has_text away) rest ending) away (break_or_text on away rest ending)
+
+-- a container starts, or none
+abbrev pub start : Option Started → Opening → Tree → (Rest → Tree) → Tree
+start None away other more = other
+start (Some s) away other more = let t = more s.rest in after away (tree Nil (Inside s.container t.done t.now))
+
+-- the rest of a line after the containers that it is in; at most so many containers start
+abbrev pub new : ℕ → Constructs → Bool → Opening → Option LineEnding → Rest → Tree
+new zero on all away ending rest = leaf_line on away rest ending
+new (suc most) on all away ending rest =
+    start (starts on (all && has_text away) rest) away (leaf_line on away rest ending) (new most on true nothing ending)
+
+abbrev pub in_container : Container → Blocks → Tree → Tree
+in_container c kids t = tree Nil (Inside c (join kids t.done) t.now)
+
+abbrev pub is_nothing : Opening → Bool
+is_nothing (Leaf (Text [])) = true
+is_nothing now = false
+
+-- whether nothing was read in a container but a blank line
+abbrev pub is_one_blank : Blocks → Bool
+is_one_blank (Cons (Blank ending) Nil) = true
+is_one_blank kids = false
+
+abbrev pub began_blank : Blocks → Opening → Bool
+began_blank kids inner = is_one_blank kids && is_nothing inner
+
+-- a container goes on, or not
+abbrev pub goes_on : Option Rest → Constructs → Container → Blocks → Opening → Option LineEnding → Rest → (Rest → Tree) → Tree
+goes_on None on c kids inner ending rest more = new (length rest) on false (Inside c kids inner) ending rest
+goes_on (Some after) on c kids inner ending rest more = in_container c kids (more after)
+
+abbrev pub taken : Option Tree → Tree → Tree
+taken None other = other
+taken (Some t) other = t
+
+-- a line: the containers that go on, then the leaf that takes it, or what is new
+abbrev pub grow : Constructs → Option LineEnding → Opening → Rest → Tree
+grow on ending (Leaf leaf) rest = taken (takes on leaf rest ending) (new (length rest) on true (Leaf leaf) ending rest)
+grow on ending (Inside c kids inner) rest =
+    goes_on (continues on c (began_blank kids inner) rest) on c kids inner ending rest (grow on ending inner)
 
 -- one more line
-abbrev pub step : Tree → TextLine → Tree
-step t line = let more = grow t.now (whole line.content) line.ending in tree (join t.done more.done) more.now
+abbrev pub step : Constructs → Tree → TextLine → Tree
+step on t line = let more = grow on line.ending t.now (whole line.content) in tree (join t.done more.done) more.now
 
 -- the end of the text closes what is open
 abbrev pub closed : Tree → Blocks
 closed t = join t.done (close t.now)
 
 -- the children of the document, of a text without a byte order mark
-abbrev pub blocks : List ℕ → Blocks
-blocks text = closed (fold step empty_tree (lines text))
+abbrev pub blocks : Constructs → List ℕ → Blocks
+blocks on text = closed (fold (step on) empty_tree (lines text))

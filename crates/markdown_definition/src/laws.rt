@@ -1,7 +1,7 @@
 //! Laws of the definition.
 ghost use Rattle.markdown_definition.specs.Laws.{VisibleLaw};
 
-/// What stands in a page outside of tags and line endings is what the text's nonblank lines hold, trimmed, encoded and joined.
+/// Where every construct is off, what stands in a page outside of tags and line endings is what the text's nonblank lines hold, trimmed, encoded and joined.
 #[tactic(auto, using(crate::proofs::Visible::visible_law))]
 pub fn visible_law()
     ensures { VisibleLaw }

@@ -1,7 +1,9 @@
 //! The written definition of Markdown to HTML, and the rows that the tree road hands on.
 #![tactic(auto)]
 
+pub mod container;
 pub mod laws;
 pub mod row;
 
-pub use row::Row;
+pub use container::{Container, Item};
+pub use row::{Piece, Row};

@@ -1,6 +1,17 @@
 //! What the block parser hands to the printer.
 use markdown_options::LineEnding;
 
+/// A line of a block: a piece of the text.
+#[derive(Clone, Copy)]
+pub struct Piece<'a> {
+    /// The bytes of the line, after the prefixes of containers.
+    pub text: &'a str,
+    /// The columns before them that are left of a tab in which a prefix ended.
+    pub owed: u8,
+    /// The line's ending, which a text's last line may lack.
+    pub ending: Option<LineEnding>,
+}
+
 /// A block, or the end of a line that is in no block, in the order of the text.
 ///
 /// The lines of the blocks stand in a list beside the rows: each block takes its lines from the
@@ -9,6 +20,16 @@ use markdown_options::LineEnding;
 pub enum Row {
     /// A paragraph of so many lines, at least one (CommonMark 4.8).
     Paragraph(usize),
+    /// An ATX heading of a rank, from 1 to 6. Its one line is its content (CommonMark 4.2).
+    Heading(u8),
+    /// A thematic break (CommonMark 4.1).
+    Break,
+    /// Indented code of so many lines, at least one (CommonMark 4.4).
+    IndentedCode(usize),
+    /// Fenced code of so many lines, with its info as one more line before them (CommonMark 4.5).
+    FencedCode(usize),
+    /// The same where no fence closes it.
+    UnclosedCode(usize),
     /// The ending of a block's last line. The last line of a text may lack one.
     Ending(Option<LineEnding>),
     /// The ending of a blank line (CommonMark 4.9).

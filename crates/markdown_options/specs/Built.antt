@@ -2,11 +2,9 @@
 use Rattle.std.specs.Prelude.{Bool, not, ◌||◌}
 use Rattle.markdown_options.specs.declared.configuration.Constructs.{Constructs}
 
--- some of the blocks of CommonMark are on
+-- some of the blocks of CommonMark that can't be read so far are on
 abbrev pub has_blocks : Constructs → Bool
-has_blocks on =
-    on.block_quote || on.code_indented || on.code_fenced || on.definition || on.heading_atx
-    || on.heading_setext || on.html_flow || on.list_item || on.thematic_break
+has_blocks on = on.block_quote || on.definition || on.heading_setext || on.html_flow || on.list_item
 
 -- some of the inline constructs of CommonMark are on
 abbrev pub has_texts : Constructs → Bool
@@ -28,6 +26,6 @@ has_mdx on =
     on.mdx_esm || on.mdx_expression_flow || on.mdx_expression_text || on.mdx_jsx_flow
     || on.mdx_jsx_text
 
--- nothing is on that can't be read: every construct is off
+-- nothing is on that can't be read so far
 abbrev pub is_built : Constructs → Bool
 is_built on = not (has_blocks on || has_texts on || has_extensions on || has_mdx on)

@@ -157,19 +157,15 @@ impl Constructs {
         }
     }
 
-    /// Whether some of the blocks of CommonMark are on.
+    /// Whether some of the blocks of CommonMark that can't be read so far are on.
     fn has_blocks(&self) -> bool
         ensures { result ≡ has_blocks self.now }
     {
         self.block_quote
-            || self.code_indented
-            || self.code_fenced
             || self.definition
-            || self.heading_atx
             || self.heading_setext
             || self.html_flow
             || self.list_item
-            || self.thematic_break
     }
 
     /// Whether some of the inline constructs of CommonMark are on.

@@ -50,20 +50,29 @@ fn refuses_words(rt: HostRuntime) -> io::Result<()> {
 }
 
 #[test]
-fn refuses_no_words_and_two(rt: HostRuntime) -> io::Result<()> {
-    for count in [0, 2] {
-        let mut words = Vec::new(rt.alloc());
-        for _ in 0..count {
-            words.push(String::from_str(rt.alloc(), "--plain")?)?;
-        }
-        let mut reader = Watched::new(&b"a"[..]);
-        let mut writer = Watched::new(Vec::new(rt.alloc()));
-        let mut faults = Vec::new(rt.alloc());
-        let answer = program(&rt, &words, &mut reader, &mut writer, &mut faults);
-        assert_eq!(rt; answer, 2);
-        assert!(rt; writer.into_inner().is_empty());
+fn refuses_two_words(rt: HostRuntime) -> io::Result<()> {
+    let mut words = Vec::new(rt.alloc());
+    for _ in 0..2 {
+        words.push(String::from_str(rt.alloc(), "--plain")?)?;
     }
+    let mut reader = Watched::new(&b"a"[..]);
+    let mut writer = Watched::new(Vec::new(rt.alloc()));
+    let mut faults = Vec::new(rt.alloc());
+    let answer = program(&rt, &words, &mut reader, &mut writer, &mut faults);
+    assert_eq!(rt; answer, 2);
+    assert!(rt; writer.into_inner().is_empty());
     Ok(())
+}
+
+#[test]
+fn reads_default_constructs_without_words(rt: HostRuntime) {
+    let mut reader = Watched::new(&b"# a\n***\n```\nb\n```\n"[..]);
+    let mut writer = Watched::new(Vec::new(rt.alloc()));
+    let mut faults = Vec::new(rt.alloc());
+    let answer = program(&rt, &[], &mut reader, &mut writer, &mut faults);
+    assert_eq!(rt; answer, 0);
+    let want = b"<h1>a</h1>\n<hr />\n<pre><code>b\n</code></pre>\n";
+    assert_eq!(rt; writer.into_inner().as_slice(), want.as_slice());
 }
 
 #[test]
@@ -90,8 +99,8 @@ fn complains_of_devices(rt: HostRuntime) -> io::Result<()> {
 #[test]
 fn keeps_the_status_where_a_fault_cannot_be_printed(rt: HostRuntime) {
     let mut faults = Short::new(Vec::new(rt.alloc()), 1, 0);
-    let mut reader = Watched::new(&b"a"[..]);
+    let mut reader = Watched::new(&b"\xFF"[..]);
     let mut writer = Watched::new(Vec::new(rt.alloc()));
     let answer = program(&rt, &[], &mut reader, &mut writer, &mut faults);
-    assert_eq!(rt; answer, 2);
+    assert_eq!(rt; answer, 1);
 }

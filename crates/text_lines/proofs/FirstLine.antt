@@ -103,3 +103,10 @@ first_line_is [] after (Some CarriageReturnLineFeed) rest e h = let wrong : [] �
 first_line_is [] after (Some CarriageReturn) rest e h = let wrong : [] ≡ 13 ∷ rest = sym e ∙ h.0 in cc
 first_line_is [] after (Some LineFeed) rest e h = let wrong : [] ≡ 10 ∷ rest = sym e ∙ h in cc
 first_line_is (b ∷ bs) after ending rest e h = ap first_of (next_lines (b ∷ bs) after ending rest (omega arith) e h)
+
+-- what follows an ending is no longer than what it is in
+pub shorter_rest : (text : List ℕ) (ending : Option LineEnding) (rest : List ℕ) → BeginsWithEnding text ending rest → length rest ≤ length text
+shorter_rest text None rest h = let e = ap length h.0 in omega arith
+shorter_rest text (Some CarriageReturnLineFeed) rest h = let e = ap length h in omega arith
+shorter_rest text (Some CarriageReturn) rest h = let e = ap length h.0 in omega arith
+shorter_rest text (Some LineFeed) rest h = let e = ap length h in omega arith

@@ -2,10 +2,9 @@
 //!
 //!     line   ::= content ending?
 //!     ending ::= CR LF | CR | LF
-ghost use Rattle.std.specs.Prelude.{◌≡◌, ◌<◌, ◌∷◌, length, drop, take, Some, None};
+ghost use Rattle.std.specs.Prelude.{◌≡◌, ◌<◌, ◌≤◌, ◌^◌, ◌∷◌, length, drop, take, Some, None};
 ghost use Rattle.std.specs.List.{position_or_len};
 ghost use Rattle.markdown_definition.specs.Lines.{ends_line, lines, first_line, text_line};
-ghost use Rattle.markdown_definition.specs.Columns.{block_codes, whole};
 ghost use Rattle.text_lines.specs.Endings.{BeginsWithEnding};
 
 use markdown_options::LineEnding;
@@ -13,18 +12,16 @@ use markdown_options::LineEnding;
 /// A line: its content, and its ending, which a text's last line may lack.
 #[derive(Clone, Copy)]
 pub struct Line<'a> {
-    /// The text from this line on.
-    pub from: &'a str,
     pub content: &'a str,
     pub ending: Option<LineEnding>,
-    pub ghost first: { first_line from.now ≡ text_line content.now ending },
-    pub ghost codes: { block_codes (whole content.now) ≡ content.now },
+    pub ghost fits: { length content.now < 2 ^ 61 },
 }
 
 /// The lines of what is left of a text.
 #[derive(Clone, Copy)]
 pub struct Lines<'a> {
     rest: &'a str,
+    ghost fits: { length rest.now < 2 ^ 61 },
 }
 
 impl<'a> Lines<'a> {
@@ -33,6 +30,7 @@ impl<'a> Lines<'a> {
 
     /// The lines of a text.
     pub fn new(text: &'a str) -> Lines<'a>
+        requires { length text.now < 2 ^ 61 }
         ensures { rest_lines result ≡ lines text.now }
     {
         Lines { rest: text }
@@ -40,6 +38,7 @@ impl<'a> Lines<'a> {
 
     /// The first line. The empty text begins with an empty line.
     pub fn first(text: &'a str) -> Line<'a>
+        requires { length text.now < 2 ^ 61 }
         ensures { text_line result.content.now result.ending ≡ first_line text.now }
     {
         let (line, _) = split_first(text);
@@ -69,19 +68,14 @@ impl<'a> Iterator for Lines<'a> {
 
 /// The first line, and what follows it. The empty text begins with an empty line.
 fn split_first(text: &str) -> (Line<'_>, &str)
-    ensures from { result.0.from.now ≡ text.now }
+    requires { length text.now < 2 ^ 61 }
+    ensures first { text_line result.0.content.now result.0.ending ≡ first_line text.now }
+    ensures shorter { length result.1.now ≤ length text.now }
     ensures rest { 0 < length text.now → lines text.now ≡ text_line result.0.content.now result.0.ending ∷ lines result.1.now }
 {
     let (content, after) = split_content(text);
     let (ending, rest) = split_ending(after);
-    (
-        Line {
-            from: text,
-            content,
-            ending,
-        },
-        rest,
-    )
+    (Line { content, ending }, rest)
 }
 
 /// The bytes before the first CR or LF, and what follows them.

@@ -1,3 +1,7 @@
 pub mod Encoding
-pub mod TextLines
+pub mod Owed
+pub mod Lines
+pub mod Fenced
 pub mod RowSteps
+pub mod RowsOf
+pub mod Printable

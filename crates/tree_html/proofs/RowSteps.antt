@@ -1,31 +1,22 @@
 -- One more row.
-use Rattle.std.proofs.Common.{◌≡◌, ℕ, ◌+◌, ◌<◌, List, [], ◌∷◌, ◌++◌, ap, ◌∙◌, take, drop, get_or, length}
+use Rattle.std.proofs.Common.{◌≡◌, ℕ, ◌+◌, ◌<◌, List, [], ◌∷◌, ◌++◌, false, ap, sym, ◌∙◌, subst, take, drop, get_or, length}
 use Rattle.std.specs.Prelude.{map}
-use Rattle.std.specs.List.{fold, flat_map, drop-map}
-use Rattle.std.proofs.lemmas.List.{append-nil, drop-drop}
-use Rattle.std.proofs.lemmas.List.Concat.{flat_map-append}
-use Rattle.std.proofs.lemmas.List.Sums.{fold_more, fold-append, sum_by-drop_more}
+use Rattle.std.specs.List.{fold, All}
+use Rattle.std.proofs.lemmas.List.{append-nil, append_assoc, drop-drop, drop-map, drop_more, take-append-drop}
+use Rattle.std.proofs.lemmas.List.Elements.{All-head, All-tail}
+use Rattle.std.proofs.lemmas.List.Sums.{fold_more, fold_push, fold-append, sum_by-drop_more}
 use Rattle.markdown_definition.specs.declared.row.Row.{Row}
-use Rattle.markdown_definition.specs.Tree.{Block, BlockLine}
-use Rattle.markdown_definition.specs.Pieces.{print, layout}
-use Rattle.markdown_definition.specs.Html.{block_pieces}
-use Rattle.markdown_definition.specs.Rows.{BlockRow, Single, row_pieces, Shown, shown, shown_as, show_row, lines_taken, all_taken}
+use Rattle.markdown_definition.specs.Tree.{BlockLine}
+use Rattle.markdown_definition.specs.Rows.{BlockRow, Single, Shown, shown, shown_as, show_row, block_shown, lines_taken, all_taken}
+use Rattle.tree_html.specs.RowPieces.{IsPrintable, IsPrintableRow, ArePrintable, printed, printed_as, print_row}
 
 pub shown_more : (rows : List Row) (ls : List BlockLine) (i : ℕ) (d : Row) → i < length rows
     → shown (take (i + 1) rows) ls ≡ show_row (shown (take i rows) ls) (get_or rows i d)
 shown_more rows ls i d lt = fold_more show_row (shown_as [] ls) rows i d lt
 
--- what is printed of the rows
-abbrev pub printed_rows : List ℕ → Shown → List ℕ
-printed_rows default s = layout default (flat_map row_pieces s.rows)
-
 -- a block is printed after those before it
-pub block_printed : (default : List ℕ) (rows : List BlockRow) (b : Block)
-    → layout default (flat_map row_pieces (rows ++ Single b ∷ [])) ≡ fold (print default) (layout default (flat_map row_pieces rows)) (block_pieces b)
-block_printed default rows b =
-    ap (layout default) (flat_map-append row_pieces rows (Single b ∷ []))
-    ∙ fold-append (print default) [] (flat_map row_pieces rows) (flat_map row_pieces (Single b ∷ []))
-    ∙ ap (fold (print default) (layout default (flat_map row_pieces rows))) (append-nil (block_pieces b))
+pub printed_more : (default : List ℕ) (rows : List BlockRow) (row : BlockRow) → printed default (rows ++ row ∷ []) ≡ print_row default (printed default rows) row
+printed_more default rows row = fold_push (print_row default) (printed_as [] false) rows row
 
 -- the lines that a row takes, and those of the rows after it
 pub taken_more : (rows : List Row) (i : ℕ) (d : Row) → i < length rows → all_taken (drop i rows) ≡ lines_taken (get_or rows i d) + all_taken (drop (i + 1) rows)
@@ -34,3 +25,35 @@ taken_more rows i d lt = sum_by-drop_more lines_taken rows i d lt
 -- the lines that a row leaves
 pub left_more : {X : Type 0} (f : X → BlockLine) (n taken : ℕ) (lines : List X) → drop n (map f (drop taken lines)) ≡ map f (drop (taken + n) lines)
 left_more f n taken lines = drop-map f n (drop taken lines) ∙ ap (map f) (drop-drop n taken lines)
+
+-- ---- a row that is shown
+
+-- the rows that are shown already stay
+shown_after : (s : Shown) (rows : List Row) → (fold show_row s rows).rows ≡ s.rows ++ (fold show_row (shown_as [] s.left) rows).rows
+shown_after s [] = sym (append-nil s.rows)
+shown_after s (r ∷ rs) =
+    let b = Single (block_shown r s.left) in
+    let left = drop (lines_taken r) s.left in
+    shown_after (show_row s r) rs
+    ∙ append_assoc s.rows (b ∷ []) (fold show_row (shown_as [] left) rs).rows
+    ∙ ap (λ x. s.rows ++ x) (sym (shown_after (show_row (shown_as [] s.left) r) rs))
+
+all_at : {X : Type 0} (P : X → Type 0) (xs : List X) (y : X) (ys : List X) → All P (xs ++ y ∷ ys) → P y
+all_at P [] y ys h = All-head P y ys h
+all_at P (x ∷ xs) y ys h = all_at P xs y ys (All-tail P x (xs ++ y ∷ ys) h)
+
+-- each row that is shown can be printed
+pub printable_at : (rows : List Row) (ls : List BlockLine) (i : ℕ) (d : Row) → i < length rows → ArePrintable (shown rows ls).rows
+    → IsPrintable (block_shown (get_or rows i d) (shown (take i rows) ls).left)
+printable_at rows ls i d lt h =
+    let so_far = shown (take i rows) ls in
+    let row = get_or rows i d in
+    let b = Single (block_shown row so_far.left) in
+    let others = (fold show_row (shown_as [] (drop (lines_taken row) so_far.left)) (drop (i + 1) rows)).rows in
+    let split : (shown rows ls).rows ≡ so_far.rows ++ b ∷ others =
+    ap (λ rs. (shown rs ls).rows) (sym (take-append-drop i rows))
+    ∙ ap (λ (s : Shown). s.rows) (fold-append show_row (shown_as [] ls) (take i rows) (drop i rows))
+    ∙ ap (λ rs. (fold show_row so_far rs).rows) (drop_more rows i d lt)
+    ∙ shown_after (show_row so_far row) (drop (i + 1) rows)
+    ∙ append_assoc so_far.rows (b ∷ []) others in
+    all_at IsPrintableRow so_far.rows b others (subst ArePrintable split h)

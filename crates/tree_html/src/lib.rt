@@ -1,7 +1,9 @@
 //! Blocks to HTML.
 #![tactic(auto)]
 
+pub mod code;
 pub mod encode;
+pub mod heading;
 pub mod page;
 
 pub use encode::push_encoded;

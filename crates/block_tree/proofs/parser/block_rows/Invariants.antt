@@ -7,4 +7,4 @@ use Rattle.block_tree.proofs.parser.block_rows.Given as goal
 
 -- the lines so far were read
 abbrev pub invariant-loop-line : goal.invariant-loop-line
-invariant-loop-line g l = HasRead l.parser (fold step empty_tree (map view_line l.yielded))
+invariant-loop-line g l = HasRead l.parser (fold (step l.on) empty_tree (map view_line l.yielded))

@@ -1,19 +1,39 @@
-use Rattle.std.proofs.Common.{◌≡◌, ◌++◌, ◌∷◌, [], ◌∙◌, sym, ap, subst, arith, List}
-use Rattle.std.proofs.lemmas.List.{length-map, map-append}
-use Rattle.markdown_definition.specs.Tree.{BlockLine, block_line, tree, with_line}
-use Rattle.markdown_definition.specs.Rows.{pool_lines, pool_line, line_in_block}
-use Rattle.block_tree.specs.Shows.{Shows}
-use Rattle.block_tree.proofs.Steps.{with_text_line}
+use Rattle.std.proofs.Common.{◌≡◌, ◌-◌, ◌+◌, ◌<◌, ◌++◌, ◌∷◌, [], List, None, Some, true, false, not, ◌&&◌, sym, ap, ◌∙◌, subst, refl, length, arith, ltb}
+use Rattle.std.proofs.lemmas.List.{length-map}
+use Rattle.std.proofs.lemmas.Result.{on_ok_weaker}
+use Rattle.markdown_definition.specs.declared.row.Row.{Row}
+use Rattle.markdown_definition.specs.declared.row.Row.TheVariants as row
+use Rattle.markdown_definition.specs.Columns.{Rest}
+use Rattle.markdown_definition.specs.Indents.{outdented}
+use Rattle.markdown_definition.specs.CodeFenced.{fence_line}
+use Rattle.markdown_definition.specs.Lines.{text_line}
+use Rattle.markdown_definition.specs.Tree.{BlockLine, block_line, Blocks, Paragraph, Heading, Break, FencedCode, Blank, Tree, tree, nothing, one, ended, join, Opening, OpenLeaf, Text, Indented, Fenced, Leaf, rest_line, closed, after, has_text, with_line, Nil, last_ending, last_ending_or}
+use Rattle.markdown_definition.specs.Rows.{piece_lines, piece_line}
+use Rattle.block_lines.specs.View.{rest_of}
+use Rattle.block_lines.specs.Fences.{fence_view}
+use Rattle.block_tree.specs.Shows.{Shows, ShowsTree, InText, InIndented, InFenced}
+use Rattle.block_tree.specs.Leaves.{leaf_state}
+use Rattle.block_tree.specs.View.{HasRead, with_more, leaf_step, closed_tree}
+use Rattle.block_tree.proofs.Leaves as leaves
+use Rattle.block_tree.proofs.Steps as steps
+use Rattle.block_tree.proofs.Shown.{piece_pushed, join-nil, join-assoc}
 use Rattle.block_tree.proofs.parser.Parser.text_line.Goals as goal
 
-pub returns : goal.returns
-returns g c = λ t h.
+pub returns-then-has_text : goal.returns-then-has_text
+returns-then-has_text g c =
     let p = c.args.self.now in
-    let line = block_line c.args.line.content.now c.args.line.ending in
-    let old = pool_lines p.lines.items in
-    let long = length-map p.lines.items pool_line in
-    let pool : pool_lines c.push.new.self.items ≡ old ++ line ∷ [] =
-    ap pool_lines c.in_ok-push.ensures.items ∙ map-append pool_line p.lines.items (c.args.line.from ∷ [])
-    ∙ ap (λ l. old ++ l ∷ []) (ap line_in_block c.args.line.first) in
-    subst (λ (ls : List BlockLine). Shows p.rows.items ls c.args.line.ending (tree t.done (with_line line t.now))) (sym pool)
-    (with_text_line p.rows.items old p.last_ending t line (omega (arith, long, p.counted, p.enough, p.lines.ok.0)) h)
+    let q = c.more_text.new.self in
+    on_ok_weaker c.more_text.result
+    (λ k. λ t h.
+    steps.text_goes_on p.rows.items q.rows.items (piece_lines p.pieces.items) (piece_lines q.pieces.items) (leaf_state p.leaf) (leaf_state q.leaf)
+    (rest_of c.args.rest) c.args.ending k t h (sym (c.has_text.ensures t h) ∙ c.if-has_text.true))
+    c.more_text.ensures
+
+pub returns : goal.returns
+returns g c =
+    let q = c.more_text-2.new.self in
+    on_ok_weaker c.more_text-2.result
+    (λ k. λ t h.
+    steps.text_starts q.rows.items (piece_lines q.pieces.items) (leaf_state q.leaf) t (rest_of c.args.rest) c.args.ending
+    (k [] (closed t) (c.in_ok-close.ensures t h)) (sym (c.has_text.ensures t h) ∙ c.if-has_text.false))
+    c.more_text-2.ensures

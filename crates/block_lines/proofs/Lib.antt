@@ -1,0 +1,3 @@
+pub mod White
+pub mod Views
+pub mod Items

@@ -1,0 +1,192 @@
+-- What cursors stand for.
+use Rattle.std.proofs.Common.{◌≡◌, ℕ, ◌+◌, ◌-◌, ◌*◌, ◌<◌, ◌≤◌, suc, zero, List, [], ◌∷◌, ◌++◌, true, false, inl, inr, eqb, leb, refl, sym, ap, ◌∙◌, length, get_or, replicate, take, drop, min, arith}
+use Rattle.std.specs.List.{list_all, prefix_len}
+use Rattle.std.proofs.lemmas.List.{length-replicate, take_at, drop-replicate}
+use Rattle.std.proofs.lemmas.Bool.{cases_Bool, cond-true, cond-false, eqb-true, ne_eqb, and_parts, and_left, and_right, leb-true, lt-leb}
+use Rattle.markdown_definition.specs.Columns.{Rest, codes_from, whole, is_white, is_blank, indent, bytes_of, block_codes, is_tab_column, tab_column}
+use Rattle.markdown_definition.specs.Indents.{outdented}
+use Rattle.markdown_definition.specs.ListItem.{is_digit}
+use Rattle.text_lines.proofs.Codes.{blank_codes_from, bytes_of_codes}
+use Rattle.block_lines.specs.Marks.{NoMark, is_mark}
+use Rattle.block_lines.specs.declared.cursor.Cursor.{Cursor}
+use Rattle.block_lines.specs.View.{rest_of}
+use Rattle.block_lines.proofs.White.{indent_front, indent_bound, white_columns, count_within, outdented_within, count_front, outdented_front}
+
+-- ---- the parts of a view
+
+abbrev pub view : ℕ → ℕ → List ℕ → Rest
+view owed column bs = replicate owed tab_column ++ codes_from column bs
+
+all_white : (n : ℕ) (rest : List ℕ) → list_all is_white (replicate n tab_column ++ rest) ≡ list_all is_white rest
+all_white zero rest = refl
+all_white (suc n) rest = all_white n rest
+
+no_bytes : (n : ℕ) (rest : List ℕ) → bytes_of (replicate n tab_column ++ rest) ≡ bytes_of rest
+no_bytes zero rest = refl
+no_bytes (suc n) rest = no_bytes n rest
+
+first_code : (column b : ℕ) (bs : List ℕ) → get_or (codes_from column (b ∷ bs)) 0 0 ≡ b
+first_code column b bs =
+    elim (cases_Bool (eqb b 9)) [
+      | inl h ↦ ap (λ r. get_or r 0 0) (cond-true (eqb b 9) _ _ h) ∙ sym (eqb-true b 9 h)
+      | inr h ↦ ap (λ r. get_or r 0 0) (cond-false (eqb b 9) _ _ h)
+    ]
+
+no_columns : (column : ℕ) (bs : List ℕ) → ((k : ℕ) → get_or bs k 0 < 256) → prefix_len is_tab_column (codes_from column bs) ≡ 0
+no_columns column [] h = refl
+no_columns column (b ∷ bs) h =
+    elim (cases_Bool (eqb b 9)) [
+      | inl e ↦ ap (prefix_len is_tab_column) (cond-true (eqb b 9) _ _ e)
+      | inr e ↦ ap (prefix_len is_tab_column) (cond-false (eqb b 9) _ _ e) ∙ cond-false (is_tab_column b) _ _ (ne_eqb b 256 (λ f. let lt = h 0 in omega arith))
+    ]
+
+owed_parts : (owed : ℕ) (rest : Rest) → prefix_len is_tab_column rest ≡ 0 → prefix_len is_tab_column (replicate owed tab_column ++ rest) ≡ owed
+owed_parts zero rest h = h
+owed_parts (suc owed) rest h = let e = owed_parts owed rest h in omega (arith, e)
+
+pub view_none : (owed column : ℕ) (bs : List ℕ) → owed ≤ 0 → view owed column bs ≡ codes_from column bs
+view_none owed column bs none = let e : owed ≡ 0 = omega arith in ap (λ n. view n column bs) e
+
+-- ---- what a cursor holds
+
+pub blank_view : (c : Cursor) → is_blank (rest_of c) ≡ is_blank (whole c.text.now)
+unfolding rest_of
+blank_view c = all_white c.owed (codes_from c.column c.text.now) ∙ blank_codes_from c.column c.text.now ∙ sym (blank_codes_from 0 c.text.now)
+
+pub bytes_view : (c : Cursor) → ((k : ℕ) → get_or c.text.now k 0 < 256) → bytes_of (rest_of c) ≡ c.text.now
+unfolding rest_of
+bytes_view c bytes = no_bytes c.owed (codes_from c.column c.text.now) ∙ bytes_of_codes c.column c.text.now bytes
+
+pub owed_view : (c : Cursor) → ((k : ℕ) → get_or c.text.now k 0 < 256) → prefix_len is_tab_column (rest_of c) ≡ c.owed
+unfolding rest_of
+owed_view c bytes = owed_parts c.owed (codes_from c.column c.text.now) (no_columns c.column c.text.now bytes)
+
+pub codes_view : (c : Cursor) → ((k : ℕ) → get_or c.text.now k 0 < 256) → block_codes (rest_of c) ≡ replicate c.owed tab_column ++ bytes_of (rest_of c)
+unfolding rest_of
+codes_view c bytes =
+    ap (λ n. take n (rest_of c) ++ bytes_of (rest_of c)) (owed_view c bytes)
+    ∙ ap (λ front. front ++ bytes_of (rest_of c)) (take_at (replicate c.owed tab_column) (codes_from c.column c.text.now) c.owed (length-replicate c.owed tab_column))
+
+pub bound_view : (c : Cursor) → indent (rest_of c) ≤ c.owed + 4 * length c.text.now
+unfolding rest_of
+bound_view c =
+    let e = indent_front (replicate c.owed tab_column) (codes_from c.column c.text.now) (white_columns c.owed) in
+    let b = indent_bound c.column c.text.now in
+    let n = length-replicate c.owed tab_column in
+    omega arith
+
+-- ---- columns that are skipped
+
+pub count_owed : (owed column : ℕ) (bs : List ℕ) (most : ℕ) → most < owed → most ≡ min most (indent (view owed column bs))
+count_owed owed column bs most lt =
+    let n = length-replicate owed tab_column in
+    let le : most ≤ length (replicate owed tab_column) = omega arith in
+    sym (count_within most (replicate owed tab_column) (codes_from column bs) (white_columns owed) le)
+
+pub outdented_owed : (owed column : ℕ) (bs : List ℕ) (most : ℕ) → most < owed → view (owed - most) column bs ≡ outdented most (view owed column bs)
+outdented_owed owed column bs most lt =
+    let n = length-replicate owed tab_column in
+    let le : most ≤ length (replicate owed tab_column) = omega arith in
+    sym (outdented_within most (replicate owed tab_column) (codes_from column bs) (white_columns owed) le
+    ∙ ap (λ c. c ++ codes_from column bs) (drop-replicate most owed tab_column))
+
+pub count_past : (owed column : ℕ) (bs : List ℕ) (most count : ℕ) → owed ≤ most → count ≡ min (most - owed) (indent (codes_from column bs))
+    → owed + count ≡ min most (indent (view owed column bs))
+count_past owed column bs most count le e =
+    let n = length-replicate owed tab_column in
+    let fits : length (replicate owed tab_column) ≤ most = omega arith in
+    let f = count_front most (replicate owed tab_column) (codes_from column bs) (white_columns owed) fits in
+    omega (arith, f)
+
+pub outdented_past : (owed column : ℕ) (bs : List ℕ) (most : ℕ) (rest : Rest) → owed ≤ most → rest ≡ outdented (most - owed) (codes_from column bs)
+    → rest ≡ outdented most (view owed column bs)
+outdented_past owed column bs most rest le e =
+    let n = length-replicate owed tab_column in
+    let fits : length (replicate owed tab_column) ≤ most = omega arith in
+    e ∙ sym (outdented_front most (replicate owed tab_column) (codes_from column bs) (white_columns owed) fits
+    ∙ ap (λ k. outdented (most - k) (codes_from column bs)) n)
+
+-- ---- the first byte
+
+no_mark : (rest : Rest) → ((code : ℕ) → get_or rest 0 0 ≡ code → is_mark code ≡ false) → NoMark rest
+no_mark rest h code codes e = h code (ap (λ r. get_or r 0 0) e)
+
+pub no_mark_owed : (owed column : ℕ) (bs : List ℕ) → 0 < owed → NoMark (view owed column bs)
+no_mark_owed zero column bs some = absurd (omega arith)
+no_mark_owed (suc owed) column bs some = no_mark (view (suc owed) column bs) (λ code e. ap is_mark (sym e))
+
+pub no_mark_nothing : (column : ℕ) (bs : List ℕ) → length bs ≡ 0 → NoMark (codes_from column bs)
+no_mark_nothing column [] none = no_mark [] (λ code e. ap is_mark (sym e))
+no_mark_nothing column (b ∷ bs) none = absurd (omega arith)
+
+pub no_mark_byte : (column : ℕ) (bs : List ℕ) → 0 < length bs → is_mark (get_or bs 0 0) ≡ false → NoMark (codes_from column bs)
+no_mark_byte column [] some h = absurd (omega arith)
+no_mark_byte column (b ∷ bs) some h = no_mark (codes_from column (b ∷ bs)) (λ code e. ap is_mark (sym e ∙ first_code column b bs) ∙ h)
+
+pub mark_first : (column : ℕ) (bs : List ℕ) → 0 < length bs → 32 < get_or bs 0 0 → codes_from column bs ≡ get_or bs 0 0 ∷ codes_from (column + 1) (drop 1 bs)
+mark_first column [] some high = absurd (omega arith)
+mark_first column (b ∷ bs) some high = cond-false (eqb b 9) _ _ (ne_eqb b 9 (λ e. omega arith))
+
+pub low_is_no_mark : (b : ℕ) → b ≤ 32 → is_mark b ≡ false
+low_is_no_mark b le = and_left (leb 33 b) (leb b 127) (lt-leb 33 b (omega arith))
+
+pub high_is_no_mark : (b : ℕ) → 128 ≤ b → is_mark b ≡ false
+high_is_no_mark b le = and_right (leb 33 b) (leb b 127) (lt-leb b 127 (omega arith))
+
+-- ---- digits
+
+pub no_digits_owed : (owed column : ℕ) (bs : List ℕ) → 0 < owed → prefix_len is_digit (view owed column bs) ≡ 0
+no_digits_owed zero column bs some = absurd (omega arith)
+no_digits_owed (suc owed) column bs some = refl
+
+digit_is_no_tab : (b : ℕ) → is_digit b ≡ true → eqb b 9 ≡ false
+digit_is_no_tab b h = ne_eqb b 9 (λ e. let f : is_digit 9 ≡ true = ap is_digit (sym e) ∙ h in cc)
+
+pub digits_codes : (column : ℕ) (bs : List ℕ) → prefix_len is_digit (codes_from column bs) ≡ prefix_len is_digit bs
+digits_codes column [] = refl
+digits_codes column (b ∷ bs) =
+    elim (cases_Bool (is_digit b)) [
+      | inl h ↦
+          ap (prefix_len is_digit) (cond-false (eqb b 9) _ _ (digit_is_no_tab b h))
+          ∙ cond-true (is_digit b) (1 + prefix_len is_digit (codes_from (column + 1) bs)) 0 h
+          ∙ ap (λ n. 1 + n) (digits_codes (column + 1) bs)
+          ∙ sym (cond-true (is_digit b) (1 + prefix_len is_digit bs) 0 h)
+      | inr h ↦
+          elim (cases_Bool (eqb b 9)) [
+            | inl e ↦ ap (prefix_len is_digit) (cond-true (eqb b 9) _ _ e) ∙ sym (cond-false (is_digit b) (1 + prefix_len is_digit bs) 0 h)
+            | inr e ↦
+                ap (prefix_len is_digit) (cond-false (eqb b 9) _ _ e)
+                ∙ cond-false (is_digit b) (1 + prefix_len is_digit (codes_from (column + 1) bs)) 0 h
+                ∙ sym (cond-false (is_digit b) (1 + prefix_len is_digit bs) 0 h)
+          ]
+    ]
+
+-- a front of digits has the same codes
+pub front_of_digits : (n column : ℕ) (bs : List ℕ) → n ≤ prefix_len is_digit bs
+    → (take n (codes_from column bs) ≡ take n bs) × (drop n (codes_from column bs) ≡ codes_from (column + n) (drop n bs))
+front_of_digits zero column bs le = let e : column ≡ column + 0 = omega arith in (refl, ap (λ k. codes_from k bs) e)
+front_of_digits (suc n) column [] le = (refl, refl)
+front_of_digits (suc n) column (b ∷ bs) le =
+    elim (cases_Bool (is_digit b)) [
+      | inl h ↦
+          let e = cond-true (is_digit b) (1 + prefix_len is_digit bs) 0 h in
+          let less : n ≤ prefix_len is_digit bs = omega arith in
+          let first : codes_from column (b ∷ bs) ≡ b ∷ codes_from (column + 1) bs = cond-false (eqb b 9) _ _ (digit_is_no_tab b h) in
+          let more = front_of_digits n (column + 1) bs less in
+          let at : column + 1 + n ≡ column + suc n = omega arith in
+          (ap (take (suc n)) first ∙ ap (λ r. b ∷ r) more.0, ap (drop (suc n)) first ∙ more.1 ∙ ap (λ k. codes_from k (drop n bs)) at)
+      | inr h ↦ let e = cond-false (is_digit b) (1 + prefix_len is_digit bs) 0 h in absurd (omega arith)
+    ]
+
+pub digit_ascii : (b : ℕ) → is_digit b ≡ true → b < 128
+digit_ascii b h = let parts = and_parts (leb 48 b) (leb b 57) h in let le = leb-true b 57 parts.1 in omega arith
+
+-- the digits that a text without columns left of a tab begins with
+pub digits_taken : (column : ℕ) (bs : List ℕ) → take (prefix_len is_digit bs) bs ≡ take (prefix_len is_digit (codes_from column bs)) (codes_from column bs)
+digits_taken column bs =
+    sym (ap (λ n. take n (codes_from column bs)) (digits_codes column bs) ∙ (front_of_digits (prefix_len is_digit bs) column bs (omega arith)).0)
+
+pub digits_dropped : (column : ℕ) (bs : List ℕ) → codes_from (column + prefix_len is_digit bs) (drop (prefix_len is_digit bs) bs)
+    ≡ drop (prefix_len is_digit (codes_from column bs)) (codes_from column bs)
+digits_dropped column bs =
+    sym (ap (λ n. drop n (codes_from column bs)) (digits_codes column bs) ∙ (front_of_digits (prefix_len is_digit bs) column bs (omega arith)).1)

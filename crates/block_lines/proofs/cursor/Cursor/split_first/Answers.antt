@@ -1,0 +1,56 @@
+use Rattle.std.proofs.Common.{◌<◌, ◌+◌, ◌∷◌, length, get_or, drop, sym, ap, ◌∙◌, subst, arith}
+use Rattle.std.specs.Str.{IsUtf8}
+use Rattle.std.proofs.lemmas.Bool.{eqb-true, eqb-false}
+use Rattle.std.proofs.lemmas.Str.{IsCharBoundary-after_ascii}
+use Rattle.markdown_definition.specs.Columns.{codes_from}
+use Rattle.block_lines.specs.View.{rest_of}
+use Rattle.block_lines.specs.Marks.{NoMark}
+use Rattle.block_lines.proofs.Views.{no_mark_owed, no_mark_nothing, no_mark_byte, low_is_no_mark, high_is_no_mark, mark_first, view_none}
+use Rattle.block_lines.proofs.cursor.Cursor.split_first.Goals as goal
+use Rattle.block_lines.proofs.cursor.Cursor.split_first.Goals.{then-self-gt0-via-then-self-gt0, then-self-gt0-via-else-self-gt0+then-is_empty, then-byte-le32-via-then-byte-le32, then-byte-le32-via-else-byte-le32+then-byte-ge128}
+
+pub returns-then-self-gt0 : goal.returns-then-self-gt0
+unfolding rest_of
+returns-then-self-gt0 c =
+    let s = c.args.self in
+    let t = s.text.now in
+    elim c.then-self-gt0.branch [
+      | then-self-gt0-via-then-self-gt0 w ↦ no_mark_owed s.owed s.column t w.if-self-gt0.true
+      | then-self-gt0-via-else-self-gt0+then-is_empty w ↦
+          let none = eqb-true (length t) 0 (sym w.is_empty.ensures ∙ w.if-is_empty.true) in
+          subst NoMark (sym (view_none s.owed s.column t w.if-self-gt0.false)) (no_mark_nothing s.column t none)
+    ]
+
+pub returns-then-byte-le32 : goal.returns-then-byte-le32
+unfolding rest_of
+returns-then-byte-le32 c =
+    let s = c.args.self in
+    let t = s.text.now in
+    let some : 0 < length t = omega (arith, eqb-false (length t) 0 (sym c.is_empty.ensures ∙ c.if-is_empty.false)) in
+    let b = get_or t 0 0 in
+    let same = ap (λ bs. get_or bs 0 0) c.as_bytes.ensures.value in
+    subst NoMark (sym (view_none s.owed s.column t c.if-self-gt0.false))
+    (no_mark_byte s.column t some (elim c.then-byte-le32.branch [
+      | then-byte-le32-via-then-byte-le32 w ↦ low_is_no_mark b (omega (arith, same, w.if-byte-le32.true))
+      | then-byte-le32-via-else-byte-le32+then-byte-ge128 w ↦ high_is_no_mark b (omega (arith, same, w.if-byte-ge128.true))
+    ]))
+
+pub range_from-requires : goal.range_from-requires
+range_from-requires c =
+    let t = c.args.self.text.now in
+    let some : 0 < length t = omega (arith, eqb-false (length t) 0 (sym c.is_empty.ensures ∙ c.if-is_empty.false)) in
+    let same = ap (λ bs. get_or bs 0 0) c.as_bytes.ensures.value in
+    let utf8 = subst IsUtf8 c.as_bytes.ensures.value c.as_bytes.ensures.utf8 in
+    λ pos. IsCharBoundary-after_ascii t 0 utf8 some (omega (arith, same, c.if-byte-ge128.false))
+
+pub returns : goal.returns
+unfolding rest_of
+returns c =
+    let s = c.args.self in
+    let t = s.text.now in
+    let some : 0 < length t = omega (arith, eqb-false (length t) 0 (sym c.is_empty.ensures ∙ c.if-is_empty.false)) in
+    let same = ap (λ bs. get_or bs 0 0) c.as_bytes.ensures.value in
+    view_none s.owed s.column t c.if-self-gt0.false
+    ∙ mark_first s.column t some (omega (arith, same, c.if-byte-le32.false))
+    ∙ ap (λ b. b ∷ codes_from (s.column + 1) (drop 1 t)) (sym same)
+    ∙ ap (λ r. get_or c.as_bytes.result.now 0 0 ∷ codes_from (s.column + 1) r) (sym c.range_from.ensures.value)

@@ -1,0 +1,5 @@
+pub mod Marks
+pub mod View
+pub mod Markers
+pub mod Headings
+pub mod Fences

@@ -1,0 +1,16 @@
+//! Indented code (CommonMark 4.4).
+//!
+//!     start ::= column_of_space{4,}
+ghost use Rattle.std.specs.Prelude.{◌≡◌};
+ghost use Rattle.markdown_definition.specs.CodeIndented.{starts_code_indented as starts_code};
+ghost use Rattle.block_lines.specs.View.{rest_of};
+
+use crate::cursor::Cursor;
+use markdown_options::Constructs;
+
+/// Whether the line has the indent of code.
+pub fn starts_code_indented(on: &Constructs, rest: Cursor<'_>) -> bool
+    ensures { result ≡ starts_code on.now (rest_of rest.entry) }
+{
+    on.code_indented && rest.indent() >= 4
+}

@@ -1,0 +1,43 @@
+//! Containers: which go on, and which start (CommonMark 5).
+//!
+//!     start ::= quote_prefix | item_start
+ghost use Rattle.std.specs.Prelude.{◌≡◌};
+ghost use Rattle.markdown_definition.specs.Containers.{continues as goes_on, starts as starts_here};
+ghost use Rattle.block_lines.specs.View.{rest_of, rest_if, started_if};
+
+use crate::block_quote::quote_prefix;
+use crate::cursor::Cursor;
+use crate::list_item::{item_continues, item_start};
+use markdown_definition::Container;
+use markdown_options::Constructs;
+
+/// The rest after what the container has on this line, if it goes on. `began_blank` says of an item
+/// that it began with a blank rest on the line before.
+pub fn continues<'a>(
+    on: &Constructs,
+    container: Container,
+    began_blank: bool,
+    rest: Cursor<'a>,
+) -> Option<Cursor<'a>>
+    ensures { rest_if result ≡ goes_on on.now container began_blank (rest_of rest.entry) }
+{
+    match container {
+        Container::Quote => quote_prefix(on, rest),
+        Container::Item(item) => item_continues(item.size, began_blank, rest),
+    }
+}
+
+/// The container that starts here, and the rest after what starts it. `interrupts` says that it
+/// would interrupt a paragraph.
+pub fn starts<'a>(
+    on: &Constructs,
+    interrupts: bool,
+    rest: Cursor<'a>,
+) -> Option<(Container, Cursor<'a>)>
+    ensures { started_if result ≡ starts_here on.now interrupts (rest_of rest.entry) }
+{
+    match quote_prefix(on, rest) {
+        Some(after) => Some((Container::Quote, after)),
+        None => item_start(on, interrupts, rest),
+    }
+}

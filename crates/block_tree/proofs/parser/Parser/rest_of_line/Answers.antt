@@ -1,0 +1,53 @@
+use Rattle.std.proofs.Common.{◌≡◌, ◌-◌, ◌+◌, ◌<◌, ◌++◌, ◌∷◌, [], List, None, Some, true, false, not, ◌&&◌, sym, ap, ◌∙◌, subst, refl, length, arith, ltb}
+use Rattle.std.proofs.lemmas.List.{length-map}
+use Rattle.std.proofs.lemmas.Result.{on_ok_weaker}
+use Rattle.markdown_definition.specs.declared.row.Row.{Row}
+use Rattle.markdown_definition.specs.declared.row.Row.TheVariants as row
+use Rattle.markdown_definition.specs.Columns.{Rest}
+use Rattle.markdown_definition.specs.Indents.{outdented}
+use Rattle.markdown_definition.specs.CodeFenced.{fence_line}
+use Rattle.markdown_definition.specs.Lines.{text_line}
+use Rattle.markdown_definition.specs.Tree.{BlockLine, block_line, Blocks, Paragraph, Heading, Break, FencedCode, Blank, Tree, tree, nothing, one, ended, join, Opening, OpenLeaf, Text, Indented, Fenced, Leaf, rest_line, closed, after, has_text, with_line, Nil, last_ending, last_ending_or}
+use Rattle.markdown_definition.specs.Rows.{piece_lines, piece_line}
+use Rattle.block_lines.specs.View.{rest_of}
+use Rattle.block_lines.specs.Fences.{fence_view}
+use Rattle.block_tree.specs.Shows.{Shows, ShowsTree, InText, InIndented, InFenced}
+use Rattle.block_tree.specs.Leaves.{leaf_state}
+use Rattle.block_tree.specs.View.{HasRead, with_more, leaf_step, closed_tree}
+use Rattle.block_tree.proofs.Leaves as leaves
+use Rattle.block_tree.proofs.Steps as steps
+use Rattle.block_tree.proofs.Shown.{piece_pushed, join-nil, join-assoc}
+use Rattle.block_tree.proofs.parser.Parser.rest_of_line.Goals as goal
+
+pub returns-in-Text : goal.returns-in-Text
+returns-in-Text g c =
+    let p = c.args.self.now in
+    let on = c.args.on.now in
+    on_ok_weaker c.leaf_line.result
+    (λ reads. λ t h.
+    steps.of_text p.rows.items (piece_lines p.pieces.items) (leaf_state p.leaf)
+    (λ x. HasRead c.leaf_line.new.self (with_more x (leaf_step on c.args.ending x.now (rest_of c.args.rest)))) c.in-Text.ending (ap leaf_state c.in-Text.is)
+    (λ ls done last hh. reads (tree done (Leaf (Text ls))) hh) t h)
+    c.leaf_line.ensures
+
+pub returns-in-Indented : goal.returns-in-Indented
+returns-in-Indented g c =
+    let p = c.args.self.now in
+    let on = c.args.on.now in
+    on_ok_weaker c.indented_line.result
+    (λ reads. λ t h.
+    steps.of_indented p.rows.items (piece_lines p.pieces.items) (leaf_state p.leaf)
+    (λ x. HasRead c.indented_line.new.self (with_more x (leaf_step on c.args.ending x.now (rest_of c.args.rest)))) c.in-Indented.count c.in-Indented.ending (ap leaf_state c.in-Indented.is)
+    (λ ls pending done all last hh. reads ls pending done hh) t h)
+    c.indented_line.ensures
+
+pub returns-in-Fenced : goal.returns-in-Fenced
+returns-in-Fenced g c =
+    let p = c.args.self.now in
+    let on = c.args.on.now in
+    on_ok_weaker c.fenced_line.result
+    (λ reads. λ t h.
+    steps.of_fenced p.rows.items (piece_lines p.pieces.items) (leaf_state p.leaf)
+    (λ x. HasRead c.fenced_line.new.self (with_more x (leaf_step on c.args.ending x.now (rest_of c.args.rest)))) (fence_view c.in-Fenced.fence) c.in-Fenced.ending (ap leaf_state c.in-Fenced.is)
+    (λ opening ls done last hh. reads opening ls done hh) t h)
+    c.fenced_line.ensures

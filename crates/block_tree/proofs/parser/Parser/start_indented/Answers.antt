@@ -1,0 +1,31 @@
+use Rattle.std.proofs.Common.{◌≡◌, ◌-◌, ◌+◌, ◌<◌, ◌++◌, ◌∷◌, [], List, None, Some, true, false, not, ◌&&◌, sym, ap, ◌∙◌, subst, refl, length, arith, ltb}
+use Rattle.std.proofs.lemmas.List.{length-map}
+use Rattle.std.proofs.lemmas.Result.{on_ok_weaker}
+use Rattle.markdown_definition.specs.declared.row.Row.{Row}
+use Rattle.markdown_definition.specs.declared.row.Row.TheVariants as row
+use Rattle.markdown_definition.specs.Columns.{Rest}
+use Rattle.markdown_definition.specs.Indents.{outdented}
+use Rattle.markdown_definition.specs.CodeFenced.{fence_line}
+use Rattle.markdown_definition.specs.Lines.{text_line}
+use Rattle.markdown_definition.specs.Tree.{BlockLine, block_line, Blocks, Paragraph, Heading, Break, FencedCode, Blank, Tree, tree, nothing, one, ended, join, Opening, OpenLeaf, Text, Indented, Fenced, Leaf, rest_line, closed, after, has_text, with_line, Nil, last_ending, last_ending_or}
+use Rattle.markdown_definition.specs.Rows.{piece_lines, piece_line}
+use Rattle.block_lines.specs.View.{rest_of}
+use Rattle.block_lines.specs.Fences.{fence_view}
+use Rattle.block_tree.specs.Shows.{Shows, ShowsTree, InText, InIndented, InFenced}
+use Rattle.block_tree.specs.Leaves.{leaf_state}
+use Rattle.block_tree.specs.View.{HasRead, with_more, leaf_step, closed_tree}
+use Rattle.block_tree.proofs.Leaves as leaves
+use Rattle.block_tree.proofs.Steps as steps
+use Rattle.block_tree.proofs.Shown.{piece_pushed, join-nil, join-assoc}
+use Rattle.block_tree.proofs.parser.Parser.start_indented.Goals as goal
+
+pub returns : goal.returns
+returns g c = λ t h.
+    let q = c.close.new.self in
+    let e = c.args.ending in
+    let l = rest_line (outdented 4 (rest_of c.args.rest)) e in
+    let now = Leaf (Indented (l ∷ []) []) in
+    let pool = piece_pushed q.pieces.items c.piece.result c.push.new.self.items l c.in_ok-push.ensures.items (c.piece.ensures ∙ ap (λ (x : Rest). rest_line x e) c.outdented.ensures) in
+    let k = leaves.starts_indented q.rows.items (piece_lines q.pieces.items) (leaf_state q.leaf) (closed t) (steps.enough_lines q) (c.in_ok-close.ensures t h) l in
+    steps.after_opens q.rows.items (piece_lines c.push.new.self.items) (InIndented 1 e) t now
+    (subst (λ (ps : List BlockLine). Shows q.rows.items ps (InIndented 1 e) (closed t) (Indented (l ∷ []) [])) (sym pool) k)

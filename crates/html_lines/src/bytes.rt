@@ -1,0 +1,36 @@
+//! Texts in bytes.
+ghost use Rattle.std.specs.Prelude.{◌≡◌};
+ghost use Rattle.std.specs.List.{list_all};
+ghost use Rattle.markdown_definition.specs.Letters.{is_space_or_tab, same_caselessly, holds};
+
+pub fn is_space_or_tab(byte: u8) -> bool
+    ensures { result ≡ is_space_or_tab byte }
+{
+    byte == b' ' || byte == b'\t'
+}
+
+/// Whether there are only spaces and tabs.
+pub fn is_blank(bytes: &[u8]) -> bool
+    ensures { result ≡ list_all is_space_or_tab bytes.now }
+{
+    bytes.iter().all(|b| is_space_or_tab(*b))
+}
+
+/// Whether two texts are the same but for the case of ASCII letters.
+pub fn same_caselessly(one: &[u8], other: &[u8]) -> bool
+    ensures { result ≡ same_caselessly one.now other.now }
+{
+    one.eq_ignore_ascii_case(other)
+}
+
+/// Whether a text stands in bytes.
+pub fn holds(text: &[u8], bytes: &[u8]) -> bool
+    ensures { result ≡ holds text.now bytes.now }
+{
+    for i in 0..bytes.len() {
+        if bytes[i..].starts_with(text) {
+            return true;
+        }
+    }
+    false
+}

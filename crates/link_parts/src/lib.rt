@@ -1,0 +1,14 @@
+//! Labels, destinations, titles and definitions of links.
+#![tactic(auto)]
+
+pub mod code;
+pub mod definition;
+pub mod destination;
+pub mod label;
+pub mod part;
+pub mod space;
+pub mod title;
+
+pub use definition::LinkDefinition;
+pub use part::Part;
+pub use space::{spaces, white};

@@ -1,0 +1,41 @@
+-- Columns that are left of a tab, before the bytes of a line.
+use Rattle.std.proofs.Common.{◌≡◌, ℕ, ◌+◌, ◌-◌, ◌<◌, zero, suc, List, [], ◌∷◌, ◌++◌, true, false, refl, ap, ◌∙◌, take, drop, length, get_or, arith}
+use Rattle.std.specs.Prelude.{map, replicate}
+use Rattle.std.specs.List.{prefix_len, suffix_len, list_all}
+use Rattle.std.proofs.lemmas.Bool.{ne_eqb, cond-false}
+use Rattle.markdown_definition.specs.Columns.{tab_column, is_tab_column, is_byte, is_white, trimmed}
+use Rattle.markdown_definition.specs.Encode.{encode}
+use Rattle.markdown_definition.specs.Html.{code_byte}
+
+-- ---- in text they are dropped
+
+dropped : (n : ℕ) (text : List ℕ)
+    → drop (prefix_len is_white (replicate n tab_column ++ text)) (replicate n tab_column ++ text) ≡ drop (prefix_len is_white text) text
+dropped zero text = refl
+dropped (suc n) text =
+    let rest = replicate n tab_column ++ text in
+    let more : 1 + prefix_len is_white rest ≡ suc (prefix_len is_white rest) = omega arith in
+    ap (λ k. drop k (tab_column ∷ rest)) more ∙ dropped n text
+
+pub trimmed_owed : (n : ℕ) (text : List ℕ) → trimmed (replicate n tab_column ++ text) ≡ trimmed text
+trimmed_owed n text = ap (λ rest. take (length rest - suffix_len is_white rest) rest) (dropped n text)
+
+-- ---- in code they are spaces
+
+code_bytes : (text : List ℕ) → ((k : ℕ) → get_or text k 0 < 256) → map code_byte text ≡ text
+code_bytes [] h = refl
+code_bytes (b ∷ bs) h =
+    let byte : b < 256 = h 0 in
+    let is : code_byte b ≡ b = cond-false (is_tab_column b) 32 b (ne_eqb b 256 (λ e. omega arith)) in
+    ap (λ x. x ∷ map code_byte bs) is ∙ ap (λ xs. b ∷ xs) (code_bytes bs (λ k. h (suc k)))
+
+pub code_owed : (n : ℕ) (text : List ℕ) → ((k : ℕ) → get_or text k 0 < 256)
+    → encode (map code_byte (replicate n tab_column ++ text)) ≡ replicate n 32 ++ encode text
+code_owed zero text h = ap encode (code_bytes text h)
+code_owed (suc n) text h = ap (λ x. 32 ∷ x) (code_owed n text h)
+
+-- ---- an info has none
+
+pub none_owed : (n : ℕ) (text : List ℕ) → list_all is_byte (replicate n tab_column ++ text) ≡ true → replicate n tab_column ++ text ≡ text
+none_owed zero text h = refl
+none_owed (suc n) text h = let wrong : false ≡ true = h in cc

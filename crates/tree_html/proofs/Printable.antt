@@ -1,0 +1,262 @@
+-- The blocks of a text can be printed: the ranks of headings are from 1 to 6, and infos are bytes.
+use Rattle.std.proofs.Common.{◌≡◌, ℕ, zero, suc, ◌-◌, ◌≤◌, List, [], ◌∷◌, Option, None, Some, Bool, true, false, ◌&&◌, ◌==◌, not, leb, refl, sym, subst, ap, take, drop, length}
+use Rattle.std.specs.Prelude.{if◌then◌else◌}
+use Rattle.std.specs.Option.{IfSome}
+use Rattle.std.specs.List.{fold, list_all, prefix_len, suffix_len, position_or_len}
+use Rattle.std.proofs.lemmas.Bool.{and_parts, and_from, leb-true}
+use Rattle.markdown_options.specs.declared.line_ending.LineEnding.{LineEnding}
+use Rattle.markdown_options.specs.declared.configuration.Constructs.{Constructs}
+use Rattle.markdown_definition.specs.declared.container.Container.{Container}
+use Rattle.markdown_definition.specs.declared.container.Container.TheVariants.{Quote, Item}
+use Rattle.markdown_definition.specs.Lines.{TextLine, lines}
+use Rattle.markdown_definition.specs.Columns.{Rest, whole, bare, bytes_of, indent, is_byte, is_white, is_blank, trimmed}
+use Rattle.markdown_definition.specs.Runs.{run, after_run}
+use Rattle.markdown_definition.specs.Started.{Started}
+use Rattle.markdown_definition.specs.Containers.{continues, starts}
+use Rattle.markdown_definition.specs.CodeFenced.{Fence, first_word, fence_of, fence_start, is_fence_end}
+use Rattle.markdown_definition.specs.Indents.{small_indent}
+use Rattle.markdown_definition.specs.CodeIndented.{starts_code_indented}
+use Rattle.markdown_definition.specs.ThematicBreak.{is_break}
+use Rattle.markdown_definition.specs.HeadingAtx.{Atx, atx_of, begins_apart, heading_atx}
+use Rattle.markdown_definition.specs.Tree.{BlockLine, block_line, in_container, Block, Paragraph, Heading, Break, IndentedCode, FencedCode, Holds, Items, Ending, Blank, Blocks, Nil, Cons, join, one, ended, OpenLeaf, Text, Indented, Fenced, Opening, Leaf, Inside, Tree, tree, nothing, empty_tree, close_leaf, close, blanks, is_ending, all_endings, trailing, last_of, holds, has_text, with_line, rest_line, takes, taken, or_heading, or_fence, begins, after, text_line_of, break_or_text, begun, leaf_line, start, new, began_blank, goes_on, grow, step, closed, blocks}
+use Rattle.markdown_definition.specs.Rows.{Shown, shown, shown_as, rows_of}
+use Rattle.markdown_definition.specs.declared.row.Row.{Row}
+use Rattle.tree_html.specs.RowPieces.{IsPrintable, ArePrintable, CanBePrinted}
+use Rattle.tree_html.proofs.RowsOf.{printable_rows_of}
+
+-- either of two, where the first is taken only if the test passes
+choose_if : {X : Type 0} (P : X → Type 0) (b : Bool) (x y : X) → (b ≡ true → P x) → P y → P (if b then x else y)
+choose_if P true x y h k = h refl
+choose_if P false x y h k = k
+
+choose : {X : Type 0} (P : X → Type 0) (b : Bool) (x y : X) → P x → P y → P (if b then x else y)
+choose P b x y h k = choose_if P b x y (λ _. h) k
+
+-- ---- infos are bytes
+
+abbrev AreBytes : List ℕ → Type 0
+AreBytes text = list_all is_byte text ≡ true
+
+bytes_front : (n : ℕ) (text : List ℕ) → AreBytes text → AreBytes (take n text)
+bytes_front zero text h = refl
+bytes_front (suc n) [] h = refl
+bytes_front (suc n) (b ∷ bs) h = let parts = and_parts (is_byte b) (list_all is_byte bs) h in and_from (is_byte b) _ parts.0 (bytes_front n bs parts.1)
+
+bytes_after : (n : ℕ) (text : List ℕ) → AreBytes text → AreBytes (drop n text)
+bytes_after zero text h = h
+bytes_after (suc n) [] h = refl
+bytes_after (suc n) (b ∷ bs) h = bytes_after n bs (and_parts (is_byte b) (list_all is_byte bs) h).1
+
+bytes_are_bytes : (rest : Rest) → AreBytes (bytes_of rest)
+bytes_are_bytes [] = refl
+bytes_are_bytes (code ∷ codes) =
+    choose_if AreBytes (is_byte code) (code ∷ bytes_of codes) (bytes_of codes) (λ h. and_from (is_byte code) _ h (bytes_are_bytes codes)) (bytes_are_bytes codes)
+
+trimmed_bytes : (text : List ℕ) → AreBytes text → AreBytes (trimmed text)
+trimmed_bytes text h =
+    let rest = drop (prefix_len is_white text) text in
+    bytes_front (length rest - suffix_len is_white rest) rest (bytes_after (prefix_len is_white text) text h)
+
+word_bytes : (text : List ℕ) → AreBytes text → AreBytes (first_word text)
+word_bytes text h = bytes_front (position_or_len is_white (trimmed text)) (trimmed text) (trimmed_bytes text h)
+
+record FenceFits (o : Option Fence) : Type 0 where
+  info : IfSome o (λ fence. AreBytes fence.info)
+
+fence_of_fits : (columns : ℕ) (text : List ℕ) → AreBytes text → FenceFits (fence_of columns text)
+fence_of_fits columns text h =
+    choose FenceFits (leb 3 (run 96 text) && list_all (λ b. not (b == 96)) (after_run 96 text)) _ _ record { info = word_bytes (after_run 96 text) (bytes_after (run 96 text) text h) }
+    (choose FenceFits (leb 3 (run 126 text)) _ _ record { info = word_bytes (after_run 126 text) (bytes_after (run 126 text) text h) } record { info = tt })
+
+fence_start_fits : (on : Constructs) (rest : Rest) → FenceFits (fence_start on rest)
+fence_start_fits on rest = choose FenceFits (on.code_fenced && small_indent on rest) _ _ (fence_of_fits (indent rest) (bytes_of (bare rest)) (bytes_are_bytes (bare rest))) record { info = tt }
+
+-- ---- ranks are from 1 to 6
+
+record AtxFits (o : Option Atx) : Type 0 where
+  rank : IfSome o (λ atx. (1 ≤ atx.rank) × (atx.rank ≤ 6))
+
+atx_of_fits : (text : List ℕ) → AtxFits (atx_of text)
+atx_of_fits text =
+    let rank = run 35 text in
+    choose_if AtxFits (leb 1 rank && leb rank 6 && begins_apart (after_run 35 text)) _ _
+    (λ h.
+    let all = and_parts (leb 1 rank && leb rank 6) _ h in
+    let both = and_parts (leb 1 rank) (leb rank 6) all.0 in
+    record { rank = (leb-true 1 rank both.0, leb-true rank 6 both.1) })
+    record { rank = tt }
+
+heading_fits : (on : Constructs) (rest : Rest) → AtxFits (heading_atx on rest)
+heading_fits on rest = choose AtxFits (on.heading_atx && small_indent on rest) _ _ (atx_of_fits (bytes_of (bare rest))) record { rank = tt }
+
+-- ---- blocks
+
+joined : (bs others : Blocks) → CanBePrinted bs → CanBePrinted others → CanBePrinted (join bs others)
+joined Nil others h k = k
+joined (Cons b bs) others h k = (h.0, joined bs others h.1 k)
+
+ending_printable : (b : Block) → is_ending b ≡ true → IsPrintable b
+ending_printable (Paragraph ls) h = tt
+ending_printable (Heading rank ls) h = let wrong : false ≡ true = h in cc
+ending_printable Break h = tt
+ending_printable (IndentedCode ls) h = tt
+ending_printable (FencedCode info closed ls) h = let wrong : false ≡ true = h in cc
+ending_printable (Holds c kids) h = tt
+ending_printable (Items items) h = tt
+ending_printable (Ending ending) h = tt
+ending_printable (Blank ending) h = tt
+
+endings_printable : (bs : Blocks) → all_endings bs ≡ true → CanBePrinted bs
+endings_printable Nil h = tt
+endings_printable (Cons b bs) h =
+    let parts = and_parts (is_ending b) (all_endings bs) h in
+    (ending_printable b parts.0, endings_printable bs parts.1)
+
+trailing_printable : (bs : Blocks) → CanBePrinted (trailing bs)
+trailing_printable Nil = tt
+trailing_printable (Cons b bs) =
+    choose_if CanBePrinted (all_endings (Cons b bs)) (Cons b bs) (trailing bs) (λ h. endings_printable (Cons b bs) h) (trailing_printable bs)
+
+last_printable : (bs : Blocks) → CanBePrinted (last_of bs)
+last_printable Nil = tt
+last_printable (Cons b Nil) = choose_if CanBePrinted (is_ending b) (one b) Nil (λ h. (ending_printable b h, tt)) tt
+last_printable (Cons b (Cons c bs)) = last_printable (Cons c bs)
+
+holds_printable : (c : Container) (kids : Blocks) → CanBePrinted (holds c kids)
+holds_printable Quote kids = (tt, last_printable kids)
+holds_printable (Item item) kids = (tt, trailing_printable kids)
+
+blanks_printable : (ls : List BlockLine) → CanBePrinted (blanks ls)
+blanks_printable [] = tt
+blanks_printable (l ∷ ls) = (tt, blanks_printable ls)
+
+-- ---- what is open
+
+abbrev LeafFits : OpenLeaf → Type 0
+LeafFits (Text ls) = Unit {0}
+LeafFits (Indented ls pending) = Unit {0}
+LeafFits (Fenced fence opening ls) = AreBytes fence.info
+
+abbrev Fits : Opening → Type 0
+Fits (Leaf leaf) = LeafFits leaf
+Fits (Inside c kids inner) = Unit {0}
+
+record TreeFits (t : Tree) : Type 0 where
+  done : CanBePrinted t.done
+  now : Fits t.now
+
+fits : (t : Tree) → CanBePrinted t.done → Fits t.now → TreeFits t
+fits t h k = record { done = h; now = k }
+
+record OptionFits (o : Option Tree) : Type 0 where
+  tree : IfSome o TreeFits
+
+some_fits : (t : Tree) → CanBePrinted t.done → Fits t.now → OptionFits (Some t)
+some_fits t h k = record { tree = fits t h k }
+
+leaf_closed : (leaf : OpenLeaf) → LeafFits leaf → CanBePrinted (close_leaf leaf)
+leaf_closed (Text []) h = tt
+leaf_closed (Text (l ∷ ls)) h = (tt, (tt, tt))
+leaf_closed (Indented ls pending) h = (tt, (tt, blanks_printable pending))
+leaf_closed (Fenced fence opening ls) h = (h, (tt, tt))
+
+close_printable : (now : Opening) → Fits now → CanBePrinted (close now)
+close_printable (Leaf leaf) h = leaf_closed leaf h
+close_printable (Inside c kids inner) h = holds_printable c (join kids (close inner))
+
+after_fits : (away : Opening) (t : Tree) → Fits away → TreeFits t → TreeFits (after away t)
+after_fits away t h k = record { done = joined (close away) t.done (close_printable away h) k.done; now = k.now }
+
+with_line_fits : (line : BlockLine) (now : Opening) → Fits now → Fits (with_line line now)
+with_line_fits line (Leaf (Text ls)) h = tt
+with_line_fits line (Leaf (Indented ls pending)) h = tt
+with_line_fits line (Leaf (Fenced fence opening ls)) h = h
+with_line_fits line (Inside c kids inner) h = tt
+
+-- ---- a line
+
+module _ (on : Constructs) (e : Option LineEnding) (r : Rest) where
+  takes_fits : (leaf : OpenLeaf) → LeafFits leaf → OptionFits (takes on leaf r e)
+  takes_fits (Text ls) h = record { tree = tt }
+  takes_fits (Indented ls pending) h = choose OptionFits (is_blank r) _ _ (some_fits _ tt tt) (choose OptionFits (starts_code_indented on r) _ _ (some_fits _ tt tt) record { tree = tt })
+  takes_fits (Fenced fence opening ls) h = choose OptionFits (is_fence_end on fence r) _ _ (some_fits _ (h, (tt, tt)) tt) (some_fits _ tt h)
+
+  or_heading_fits : (o : Option Atx) → AtxFits o → OptionFits (or_heading e o)
+  or_heading_fits None h = record { tree = tt }
+  or_heading_fits (Some atx) h = some_fits (tree (ended (Heading atx.rank (block_line atx.content None ∷ [])) e) nothing) (h.rank, (tt, tt)) tt
+
+  or_fence_fits : (o : Option Fence) (other : Option Tree) → FenceFits o → OptionFits other → OptionFits (or_fence e o other)
+  or_fence_fits None other h k = k
+  or_fence_fits (Some fence) other h k = some_fits (tree Nil (Leaf (Fenced fence e []))) tt h.info
+
+  begins_fits : (paragraph : Bool) → OptionFits (begins on paragraph r e)
+  begins_fits paragraph =
+      choose OptionFits (starts_code_indented on r && not paragraph) _ _ (some_fits _ tt tt)
+      (or_fence_fits (fence_start on r) (or_heading e (heading_atx on r)) (fence_start_fits on r) (or_heading_fits (heading_atx on r) (heading_fits on r)))
+
+  text_fits : (away : Opening) → Fits away → TreeFits (text_line_of away r e)
+  text_fits away h =
+      let line = rest_line r e in
+      choose TreeFits (has_text away) _ _ (fits (tree Nil (with_line line away)) tt (with_line_fits line away h))
+      (after_fits away (tree Nil (Leaf (Text (line ∷ [])))) h (fits (tree Nil (Leaf (Text (line ∷ [])))) tt tt))
+
+  break_fits : (away : Opening) → Fits away → TreeFits (break_or_text on away r e)
+  break_fits away h =
+      let t = tree (ended Break e) nothing in
+      choose TreeFits (is_break on r) _ _ (after_fits away t h (fits t (tt, (tt, tt)) tt)) (text_fits away h)
+
+  begun_fits : (o : Option Tree) (away : Opening) (other : Tree) → Fits away → OptionFits o → TreeFits other → TreeFits (begun o away other)
+  begun_fits None away other h k l = l
+  begun_fits (Some t) away other h k l = after_fits away t h k.tree
+
+  leaf_line_fits : (away : Opening) → Fits away → TreeFits (leaf_line on away r e)
+  leaf_line_fits away h =
+      let t = tree (one (Blank e)) nothing in
+      choose TreeFits (is_blank r) _ _ (after_fits away t h (fits t (tt, tt) tt))
+      (begun_fits (begins on (has_text away) r e) away (break_or_text on away r e) h (begins_fits (has_text away)) (break_fits away h))
+
+  start_fits : (o : Option Started) (away : Opening) (other : Tree) (more : Rest → Tree) → Fits away → TreeFits other → TreeFits (start o away other more)
+  start_fits None away other more h k = k
+  start_fits (Some s) away other more h k =
+      let t = tree Nil (Inside s.container (more s.rest).done (more s.rest).now) in
+      after_fits away t h (fits t tt tt)
+
+  new_fits : (most : ℕ) (all : Bool) (away : Opening) → Fits away → TreeFits (new most on all away e r)
+  new_fits zero all away h = leaf_line_fits away h
+  new_fits (suc most) all away h =
+      start_fits (starts on (all && has_text away) r) away (leaf_line on away r e) (new most on true nothing e) h (leaf_line_fits away h)
+
+  goes_on_fits : (o : Option Rest) (c : Container) (kids : Blocks) (inner : Opening) (more : Rest → Tree) → TreeFits (goes_on o on c kids inner e r more)
+  goes_on_fits None c kids inner more = new_fits (length r) false (Inside c kids inner) tt
+  goes_on_fits (Some rest) c kids inner more = fits (in_container c kids (more rest)) tt tt
+
+  taken_fits : (o : Option Tree) (other : Tree) → OptionFits o → TreeFits other → TreeFits (taken o other)
+  taken_fits None other h k = k
+  taken_fits (Some t) other h k = h.tree
+
+  grow_fits : (now : Opening) → Fits now → TreeFits (grow on e now r)
+  grow_fits (Leaf leaf) h = taken_fits (takes on leaf r e) (new (length r) on true (Leaf leaf) e r) (takes_fits leaf h) (new_fits (length r) true (Leaf leaf) h)
+  grow_fits (Inside c kids inner) h = goes_on_fits (continues on c (began_blank kids inner) r) c kids inner (grow on e inner)
+
+-- ---- the whole
+
+step_fits : (on : Constructs) (t : Tree) (line : TextLine) → TreeFits t → TreeFits (step on t line)
+step_fits on t line h =
+    let more = grow_fits on line.ending (whole line.content) t.now h.now in
+    record { done = joined t.done (grow on line.ending t.now (whole line.content)).done h.done more.done; now = more.now }
+
+steps_fit : (on : Constructs) (t : Tree) (ls : List TextLine) → TreeFits t → TreeFits (fold (step on) t ls)
+steps_fit on t [] h = h
+steps_fit on t (line ∷ ls) h = steps_fit on (step on t line) ls (step_fits on t line h)
+
+pub blocks_printable : (on : Constructs) (text : List ℕ) → CanBePrinted (blocks on text)
+blocks_printable on text =
+    let t = fold (step on) empty_tree (lines text) in
+    let h = steps_fit on empty_tree (lines text) (fits empty_tree tt tt) in
+    joined t.done (close t.now) h.done (close_printable t.now h.now)
+
+-- rows that stand for the blocks of a text
+pub shown_printable : (on : Constructs) (text : List ℕ) (rows : List Row) (ls left : List BlockLine)
+    → shown rows ls ≡ shown_as (rows_of (blocks on text)) left → ArePrintable (shown rows ls).rows
+shown_printable on text rows ls left h =
+    subst ArePrintable (sym (ap (λ (s : Shown). s.rows) h)) (printable_rows_of (blocks on text) (blocks_printable on text))

@@ -1,0 +1,111 @@
+//! Code (CommonMark 4.4 and 4.5).
+ghost use Rattle.std.specs.Prelude.{◌≡◌, ◌++◌, map, replicate, OnOk, string_bytes, true, false};
+ghost use Rattle.markdown_options.specs.LineEndings.{ending_bytes};
+ghost use Rattle.markdown_definition.specs.Lines.{ending_text};
+ghost use Rattle.markdown_definition.specs.Pieces.{Fresh, print};
+ghost use Rattle.markdown_definition.specs.Columns.{tab_column};
+ghost use Rattle.markdown_definition.specs.Encode.{encode};
+ghost use Rattle.markdown_definition.specs.Tree.{IndentedCode, FencedCode, own_lines};
+ghost use Rattle.markdown_definition.specs.Html.{block_pieces, class_of, code_byte, code_of, fenced_content};
+ghost use Rattle.markdown_definition.specs.Rows.{piece_lines};
+ghost use Rattle.tree_html.specs.RowPieces.{laid};
+
+use crate::encode::push_encoded;
+use crate::page::Page;
+use markdown_definition::Piece;
+use markdown_options::LineEnding;
+use std::alloc::{AllocError, Allocator};
+
+impl<A: Allocator> Page<A> {
+    /// Prints indented code (CommonMark 4.4).
+    pub(crate) fn indented_code(&mut self, lines: &[Piece<'_>]) -> Result<(), AllocError>
+        ensures default { self.new.default_ending ≡ self.old.default_ending }
+        ensures printed { OnOk result (string_bytes self.new.html ≡ laid self.old.default_ending (string_bytes self.old.html) (block_pieces true false false (IndentedCode (own_lines (piece_lines lines.now))))) }
+    {
+        self.fresh()?;
+        self.html.push_str("<pre><code>")?;
+        self.code(lines)?;
+        self.fresh()?;
+        self.html.push_str("</code></pre>")
+    }
+
+    /// Prints fenced code (CommonMark 4.5).
+    pub(crate) fn fenced_code(
+        &mut self,
+        info: &str,
+        closed: bool,
+        lines: &[Piece<'_>],
+    ) -> Result<(), AllocError>
+        ensures default { self.new.default_ending ≡ self.old.default_ending }
+        ensures printed { OnOk result (string_bytes self.new.html ≡ laid self.old.default_ending (string_bytes self.old.html) (block_pieces true false false (FencedCode info.now closed (piece_lines lines.now)))) }
+    {
+        self.fresh()?;
+        self.html.push_str("<pre><code")?;
+        self.class(info)?;
+        self.html.push_str(">")?;
+        self.fenced_content(lines)?;
+        self.html.push_str("</code></pre>")?;
+        if closed {
+            return Ok(());
+        }
+        self.fresh()
+    }
+
+    /// Prints the class of code with an info.
+    fn class(&mut self, info: &str) -> Result<(), AllocError>
+        ensures default { self.new.default_ending ≡ self.old.default_ending }
+        ensures printed { OnOk result (string_bytes self.new.html ≡ string_bytes self.old.html ++ class_of info.now) }
+    {
+        if info.is_empty() {
+            return Ok(());
+        }
+        self.html.push_str(" class=\"language-")?;
+        push_encoded(&mut self.html, info)?;
+        self.html.push_str("\"")
+    }
+
+    /// Prints lines of fenced code. At the top the last ending is one of its content.
+    fn fenced_content(&mut self, lines: &[Piece<'_>]) -> Result<(), AllocError>
+        ensures default { self.new.default_ending ≡ self.old.default_ending }
+        ensures printed { OnOk result (string_bytes self.new.html ≡ laid self.old.default_ending (string_bytes self.old.html) (fenced_content true true (piece_lines lines.now))) }
+    {
+        self.code(lines)?;
+        match lines.last() {
+            None => Ok(()),
+            Some(last) => self.end_content(last.ending),
+        }
+    }
+
+    /// Prints the last ending of code, and asks for a fresh line.
+    fn end_content(&mut self, ending: Option<LineEnding>) -> Result<(), AllocError>
+        ensures default { self.new.default_ending ≡ self.old.default_ending }
+        ensures printed { OnOk result (string_bytes self.new.html ≡ print (ending_bytes self.old.default_ending) (string_bytes self.old.html ++ ending_text ending) Fresh) }
+    {
+        self.push_ending(ending)?;
+        self.fresh()
+    }
+
+    /// Prints lines of code without the last ending.
+    fn code(&mut self, lines: &[Piece<'_>]) -> Result<(), AllocError>
+        ensures default { self.new.default_ending ≡ self.old.default_ending }
+        ensures printed { OnOk result (string_bytes self.new.html ≡ string_bytes self.old.html ++ code_of (own_lines (piece_lines lines.now))) }
+    {
+        let mut waiting = None;
+        for line in lines {
+            self.push_ending(waiting)?;
+            push_code(&mut self.html, line.owed, line.text)?;
+            waiting = line.ending;
+        }
+        Ok(())
+    }
+}
+
+/// Prints a line of code: a space for each column that is left of a tab, and its text.
+fn push_code<A: Allocator>(out: &mut String<A>, owed: u8, text: &str) -> Result<(), AllocError>
+    ensures { OnOk result (string_bytes out.new ≡ string_bytes out.old ++ encode (map code_byte (replicate owed tab_column ++ text.now))) }
+{
+    for _ in 0..owed {
+        out.push_str(" ")?;
+    }
+    push_encoded(out, text)
+}
