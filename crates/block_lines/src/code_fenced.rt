@@ -13,6 +13,7 @@ use crate::cursor::{Cursor, is_space_or_tab};
 use crate::indent::is_small;
 use crate::run::{is_run, split_run};
 use markdown_options::Constructs;
+use markdown_options::constants::CODE_FENCED_SEQUENCE_SIZE_MIN;
 use text_lines::trim;
 
 /// An opening fence.
@@ -44,11 +45,11 @@ fn fence_of(columns: usize, text: &str) -> Option<Fence<'_>>
     ensures { fence_if result ≡ fence_in columns text.now }
 {
     let (backticks, after) = split_run(b'`', text);
-    if backticks >= 3 && has_no_backtick(after.as_bytes()) {
+    if backticks >= CODE_FENCED_SEQUENCE_SIZE_MIN && has_no_backtick(after.as_bytes()) {
         return Some(fence_by(b'`', backticks, columns, after));
     }
     let (tildes, after) = split_run(b'~', text);
-    if tildes < 3 {
+    if tildes < CODE_FENCED_SEQUENCE_SIZE_MIN {
         return None;
     }
     Some(fence_by(b'~', tildes, columns, after))

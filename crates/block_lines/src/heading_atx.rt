@@ -10,6 +10,7 @@ use crate::cursor::{Cursor, is_space_or_tab};
 use crate::indent::is_small;
 use crate::run::split_run;
 use markdown_options::Constructs;
+use markdown_options::constants::HEADING_ATX_OPENING_FENCE_SIZE_MAX;
 use text_lines::trim;
 
 /// A heading on one line.
@@ -17,6 +18,7 @@ use text_lines::trim;
 pub struct Atx<'a> {
     /// From 1 to 6.
     pub rank: u8,
+    /// The text between the runs of `#`, trimmed.
     pub content: &'a str,
 }
 
@@ -36,7 +38,7 @@ fn atx_of(text: &str) -> Option<Atx<'_>>
     ensures { atx_if result ≡ atx_in text.now }
 {
     let (rank, after) = split_run(b'#', text);
-    if rank == 0 || rank > 6 || !begins_apart(after.as_bytes()) {
+    if rank == 0 || rank > HEADING_ATX_OPENING_FENCE_SIZE_MAX || !begins_apart(after.as_bytes()) {
         return None;
     }
     Some(Atx {

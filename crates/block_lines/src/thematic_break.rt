@@ -11,6 +11,7 @@ ghost use Rattle.block_lines.specs.View.{rest_of};
 use crate::cursor::{Cursor, is_space_or_tab};
 use crate::indent::is_small;
 use markdown_options::Constructs;
+use markdown_options::constants::THEMATIC_BREAK_MARKER_COUNT_MIN;
 
 /// Whether the line is a break.
 pub fn is_break(on: &Constructs, rest: Cursor<'_>) -> bool
@@ -40,7 +41,7 @@ fn is_break_marker(byte: u8) -> bool
 fn is_break_by(marker: u8, bytes: &[u8]) -> bool
     ensures { result ≡ is_break_made_of marker bytes.now }
 {
-    has_only(marker, bytes) && count_of(marker, bytes) >= 3
+    has_only(marker, bytes) && count_of(marker, bytes) >= THEMATIC_BREAK_MARKER_COUNT_MIN
 }
 
 fn has_only(marker: u8, bytes: &[u8]) -> bool

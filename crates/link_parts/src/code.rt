@@ -23,7 +23,9 @@ const RETURN_AND_FEED: u16 = 257;
 /// A code of a content, and where the next one begins.
 #[derive(Clone, Copy)]
 pub struct Code {
+    /// The byte, or 257 for CR LF.
     pub code: u16,
+    /// The byte offset of the next code.
     pub next: usize,
 }
 

@@ -24,9 +24,13 @@ const COLON: u16 = b':' as u16;
 /// A definition, and what follows the line ending of its last line.
 #[derive(Clone, Copy)]
 pub struct LinkDefinition<'a> {
+    /// The bytes between the brackets.
     pub label: &'a [u8],
+    /// The bytes of the destination, without the `<` and `>` around it.
     pub destination: &'a [u8],
+    /// The bytes of the title, without the quotes or parentheses around it.
     pub title: Option<&'a [u8]>,
+    /// The bytes after the line ending of the definition's last line.
     pub rest: &'a [u8],
 }
 

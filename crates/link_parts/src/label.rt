@@ -3,7 +3,8 @@
 //!     label ::= '[' text ']'
 //!     text  ::= ('\' ('[' | ']' | '\') | code without brackets)*
 //!
-//! The text has at most 999 bytes, and isn't white space alone.
+//! The text isn't white space alone, and has at most 999 bytes; line endings, and spaces and tabs
+//! right after one, aren't counted.
 ghost use Rattle.std.specs.Prelude.{◌≡◌, IfSome, false};
 ghost use Rattle.markdown_definition.specs.Content.{content_codes, closed_by};
 ghost use Rattle.markdown_definition.specs.LinkLabel.{ends_label, label_end, is_label, label_at};
@@ -12,12 +13,11 @@ ghost use Rattle.link_parts.specs.View.{found_part};
 
 use crate::code::{at_line_start, is_space, may_escape, next_code};
 use crate::part::{Part, closed_by, from};
+use markdown_options::constants::LINK_REFERENCE_SIZE_MAX;
 
 const OPEN: u16 = b'[' as u16;
 
 const CLOSE: u16 = b']' as u16;
-/// How many bytes the text of a label has at most.
-const SIZE_LIMIT: usize = 999;
 
 /// A label, with its text between the brackets (CommonMark 6.3).
 pub fn label(content: &[u8]) -> Option<Part<'_>>
@@ -81,5 +81,5 @@ pub fn is_label(text: &[u8]) -> bool
         }
         at = read.next;
     }
-    has_text && size <= SIZE_LIMIT
+    has_text && size <= LINK_REFERENCE_SIZE_MAX
 }

@@ -9,7 +9,9 @@ use crate::code::Code;
 /// What was read of a content, and the rest of it.
 #[derive(Clone, Copy)]
 pub struct Part<'a> {
+    /// The bytes between the delimiters, with their escapes.
     pub text: &'a [u8],
+    /// The bytes after the closing delimiter.
     pub rest: &'a [u8],
 }
 
