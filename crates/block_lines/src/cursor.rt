@@ -192,17 +192,11 @@ fn digits(bytes: &[u8]) -> usize
     ensures within { result ≤ length bytes.now }
 {
     for (i, b) in bytes.iter().enumerate() {
-        if !is_digit(*b) {
+        if !b.is_ascii_digit() {
             return i;
         }
     }
     bytes.len()
-}
-
-fn is_digit(byte: u8) -> bool
-    ensures { result ≡ is_digit byte }
-{
-    b'0' <= byte && byte <= b'9'
 }
 
 /// The columns of a byte that stands at a column.

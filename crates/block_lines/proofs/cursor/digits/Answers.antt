@@ -3,9 +3,9 @@ use Rattle.std.proofs.lemmas.List.Sums.{prefix_len_is}
 use Rattle.markdown_definition.specs.ListItem.{is_digit}
 use Rattle.block_lines.proofs.cursor.digits.Goals as goal
 
-pub returns-then-not-is_digit-clause-same : goal.returns-then-not-is_digit-clause-same
-returns-then-not-is_digit-clause-same c =
-    sym (prefix_len_is is_digit c.args.bytes.now c.loop-i.i 0 (omega arith) c.loop-i.invariant (λ _. sym c.is_digit.ensures ∙ c.if-not-is_digit.true))
+pub returns-then-not-is_ascii_digit-clause-same : goal.returns-then-not-is_ascii_digit-clause-same
+returns-then-not-is_ascii_digit-clause-same c =
+    sym (prefix_len_is is_digit c.args.bytes.now c.loop-i.i 0 (omega arith) c.loop-i.invariant (λ _. sym c.is_ascii_digit.ensures.value ∙ c.if-not-is_ascii_digit.true))
 
 pub returns-clause-same : goal.returns-clause-same
 returns-clause-same c =
