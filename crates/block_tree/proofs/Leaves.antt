@@ -1,18 +1,24 @@
 -- What is shown after a leaf goes on, starts or is closed.
-use Rattle.std.proofs.Common.{◌≡◌, ℕ, ◌+◌, ◌-◌, ◌≤◌, List, [], ◌∷◌, ◌++◌, Option, None, Bool, true, false, refl, sym, ap, ◌∙◌, take, drop, length, append_assoc, arith, ltb}
+use Rattle.std.proofs.Common.{◌≡◌, ℕ, ◌+◌, ◌-◌, ◌≤◌, ◌<◌, ◌==◌, get_or, List, [], ◌∷◌, ◌++◌, Option, Bool, true, false, refl, sym, ap, ◌∙◌, subst, take, drop, length, append_assoc, arith, ltb}
 use Rattle.std.specs.Prelude.{map}
-use Rattle.std.proofs.lemmas.Bool.{lt-ltb, le-ltb}
-use Rattle.std.proofs.lemmas.List.{append-nil, length-append, take_all, drop_all, take-append-le, drop-append-le, drop-drop}
+use Rattle.std.proofs.lemmas.Bool.{lt-ltb, le-ltb, eq-eqb, ne_eqb}
+use Rattle.std.proofs.lemmas.List.{append-nil, length-append, length-map, map-append, take_all, drop_all, take-append-le, drop-append-le, take-map, drop-map, drop-drop, take_more, get_or-drop, length-drop, take-append-drop}
+use Rattle.std.proofs.lemmas.List.Sums.{sum_by-append}
 use Rattle.markdown_options.specs.declared.line_ending.LineEnding.{LineEnding}
+use Rattle.markdown_definition.specs.declared.container.Container.{Container}
+use Rattle.markdown_definition.specs.declared.container.Container.TheVariants.{Quote, Item}
 use Rattle.markdown_definition.specs.declared.row.Row.{Row}
 use Rattle.markdown_definition.specs.declared.row.Row.TheVariants as row
 use Rattle.markdown_definition.specs.declared.row.Piece.{Piece}
-use Rattle.markdown_definition.specs.CodeFenced.{Fence}
-use Rattle.markdown_definition.specs.Tree.{BlockLine, block_line, Block, Paragraph, Heading, Break, IndentedCode, FencedCode, Ending, Blank, Blocks, Nil, Cons, join, one, ended, OpenLeaf, Text, Indented, Fenced, Opening, Leaf, Inside, Tree, tree, nothing, last_ending, last_ending_or, is_some_line, own_lines, blanks, close, close_leaf, closed, after, has_text, with_line}
-use Rattle.markdown_definition.specs.Rows.{BlockRow, Single, rows_of, Shown, shown, shown_as, show_row, lines_taken, all_taken, piece_lines}
-use Rattle.block_tree.specs.Shows.{LeafState, InText, InIndented, InFenced, state_of, leaf_lines, Shows}
-use Rattle.block_tree.specs.View.{with_more}
-use Rattle.block_tree.proofs.Shown.{join-nil, join-assoc, rows_of-join, with_left, left_count, left_shown, pool_more, row_shown, blank_row, more_blanks, cut_shown}
+use Rattle.markdown_definition.specs.Tree.{BlockLine, Block, IndentedCode, Ending, Blank, Blocks, Nil, join, one, ended, holds, OpenLeaf, Text, Indented, Leaf, is_nothing, close_leaf, last_ending, last_ending_or, is_some_line, own_lines, blanks, is_ending, front}
+use Rattle.markdown_definition.specs.Rows.{Single, entered, block_rows, row_shown, rows_of, shown, shown_as, lines_taken, all_taken, piece_line, piece_lines}
+use Rattle.block_tree.specs.declared.parser.Parser.{Parser}
+use Rattle.block_tree.specs.Spine.{Level, level, spine, rows_around}
+use Rattle.block_tree.specs.Waits.{enter_row, inside, outside}
+use Rattle.block_tree.specs.Shows.{LeafState, state_of, leaf_lines, lone, Written, Shows}
+use Rattle.block_tree.proofs.Trees.{join-assoc, join-nil}
+use Rattle.block_tree.proofs.Shown.{left_count, left_shown}
+use Rattle.block_tree.proofs.Written.{with_block, with_ending, with_line, without_lines, with_enter, with_exit}
 
 -- ---- last endings
 
@@ -20,182 +26,174 @@ pub last_ending_or-more : (e : Option LineEnding) (ls : List BlockLine) (l : Blo
 last_ending_or-more e [] l = refl
 last_ending_or-more e (a ∷ ls) l = last_ending_or-more a.ending ls l
 
--- ---- a leaf goes on
+-- ---- parsers
 
-module _ (rows : List Row) (pool : List BlockLine) (state : LeafState) (done : Blocks) (l : BlockLine) (le : all_taken rows ≤ length pool) where
-  pub text_more : (ls : List BlockLine) → Shows rows pool state done (Text ls) → Shows rows (pool ++ l ∷ []) (InText l.ending) done (Text (ls ++ l ∷ []))
-  text_more ls h = record {
-    rows_shown = pool_more rows pool _ l le h.rows_shown;
-    same_state = ap InText (sym (last_ending_or-more None ls l));
-  }
+pub enough_lines : {A : Type 0} (p : Parser A) → all_taken p.rows.rows.items ≤ length (piece_lines p.pieces.items)
+enough_lines p = omega (arith, length-map p.pieces.items piece_line, p.counted, p.enough, p.pieces.ok.0)
 
-  pub pending_more : (ls pending : List BlockLine) → Shows rows pool state done (Indented ls pending)
-      → Shows rows (pool ++ l ∷ []) state done (Indented ls (pending ++ l ∷ []))
-  pending_more ls pending h = record {
-    rows_shown = pool_more rows pool _ l le h.rows_shown ∙ ap (shown_as (rows_of done)) (append_assoc ls pending (l ∷ []));
-    same_state = h.same_state;
-  }
+-- one more piece
+pub piece_pushed : (old : List Piece) (p : Piece) (new : List Piece) (l : BlockLine) → new ≡ old ++ p ∷ [] → piece_line p ≡ l → piece_lines new ≡ piece_lines old ++ l ∷ []
+piece_pushed old p new l pushed is = ap piece_lines pushed ∙ map-append piece_line old (p ∷ []) ∙ ap (λ x. piece_lines old ++ x ∷ []) is
 
-  pub indented_more : (ls pending : List BlockLine) (count : ℕ) → Shows rows pool state done (Indented ls pending)
-      → count ≡ length (pool ++ l ∷ []) - all_taken rows
-      → Shows rows (pool ++ l ∷ []) (InIndented count l.ending) done (Indented (ls ++ pending ++ l ∷ []) [])
-  indented_more ls pending count h e =
-      let c = left_count rows pool _ h.rows_shown le in
-      let all : count ≡ length (ls ++ pending ++ l ∷ []) =
-      omega (arith, e, c, length-append pool (l ∷ []), length-append (ls ++ pending) (l ∷ [])) in
-      record {
-        rows_shown = pool_more rows pool _ l le h.rows_shown ∙ ap (shown_as (rows_of done)) (sym (append-nil ((ls ++ pending) ++ l ∷ [])));
-        same_state = ap (λ n. InIndented n l.ending) all ∙ ap (InIndented (length (ls ++ pending ++ l ∷ []))) (sym (last_ending_or-more None (ls ++ pending) l));
-      }
+-- ---- the same, by equations
 
-  pub fenced_more : (fence : Fence) (opening : Option LineEnding) (ls : List BlockLine) → Shows rows pool state done (Fenced fence opening ls)
-      → Shows rows (pool ++ l ∷ []) (InFenced fence l.ending) done (Fenced fence opening (ls ++ l ∷ []))
-  fenced_more fence opening ls h = record {
-    rows_shown = pool_more rows pool _ l le h.rows_shown;
-    same_state = ap (InFenced fence) (sym (last_ending_or-more opening ls l));
-  }
-
--- ---- a leaf starts, where none is open
-
-module _ (rows : List Row) (pool : List BlockLine) (state : LeafState) (done : Blocks) (le : all_taken rows ≤ length pool) (h : Shows rows pool state done (Text [])) where
-  pub starts_text : (l : BlockLine) → Shows rows (pool ++ l ∷ []) (InText l.ending) done (Text (l ∷ []))
-  starts_text l = text_more rows pool state done l le [] h
-
-  pub starts_indented : (l : BlockLine) → Shows rows (pool ++ l ∷ []) (InIndented 1 l.ending) done (Indented (l ∷ []) [])
-  starts_indented l = record { rows_shown = pool_more rows pool _ l le h.rows_shown; same_state = refl }
-
-  pub starts_fenced : (fence : Fence) (opening : Option LineEnding) → Shows rows (pool ++ block_line fence.info None ∷ []) (InFenced fence opening) done (Fenced fence opening [])
-  starts_fenced fence opening = record { rows_shown = pool_more rows pool _ (block_line fence.info None) le h.rows_shown; same_state = refl }
-
-  -- a block that takes no line
-  pub with_single : (r : Row) (b : Block) → show_row (shown_as (rows_of done) []) r ≡ shown_as (rows_of done ++ Single b ∷ []) []
-      → Shows (rows ++ r ∷ []) pool state (join done (one b)) (Text [])
-  with_single r b is = record {
-    rows_shown = row_shown rows pool r _ h.rows_shown ∙ is ∙ ap (λ out. shown_as out []) (sym (rows_of-join done (one b)));
-    same_state = h.same_state;
-  }
-
-  pub with_heading : (rank : ℕ) (l : BlockLine) → Shows (rows ++ row.Heading rank ∷ []) (pool ++ l ∷ []) state (join done (one (Heading rank (l ∷ [])))) (Text [])
-  with_heading rank l = record {
-    rows_shown =
-        row_shown rows (pool ++ l ∷ []) (row.Heading rank) _ (pool_more rows pool _ l le h.rows_shown)
-        ∙ ap (λ out. shown_as out []) (sym (rows_of-join done (one (Heading rank (l ∷ [])))));
-    same_state = h.same_state;
-  }
-
--- a block, and the ending of its last line
-pub with_ended : (rows : List Row) (pool : List BlockLine) (state : LeafState) (done : Blocks) (b : Block) (e : Option LineEnding)
-    → Shows rows pool state (join done (one b)) (Text []) → Shows (rows ++ row.Ending e ∷ []) pool state (join done (ended b e)) (Text [])
-with_ended rows pool state done b e h = record {
-  rows_shown =
-      row_shown rows pool (row.Ending e) _ h.rows_shown
-      ∙ ap (λ out. shown_as out []) (sym (rows_of-join (join done (one b)) (one (Ending e))) ∙ ap rows_of (join-assoc done (one b) (one (Ending e))));
-  same_state = h.same_state;
+pub written_as : (rows rows2 waiting waiting2 : List Row) (bare bare2 : Bool) (pool pool2 : List BlockLine) (around : List Level) (kids : Blocks) (left left2 : List BlockLine)
+    → rows2 ≡ rows → waiting2 ≡ waiting → bare2 ≡ bare → pool2 ≡ pool → left2 ≡ left
+    → Written rows waiting bare pool around kids left → Written rows2 waiting2 bare2 pool2 around kids left2
+written_as rows rows2 waiting waiting2 bare bare2 pool pool2 around kids left left2 r w b p l h = record {
+  rows_shown = ap (λ x. shown x pool2) r ∙ ap (shown rows) p ∙ h.rows_shown ∙ ap (shown_as (rows_around around ++ rows_of (front kids))) (sym l);
+  waiting_shown = ap (map lone) w ∙ h.waiting_shown;
+  is_bare = b ∙ h.is_bare;
 }
 
--- ---- a leaf is closed
+-- ---- the open leaf has one more line
 
-module _ (rows : List Row) (pool : List BlockLine) (state : LeafState) (done : Blocks) (le : all_taken rows ≤ length pool) where
-  pub closes_none : (ls : List BlockLine) → Shows rows pool state done (Text ls) → length pool - all_taken rows ≡ 0
-      → Shows rows pool state (closed (tree done (Leaf (Text ls)))) (Text [])
-  closes_none [] h none = record { rows_shown = h.rows_shown ∙ ap (λ bs. shown_as (rows_of bs) []) (sym (join-nil done)); same_state = h.same_state }
-  closes_none (l ∷ ls) h none = absurd (omega (arith, left_count rows pool _ h.rows_shown le))
+pub shows_line : (rows waiting : List Row) (bare : Bool) (containers : List Container) (pool pool2 : List BlockLine) (state state2 : LeafState) (around : List Level) (kids : Blocks) (leaf leaf2 : OpenLeaf) (l : BlockLine)
+    → all_taken rows ≤ length pool → pool2 ≡ pool ++ l ∷ [] → leaf_lines leaf2 ≡ leaf_lines leaf ++ l ∷ [] → state2 ≡ state_of leaf2
+    → Shows rows waiting bare containers pool state (spine around kids leaf) → Shows rows waiting bare containers pool2 state2 (spine around kids leaf2)
+shows_line rows waiting bare containers pool pool2 state state2 around kids leaf leaf2 l le more longer same h = record {
+  written = written_as rows rows waiting waiting bare bare (pool ++ l ∷ []) pool2 around kids (leaf_lines leaf ++ l ∷ []) (leaf_lines leaf2) refl refl refl more longer
+      (with_line rows waiting bare pool around kids (leaf_lines leaf) h.written l le);
+  opened = h.opened;
+  same_state = same;
+}
 
-  pub closes_text : (ls : List BlockLine) (count : ℕ) (e : Option LineEnding) → Shows rows pool state done (Text ls)
-      → count ≡ length pool - all_taken rows → (count ≡ 0 → ⊥) → e ≡ last_ending ls
-      → Shows ((rows ++ row.Paragraph count ∷ []) ++ row.Ending e ∷ []) pool (InText None) (closed (tree done (Leaf (Text ls)))) (Text [])
-  closes_text [] count e h all some last = absurd (some (omega (arith, left_count rows pool _ h.rows_shown le)))
-  closes_text (l ∷ ls) count e h all some last =
-      let c = left_count rows pool _ h.rows_shown le in
-      let front : take count (l ∷ ls) ≡ l ∷ ls = take_all count (l ∷ ls) (omega arith) in
-      let rest : drop count (l ∷ ls) ≡ [] = drop_all count (l ∷ ls) (omega arith) in
-      record {
-        rows_shown =
-            row_shown (rows ++ row.Paragraph count ∷ []) pool (row.Ending e) _ (row_shown rows pool (row.Paragraph count) _ h.rows_shown)
-            ∙ ap (λ x. shown_as ((rows_of done ++ Single (Paragraph (own_lines x)) ∷ []) ++ Single (Ending e) ∷ []) (drop count (l ∷ ls))) front
-            ∙ ap (shown_as ((rows_of done ++ Single (Paragraph (own_lines (l ∷ ls))) ∷ []) ++ Single (Ending e) ∷ [])) rest
-            ∙ ap (λ x. shown_as ((rows_of done ++ Single (Paragraph (own_lines (l ∷ ls))) ∷ []) ++ Single (Ending x) ∷ []) []) last
-            ∙ ap (λ out. shown_as out []) (append_assoc (rows_of done) (Single (Paragraph (own_lines (l ∷ ls))) ∷ []) (Single (Ending (last_ending (l ∷ ls))) ∷ [])
-            ∙ sym (rows_of-join done (close (Leaf (Text (l ∷ ls))))));
-        same_state = refl;
-      }
+-- ---- a block, and the ending of its last line
 
-  pub closes_fenced : (fence : Fence) (opening : Option LineEnding) (ls : List BlockLine) (count : ℕ) (e : Option LineEnding) → Shows rows pool state done (Fenced fence opening ls)
-      → count ≡ length pool - all_taken rows - 1 → e ≡ last_ending_or opening ls
-      → Shows ((rows ++ row.UnclosedCode count ∷ []) ++ row.Ending e ∷ []) pool (InText None) (closed (tree done (Leaf (Fenced fence opening ls)))) (Text [])
-  closes_fenced fence opening ls count e h all last =
-      let info = block_line fence.info None in
-      let c = left_count rows pool _ h.rows_shown le in
-      let front : take count ls ≡ ls = take_all count ls (omega arith) in
-      let rest : drop (1 + count) (info ∷ ls) ≡ [] = drop_all (1 + count) (info ∷ ls) (omega arith) in
-      record {
-        rows_shown =
-            row_shown (rows ++ row.UnclosedCode count ∷ []) pool (row.Ending e) _ (row_shown rows pool (row.UnclosedCode count) _ h.rows_shown)
-            ∙ ap (λ x. shown_as ((rows_of done ++ Single (FencedCode fence.info false x) ∷ []) ++ Single (Ending e) ∷ []) (drop (1 + count) (info ∷ ls))) front
-            ∙ ap (shown_as ((rows_of done ++ Single (FencedCode fence.info false ls) ∷ []) ++ Single (Ending e) ∷ [])) rest
-            ∙ ap (λ x. shown_as ((rows_of done ++ Single (FencedCode fence.info false ls) ∷ []) ++ Single (Ending x) ∷ []) []) last
-            ∙ ap (λ out. shown_as out []) (append_assoc (rows_of done) (Single (FencedCode fence.info false ls) ∷ []) (Single (Ending (last_ending_or opening ls)) ∷ [])
-            ∙ sym (rows_of-join done (close (Leaf (Fenced fence opening ls)))));
-        same_state = refl;
-      }
+pub written_ended : (rows waiting : List Row) (bare : Bool) (pool : List BlockLine) (around : List Level) (kids : Blocks) (left : List BlockLine)
+    → Written rows waiting bare pool around kids left → (r : Row) (b : Block) (ending : Option LineEnding) → all_taken waiting ≡ 0 → block_rows b ≡ row_shown r left ∷ [] → is_ending b ≡ false
+    → (rows2 waiting2 waiting3 : List Row) (bare2 : Bool) (left2 : List BlockLine) → rows2 ≡ (rows ++ waiting) ++ r ∷ [] → waiting2 ≡ [] → waiting3 ≡ waiting2 ++ row.Ending ending ∷ [] → bare2 ≡ false → left2 ≡ drop (lines_taken r) left
+    → Written rows2 waiting3 bare2 pool around (join kids (ended b ending)) left2
+written_ended rows waiting bare pool around kids left h r b ending none is other rows2 waiting2 waiting3 bare2 left2 rows_are none_wait waits is_bare left_are =
+    let k = with_ending ((rows ++ waiting) ++ r ∷ []) [] false pool around (join kids (one b)) (drop (lines_taken r) left)
+    (with_block rows waiting bare pool around kids left h r b none is other) (row.Ending ending) (Ending ending) refl refl in
+    subst (λ (bs : Blocks). Written rows2 waiting3 bare2 pool around bs left2) (join-assoc kids (one b) (one (Ending ending)))
+    (written_as ((rows ++ waiting) ++ r ∷ []) rows2 (row.Ending ending ∷ []) waiting3 false bare2 pool pool around (join (join kids (one b)) (one (Ending ending))) (drop (lines_taken r) left) left2
+    rows_are (waits ∙ ap (λ x. x ++ row.Ending ending ∷ []) none_wait) is_bare refl left_are k)
 
-  -- the closing fence
-  pub fence_closes : (fence : Fence) (opening : Option LineEnding) (ls : List BlockLine) (count : ℕ) (e : Option LineEnding) → Shows rows pool state done (Fenced fence opening ls)
-      → count ≡ length pool - all_taken rows - 1
-      → Shows ((rows ++ row.FencedCode count ∷ []) ++ row.Ending e ∷ []) pool (InText None) (join done (ended (FencedCode fence.info true ls) e)) (Text [])
-  fence_closes fence opening ls count e h all =
-      let info = block_line fence.info None in
-      let c = left_count rows pool _ h.rows_shown le in
-      let front : take count ls ≡ ls = take_all count ls (omega arith) in
-      let rest : drop (1 + count) (info ∷ ls) ≡ [] = drop_all (1 + count) (info ∷ ls) (omega arith) in
-      record {
-        rows_shown =
-            row_shown (rows ++ row.FencedCode count ∷ []) pool (row.Ending e) _ (row_shown rows pool (row.FencedCode count) _ h.rows_shown)
-            ∙ ap (λ x. shown_as ((rows_of done ++ Single (FencedCode fence.info true x) ∷ []) ++ Single (Ending e) ∷ []) (drop (1 + count) (info ∷ ls))) front
-            ∙ ap (shown_as ((rows_of done ++ Single (FencedCode fence.info true ls) ∷ []) ++ Single (Ending e) ∷ [])) rest
-            ∙ ap (λ out. shown_as out []) (append_assoc (rows_of done) (Single (FencedCode fence.info true ls) ∷ []) (Single (Ending e) ∷ [])
-            ∙ sym (rows_of-join done (ended (FencedCode fence.info true ls) e)));
-        same_state = refl;
-      }
+-- ---- the open leaf takes all lines that are left
 
-  -- what indented code leaves: its row and its ending, those of the blank lines after it, and no lines
-  pub closes_indented : (ls pending : List BlockLine) (count : ℕ) (e : Option LineEnding) (pieces : List Piece) (n : ℕ) → Shows rows pool state done (Indented ls pending)
-      → count ≡ length ls → e ≡ last_ending ls → n ≡ all_taken rows + count → piece_lines pieces ≡ drop n pool
-      → (last : List Row) → last ≡ ((rows ++ row.IndentedCode count ∷ []) ++ row.Ending e ∷ []) ++ map blank_row pieces → all_taken last ≡ n
-      → Shows last (take n pool) (InText None) (closed (tree done (Leaf (Indented ls pending)))) (Text [])
-  closes_indented ls pending count e pieces n h all last_is n_is blank_lines last rows_are taken_are =
-      let c = left_count rows pool _ h.rows_shown le in
-      let lefts = left_shown rows pool _ h.rows_shown in
-      let code = Single (IndentedCode (own_lines ls)) in
-      let before_blanks = (rows_of done ++ code ∷ []) ++ Single (Ending (last_ending ls)) ∷ [] in
-      let front : take count (ls ++ pending) ≡ ls = take-append-le count ls pending (omega arith) ∙ take_all count ls (omega arith) in
-      let rest : drop count (ls ++ pending) ≡ pending = drop-append-le count ls pending (omega arith) ∙ ap (λ x. x ++ pending) (drop_all count ls (omega arith)) in
-      let left_over : drop n pool ≡ pending =
-      ap (λ k. drop k pool) n_is ∙ sym (drop-drop count (all_taken rows) pool) ∙ ap (drop count) (sym lefts) ∙ rest in
-      let two : shown ((rows ++ row.IndentedCode count ∷ []) ++ row.Ending e ∷ []) pool ≡ shown_as before_blanks pending =
-      row_shown (rows ++ row.IndentedCode count ∷ []) pool (row.Ending e) _ (row_shown rows pool (row.IndentedCode count) _ h.rows_shown)
-      ∙ ap (λ x. shown_as ((rows_of done ++ Single (IndentedCode (own_lines x)) ∷ []) ++ Single (Ending e) ∷ []) (drop count (ls ++ pending))) front
-      ∙ ap (shown_as ((rows_of done ++ code ∷ []) ++ Single (Ending e) ∷ [])) rest
-      ∙ ap (λ x. shown_as ((rows_of done ++ code ∷ []) ++ Single (Ending x) ∷ []) pending) last_is in
-      let code_rows = (rows ++ row.IndentedCode count ∷ []) ++ row.Ending e ∷ [] in
-      let three : shown last pool ≡ shown_as (before_blanks ++ rows_of (blanks pending)) pending =
-      ap (λ rs. shown rs pool) rows_are ∙ more_blanks code_rows pool pieces (shown_as before_blanks pending) two
-      ∙ ap (λ ps. shown_as (before_blanks ++ rows_of (blanks ps)) pending) (blank_lines ∙ left_over) in
-      let fits : all_taken last ≤ length pool = omega (arith, c, length-append ls pending) in
-      record {
-        rows_shown =
-            ap (λ k. shown last (take k pool)) (sym taken_are) ∙ cut_shown last pool _ fits three
-            ∙ ap (λ out. shown_as out []) (
-            ap (λ x. x ++ rows_of (blanks pending)) (append_assoc (rows_of done) (code ∷ []) (Single (Ending (last_ending ls)) ∷ []))
-            ∙ append_assoc (rows_of done) (rows_of (ended (IndentedCode (own_lines ls)) (last_ending ls))) (rows_of (blanks pending))
-            ∙ ap (λ x. rows_of done ++ x) (sym (rows_of-join (ended (IndentedCode (own_lines ls)) (last_ending ls)) (blanks pending)))
-            ∙ sym (rows_of-join done (close (Leaf (Indented ls pending)))));
-        same_state = refl;
-      }
+pub all_left : (rows waiting : List Row) (bare : Bool) (pool : List BlockLine) (around : List Level) (kids : Blocks) (left : List BlockLine)
+    → Written rows waiting bare pool around kids left → all_taken rows ≤ length pool → all_taken rows + length left ≡ length pool
+all_left rows waiting bare pool around kids left h le = left_count rows pool _ h.rows_shown le
 
 -- ---- whether a paragraph is open
 
-pub text_is_open : (rows : List Row) (pool : List BlockLine) (state : LeafState) (done : Blocks) (ls : List BlockLine) (taken len : ℕ) → all_taken rows ≤ length pool
-    → Shows rows pool state done (Text ls) → taken ≡ all_taken rows → len ≡ length pool → ltb taken len ≡ is_some_line ls
-text_is_open rows pool state done [] taken len le h t l = le-ltb taken len (omega (arith, left_count rows pool _ h.rows_shown le))
-text_is_open rows pool state done (x ∷ ls) taken len le h t l = lt-ltb taken len (omega (arith, left_count rows pool _ h.rows_shown le))
+pub text_is_open : (taken len : ℕ) (ls : List BlockLine) → taken + length ls ≡ len → ltb taken len ≡ is_some_line ls
+text_is_open taken len [] h = le-ltb taken len (omega (arith, h))
+text_is_open taken len (x ∷ ls) h = lt-ltb taken len (omega (arith, h))
+
+pub nothing_is_open : (taken len : ℕ) (ls : List BlockLine) → taken + length ls ≡ len → (taken == len) ≡ is_nothing (Leaf (Text ls))
+nothing_is_open taken len [] h = eq-eqb taken len (omega (arith, h))
+nothing_is_open taken len (x ∷ ls) h = ne_eqb taken len (λ e. omega (arith, h, e))
+
+-- ---- blank lines after indented code
+
+abbrev pub blank_row : Piece → Row
+blank_row piece = row.Blank piece.ending
+
+-- their endings wait
+pub with_blanks : (rows waiting : List Row) (bare : Bool) (pool : List BlockLine) (around : List Level) (kids : Blocks) (left : List BlockLine) (pieces : List Piece)
+    → Written rows waiting bare pool around kids left → Written rows (waiting ++ map blank_row pieces) bare pool around (join kids (blanks (piece_lines pieces))) left
+with_blanks rows waiting bare pool around kids left [] h =
+    subst (λ (bs : Blocks). Written rows (waiting ++ []) bare pool around bs left) (sym (join-nil kids))
+    (subst (λ (w : List Row). Written rows w bare pool around kids left) (sym (append-nil waiting)) h)
+with_blanks rows waiting bare pool around kids left (p ∷ ps) h =
+    let k = with_blanks rows (waiting ++ blank_row p ∷ []) bare pool around (join kids (one (Blank p.ending))) left ps
+    (with_ending rows waiting bare pool around kids left h (blank_row p) (Blank p.ending) refl refl) in
+    subst (λ (bs : Blocks). Written rows (waiting ++ map blank_row (p ∷ ps)) bare pool around bs left) (join-assoc kids (one (Blank p.ending)) (blanks (piece_lines ps)))
+    (subst (λ (w : List Row). Written rows w bare pool around (join (join kids (one (Blank p.ending))) (blanks (piece_lines ps))) left) (append_assoc waiting (blank_row p ∷ []) (map blank_row ps)) k)
+
+-- one more of them
+pub blanks_more : (waiting0 waiting waiting2 : List Row) (pieces : List Piece) (start i : ℕ) (d : Piece) → start ≤ i → i < length pieces
+    → waiting ≡ waiting0 ++ map blank_row (take (i - start) (drop start pieces)) → waiting2 ≡ waiting ++ blank_row (get_or pieces i d) ∷ []
+    → waiting2 ≡ waiting0 ++ map blank_row (take (i + 1 - start) (drop start pieces))
+blanks_more waiting0 waiting waiting2 pieces start i d le lt so_far pushed =
+    let rest = drop start pieces in
+    let n = i - start in
+    let longer : i + 1 - start ≡ n + 1 = omega arith in
+    let room : n < length rest = omega (arith, length-drop start pieces) in
+    let place : start + n ≡ i = omega arith in
+    let last : get_or rest n d ≡ get_or pieces i d = get_or-drop start pieces n d ∙ ap (λ k. get_or pieces k d) place in
+    pushed ∙ ap (λ rs. rs ++ blank_row (get_or pieces i d) ∷ []) so_far
+    ∙ append_assoc waiting0 (map blank_row (take n rest)) (blank_row (get_or pieces i d) ∷ [])
+    ∙ ap (λ x. waiting0 ++ x) (
+    ap (λ x. map blank_row (take n rest) ++ blank_row x ∷ []) (sym last)
+    ∙ sym (map-append blank_row (take n rest) (get_or rest n d ∷ []))
+    ∙ ap (map blank_row) (sym (take_more rest n d room) ∙ ap (λ k. take k rest) (sym longer)))
+
+-- indented code is closed: its lines, its ending, and the endings of the blank lines after it
+pub written_indented : (rows waiting : List Row) (bare : Bool) (pieces : List Piece) (around : List Level) (kids : Blocks) (ls pending : List BlockLine)
+    → Written rows waiting bare (piece_lines pieces) around kids (ls ++ pending) → all_taken rows ≤ length (piece_lines pieces) → all_taken waiting ≡ 0
+    → (count n : ℕ) (ending : Option LineEnding) → count ≡ length ls → ending ≡ last_ending ls → n ≡ all_taken rows + count
+    → (rows2 waiting2 waiting3 waiting4 : List Row) (bare2 : Bool) → rows2 ≡ (rows ++ waiting) ++ row.IndentedCode count ∷ [] → waiting2 ≡ [] → waiting3 ≡ waiting2 ++ row.Ending ending ∷ []
+    → waiting4 ≡ waiting3 ++ map blank_row (drop n pieces) → bare2 ≡ false → all_taken rows2 ≡ n
+    → Written rows2 waiting4 bare2 (piece_lines (take n pieces)) around (join kids (close_leaf (Indented ls pending))) []
+written_indented rows waiting bare pieces around kids ls pending h le none count n ending all last n_is rows2 waiting2 waiting3 waiting4 bare2 rows_are none_wait waits blank is_bare taken =
+    let pool = piece_lines pieces in
+    let c = left_count rows pool _ h.rows_shown le in
+    let code = IndentedCode (own_lines ls) in
+    let front_lines : take count (ls ++ pending) ≡ ls = take-append-le count ls pending (omega (arith, all)) ∙ take_all count ls (omega (arith, all)) in
+    let rest_lines : drop count (ls ++ pending) ≡ pending = drop-append-le count ls pending (omega (arith, all)) ∙ ap (λ x. x ++ pending) (drop_all count ls (omega (arith, all))) in
+    let left_over : piece_lines (drop n pieces) ≡ pending =
+    sym (drop-map piece_line n pieces) ∙ ap (λ k. drop k pool) n_is ∙ sym (drop-drop count (all_taken rows) pool) ∙ ap (drop count) (sym (left_shown rows pool _ h.rows_shown)) ∙ rest_lines in
+    let ended_code = written_ended rows waiting bare pool around kids (ls ++ pending) h (row.IndentedCode count) code ending none
+    (ap (λ x. Single (IndentedCode (own_lines x)) ∷ []) (sym front_lines)) refl rows2 waiting2 waiting3 bare2 pending rows_are none_wait waits is_bare (sym rest_lines) in
+    let with_all = with_blanks rows2 waiting3 bare2 pool around (join kids (ended code ending)) pending (drop n pieces) ended_code in
+    let children : join (join kids (ended code ending)) (blanks (piece_lines (drop n pieces))) ≡ join kids (close_leaf (Indented ls pending)) =
+    join-assoc kids (ended code ending) (blanks (piece_lines (drop n pieces)))
+    ∙ ap (λ e. join kids (join (ended code e) (blanks (piece_lines (drop n pieces))))) last
+    ∙ ap (λ x. join kids (join (ended code (last_ending ls)) (blanks x))) left_over in
+    let fits : all_taken rows2 ≤ length pool = omega (arith, taken, n_is, all, c, length-append ls pending) in
+    subst (λ (bs : Blocks). Written rows2 waiting4 bare2 (piece_lines (take n pieces)) around bs []) children
+    (written_as rows2 rows2 (waiting3 ++ map blank_row (drop n pieces)) waiting4 bare2 bare2 (take (all_taken rows2) pool) (piece_lines (take n pieces)) around (join (join kids (ended code ending)) (blanks (piece_lines (drop n pieces)))) [] []
+    refl blank refl (sym (take-map piece_line n pieces) ∙ ap (λ k. take k pool) (sym taken)) refl
+    (without_lines rows2 (waiting3 ++ map blank_row (drop n pieces)) bare2 pool around (join (join kids (ended code ending)) (blanks (piece_lines (drop n pieces)))) pending with_all fits))
+
+-- ---- a line alone, and a container
+
+pub longer : (rows waiting : List Row) (bare : Bool) (pool : List BlockLine) (around : List Level) (kids : Blocks) (left : List BlockLine)
+    → Written rows waiting bare pool around kids left → (l : BlockLine) → all_taken rows ≤ length pool → Written rows waiting bare (pool ++ l ∷ []) around kids (left ++ l ∷ [])
+longer rows waiting bare pool around kids left h l le = with_line rows waiting bare pool around kids left h l le
+
+enter_shown : (c : Container) (left : List BlockLine) → row_shown (enter_row c) left ≡ entered c
+enter_shown Quote left = refl
+enter_shown (Item item) left = refl
+
+enter_taken : (c : Container) → lines_taken (enter_row c) ≡ 0
+enter_taken Quote = refl
+enter_taken (Item item) = refl
+
+pub entered_as : (rows waiting : List Row) (bare : Bool) (pool : List BlockLine) (around : List Level) (kids : Blocks) (left : List BlockLine)
+    → Written rows waiting bare pool around kids left → (c : Container) → all_taken waiting ≡ 0
+    → (rows2 waiting2 : List Row) (bare2 : Bool) → rows2 ≡ (rows ++ waiting) ++ enter_row c ∷ [] → waiting2 ≡ [] → bare2 ≡ true
+    → Written rows2 waiting2 bare2 pool (level c kids ∷ around) Nil left
+entered_as rows waiting bare pool around kids left h c none rows2 waiting2 bare2 r w b =
+    written_as ((rows ++ waiting) ++ enter_row c ∷ []) rows2 [] waiting2 true bare2 pool pool (level c kids ∷ around) Nil left left r w b refl refl
+    (with_enter rows waiting bare pool around kids left h (enter_row c) c none (enter_shown c left) (enter_taken c))
+
+none-inside : (n : ℕ) (waiting : List Row) → all_taken waiting ≡ 0 → all_taken (take n waiting) ≡ 0
+none-inside n waiting none =
+    omega (arith, none, ap all_taken (take-append-drop n waiting), sum_by-append lines_taken (take n waiting) (drop n waiting))
+
+pub inside_none : (c : Container) (waiting : List Row) → all_taken waiting ≡ 0 → all_taken (inside c waiting) ≡ 0
+inside_none Quote waiting none = none-inside (length waiting - 1) waiting none
+inside_none (Item item) waiting none = refl
+
+pub exited_as : (rows waiting : List Row) (bare : Bool) (pool : List BlockLine) (around : List Level) (l : Level) (kids : Blocks) (left : List BlockLine)
+    → Written rows waiting bare pool (l ∷ around) kids left → all_taken waiting ≡ 0
+    → (rows2 waiting2 : List Row) (bare2 : Bool) (c : Container) → c ≡ l.container → rows2 ≡ (rows ++ inside c waiting) ++ row.Exit ∷ [] → waiting2 ≡ outside c waiting → bare2 ≡ false
+    → Written rows2 waiting2 bare2 pool around (join l.before (holds l.container kids)) left
+exited_as rows waiting bare pool around l kids left h none rows2 waiting2 bare2 c is r w b =
+    let same = l.container in
+    written_as ((rows ++ inside same waiting) ++ row.Exit ∷ []) rows2 (outside same waiting) waiting2 false bare2 pool pool around (join l.before (holds same kids)) left left
+    (r ∙ ap (λ x. (rows ++ inside x waiting) ++ row.Exit ∷ []) is) (w ∙ ap (λ x. outside x waiting) is) b refl refl
+    (with_exit rows waiting bare pool around same l.before kids left h (inside_none same waiting none))
+
+pub blank_as : (rows waiting : List Row) (bare : Bool) (pool : List BlockLine) (around : List Level) (kids : Blocks)
+    → Written rows waiting bare pool around kids [] → (ending : Option LineEnding)
+    → (rows2 waiting2 : List Row) (bare2 : Bool) → rows2 ≡ rows → waiting2 ≡ waiting ++ row.Blank ending ∷ [] → bare2 ≡ bare
+    → Written rows2 waiting2 bare2 pool around (join kids (one (Blank ending))) []
+blank_as rows waiting bare pool around kids h ending rows2 waiting2 bare2 r w b =
+    written_as rows rows2 (waiting ++ row.Blank ending ∷ []) waiting2 bare bare2 pool pool around (join kids (one (Blank ending))) [] [] r w b refl refl
+    (with_ending rows waiting bare pool around kids [] h (row.Blank ending) (Blank ending) refl refl)

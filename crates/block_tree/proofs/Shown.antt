@@ -1,28 +1,15 @@
 -- What rows show after one more row or line.
-use Rattle.std.proofs.Common.{◌≡◌, ℕ, ◌+◌, ◌-◌, ◌≤◌, ◌<◌, get_or, true, false, List, [], ◌∷◌, ◌++◌, refl, sym, ap, ◌∙◌, take, drop, length, append_assoc, arith}
+use Rattle.std.proofs.Common.{◌≡◌, ℕ, ◌+◌, ◌≤◌, true, false, List, [], ◌∷◌, ◌++◌, refl, sym, ap, ◌∙◌, take, drop, length, append_assoc, arith}
 use Rattle.std.specs.Prelude.{map}
-use Rattle.std.specs.List.{fold, sum_by}
-use Rattle.std.proofs.lemmas.List.{append-nil, take-append-le, drop-append-le, length-drop, length-take, take-append-drop, take_all, drop_all, drop-drop, map-append, take_more, get_or-drop}
+use Rattle.std.specs.List.{fold}
+use Rattle.std.proofs.lemmas.List.{append-nil, take-append-le, drop-append-le, length-drop, length-take, take-append-drop, drop_all, drop-drop, map-append}
 use Rattle.std.proofs.lemmas.List.Sums.{fold_push, fold-append, sum_by-cons}
 use Rattle.markdown_definition.specs.declared.row.Row.{Row}
 use Rattle.markdown_definition.specs.declared.row.Row.TheVariants as row
 use Rattle.markdown_definition.specs.declared.row.Piece.{Piece}
-use Rattle.markdown_definition.specs.Tree.{BlockLine, Block, Paragraph, Heading, IndentedCode, FencedCode, Blank, Blocks, Nil, Cons, join, own_lines, blanks}
-use Rattle.markdown_definition.specs.Rows.{BlockRow, Single, rows_of, Shown, shown, shown_as, show_row, block_shown, lines_taken, all_taken, first_codes, piece_line, piece_lines}
-
--- ---- lists of blocks
-
-pub join-nil : (bs : Blocks) → join bs Nil ≡ bs
-join-nil Nil = refl
-join-nil (Cons b bs) = ap (Cons b) (join-nil bs)
-
-pub join-assoc : (bs cs ds : Blocks) → join (join bs cs) ds ≡ join bs (join cs ds)
-join-assoc Nil cs ds = refl
-join-assoc (Cons b bs) cs ds = ap (Cons b) (join-assoc bs cs ds)
-
-pub rows_of-join : (bs cs : Blocks) → rows_of (join bs cs) ≡ rows_of bs ++ rows_of cs
-rows_of-join Nil cs = refl
-rows_of-join (Cons b bs) cs = ap (λ x. Single b ∷ x) (rows_of-join bs cs)
+use Rattle.markdown_definition.specs.Tree.{BlockLine, Paragraph, Heading, IndentedCode, FencedCode, own_lines}
+use Rattle.block_tree.specs.Shows.{lone}
+use Rattle.markdown_definition.specs.Rows.{BlockRow, Single, Shown, shown, shown_as, show_row, row_shown, lines_taken, all_taken, piece_line, piece_lines}
 
 -- ---- more lines beside the rows
 
@@ -49,6 +36,9 @@ row_longer (row.UnclosedCode n) out [] more le = absurd (omega arith)
 row_longer (row.UnclosedCode n) out (l ∷ ls) more le =
     ap (λ front. shown_as (out ++ Single (FencedCode l.codes false front) ∷ []) (drop (1 + n) ((l ∷ ls) ++ more))) (take-append-le n ls more (omega arith))
     ∙ ap (shown_as (out ++ Single (FencedCode l.codes false (take n ls)) ∷ [])) (drop-append-le (1 + n) (l ∷ ls) more le)
+row_longer row.EnterQuote out ls more le = refl
+row_longer (row.EnterItem marker number) out ls more le = refl
+row_longer row.Exit out ls more le = refl
 row_longer (row.Ending e) out ls more le = refl
 row_longer (row.Blank e) out ls more le = refl
 
@@ -81,23 +71,37 @@ pool_more rows pool s l le h = shown_longer rows [] pool (l ∷ []) le ∙ ap (�
 
 -- ---- more rows
 
-pub row_shown : (rows : List Row) (pool : List BlockLine) (r : Row) (s : Shown) → shown rows pool ≡ s → shown (rows ++ r ∷ []) pool ≡ show_row s r
-row_shown rows pool r s h = fold_push show_row (shown_as [] pool) rows r ∙ ap (λ x. show_row x r) h
+pub one_row_shown : (rows : List Row) (pool : List BlockLine) (r : Row) (s : Shown) → shown rows pool ≡ s → shown (rows ++ r ∷ []) pool ≡ show_row s r
+one_row_shown rows pool r s h = fold_push show_row (shown_as [] pool) rows r ∙ ap (λ x. show_row x r) h
 
--- the endings of blank lines
-abbrev pub blank_row : Piece → Row
-blank_row piece = row.Blank piece.ending
+-- a row that takes no lines shows the same whatever is left
+none_taken : (r : Row) (left : List BlockLine) → lines_taken r ≡ 0 → row_shown r left ≡ lone r
+none_taken (row.Paragraph n) left h = ap (λ (k : ℕ). Single (Paragraph (own_lines (take k left)))) h ∙ sym (ap (λ (k : ℕ). Single (Paragraph (own_lines (take k [])))) h)
+none_taken (row.Heading rank) left h = absurd (omega (arith, h))
+none_taken row.Break left h = refl
+none_taken (row.IndentedCode n) left h = ap (λ (k : ℕ). Single (IndentedCode (own_lines (take k left)))) h ∙ sym (ap (λ (k : ℕ). Single (IndentedCode (own_lines (take k [])))) h)
+none_taken (row.FencedCode n) left h = absurd (omega (arith, h))
+none_taken (row.UnclosedCode n) left h = absurd (omega (arith, h))
+none_taken row.EnterQuote left h = refl
+none_taken (row.EnterItem marker number) left h = refl
+none_taken row.Exit left h = refl
+none_taken (row.Ending e) left h = refl
+none_taken (row.Blank e) left h = refl
 
-pub blanks_shown : (pieces : List Piece) (s : Shown) → fold show_row s (map blank_row pieces) ≡ shown_as (s.rows ++ rows_of (blanks (piece_lines pieces))) s.left
-blanks_shown [] s = ap (λ out. shown_as out s.left) (sym (append-nil s.rows))
-blanks_shown (p ∷ ps) s =
-    blanks_shown ps (show_row s (blank_row p))
-    ∙ ap (λ out. shown_as out s.left) (append_assoc s.rows (Single (Blank p.ending) ∷ []) (rows_of (blanks (piece_lines ps))))
+-- rows that take no lines
+pub lone_shown : (rows : List Row) (s : Shown) → all_taken rows ≡ 0 → fold show_row s rows ≡ shown_as (s.rows ++ map lone rows) s.left
+lone_shown [] s h = ap (λ out. shown_as out s.left) (sym (append-nil s.rows))
+lone_shown (r ∷ rs) s h =
+    let parts = sum_by-cons lines_taken r rs in
+    let first : lines_taken r ≡ 0 = omega (arith, parts, h) in
+    let others : all_taken rs ≡ 0 = omega (arith, parts, h) in
+    lone_shown rs (show_row s r) others
+    ∙ ap (λ x. shown_as ((s.rows ++ x ∷ []) ++ map lone rs) (drop (lines_taken r) s.left)) (none_taken r s.left first)
+    ∙ ap (λ k. shown_as ((s.rows ++ lone r ∷ []) ++ map lone rs) (drop k s.left)) first
+    ∙ ap (λ out. shown_as out s.left) (append_assoc s.rows (lone r ∷ []) (map lone rs))
 
-pub more_blanks : (rows : List Row) (pool : List BlockLine) (pieces : List Piece) (s : Shown) → shown rows pool ≡ s
-    → shown (rows ++ map blank_row pieces) pool ≡ shown_as (s.rows ++ rows_of (blanks (piece_lines pieces))) s.left
-more_blanks rows pool pieces s h =
-    fold-append show_row (shown_as [] pool) rows (map blank_row pieces) ∙ ap (λ x. fold show_row x (map blank_row pieces)) h ∙ blanks_shown pieces s
+pub more_lone : (rows more : List Row) (pool : List BlockLine) (s : Shown) → shown rows pool ≡ s → all_taken more ≡ 0 → shown (rows ++ more) pool ≡ shown_as (s.rows ++ map lone more) s.left
+more_lone rows more pool s h none = fold-append show_row (shown_as [] pool) rows more ∙ ap (λ x. fold show_row x more) h ∙ lone_shown more s none
 
 -- the lines that no row takes are cut off
 pub cut_shown : (rows : List Row) (pool : List BlockLine) (s : Shown) → all_taken rows ≤ length pool → shown rows pool ≡ s
@@ -116,21 +120,3 @@ cut_shown rows pool s le h =
 -- one more piece
 pub piece_pushed : (old : List Piece) (p : Piece) (new : List Piece) (l : BlockLine) → new ≡ old ++ p ∷ [] → piece_line p ≡ l → piece_lines new ≡ piece_lines old ++ l ∷ []
 piece_pushed old p new l pushed is = ap piece_lines pushed ∙ map-append piece_line old (p ∷ []) ∙ ap (λ x. piece_lines old ++ x ∷ []) is
-
--- one more ending of a blank line
-pub blanks_more : (rows0 rows rows2 : List Row) (pieces : List Piece) (start i : ℕ) (d : Piece) → start ≤ i → i < length pieces
-    → rows ≡ rows0 ++ map blank_row (take (i - start) (drop start pieces)) → rows2 ≡ rows ++ blank_row (get_or pieces i d) ∷ []
-    → rows2 ≡ rows0 ++ map blank_row (take (i + 1 - start) (drop start pieces))
-blanks_more rows0 rows rows2 pieces start i d le lt so_far pushed =
-    let rest = drop start pieces in
-    let n = i - start in
-    let longer : i + 1 - start ≡ n + 1 = omega arith in
-    let room : n < length rest = omega (arith, length-drop start pieces) in
-    let place : start + n ≡ i = omega arith in
-    let last : get_or rest n d ≡ get_or pieces i d = get_or-drop start pieces n d ∙ ap (λ k. get_or pieces k d) place in
-    pushed ∙ ap (λ rs. rs ++ blank_row (get_or pieces i d) ∷ []) so_far
-    ∙ append_assoc rows0 (map blank_row (take n rest)) (blank_row (get_or pieces i d) ∷ [])
-    ∙ ap (λ x. rows0 ++ x) (
-    ap (λ x. map blank_row (take n rest) ++ blank_row x ∷ []) (sym last)
-    ∙ sym (map-append blank_row (take n rest) (get_or rest n d ∷ []))
-    ∙ ap (map blank_row) (sym (take_more rest n d room) ∙ ap (λ k. take k rest) (sym longer)))

@@ -1,4 +1,5 @@
+pub mod Spine
+pub mod Waits
 pub mod Shows
 pub mod Leaves
-pub mod Containers
 pub mod View

@@ -1,10 +1,12 @@
 -- What rows show of a tree that is being read.
-use Rattle.std.specs.Prelude.{◌≡◌, ℕ, List, [], ◌∷◌, ◌++◌, Option, None, length}
+use Rattle.std.specs.Prelude.{◌≡◌, ℕ, Bool, true, false, List, [], ◌∷◌, ◌++◌, Option, None, length, map}
 use Rattle.markdown_options.specs.declared.line_ending.LineEnding.{LineEnding}
+use Rattle.markdown_definition.specs.declared.container.Container.{Container}
 use Rattle.markdown_definition.specs.declared.row.Row.{Row}
 use Rattle.markdown_definition.specs.CodeFenced.{Fence}
-use Rattle.markdown_definition.specs.Tree.{BlockLine, block_line, Blocks, OpenLeaf, Text, Indented, Fenced, Opening, Leaf, Inside, Tree, last_ending, last_ending_or}
-use Rattle.markdown_definition.specs.Rows.{rows_of, shown, shown_as}
+use Rattle.markdown_definition.specs.Tree.{BlockLine, block_line, Blocks, Nil, Cons, front, trailing, OpenLeaf, Text, Indented, Fenced, last_ending, last_ending_or}
+use Rattle.markdown_definition.specs.Rows.{BlockRow, rows_of, row_shown, shown, shown_as}
+use Rattle.block_tree.specs.Spine.{Level, Spine, rows_around, containers_of}
 
 -- what is kept of an open leaf beside its lines
 pub data LeafState : Type 0 where
@@ -23,15 +25,22 @@ leaf_lines (Text ls) = ls
 leaf_lines (Indented ls pending) = ls ++ pending
 leaf_lines (Fenced fence opening ls) = block_line fence.info None ∷ ls
 
--- the rows stand for the children that are finished, and leave the lines of the open leaf
-pub record Shows (rows : List Row) (pool : List BlockLine) (state : LeafState) (done : Blocks) (leaf : OpenLeaf) : Type 0 where
-  pub rows_shown : shown rows pool ≡ shown_as (rows_of done) (leaf_lines leaf)
-  pub same_state : state ≡ state_of leaf
+-- a row that takes no lines
+abbrev pub lone : Row → BlockRow
+lone r = row_shown r []
 
--- the same where no container is open
-abbrev pub ShowsOpening : List Row → List BlockLine → LeafState → Blocks → Opening → Type 0
-ShowsOpening rows pool state done (Leaf leaf) = Shows rows pool state done leaf
-ShowsOpening rows pool state done (Inside c kids inner) = ⊥
+abbrev pub is_nil : Blocks → Bool
+is_nil Nil = true
+is_nil (Cons b bs) = false
 
-abbrev pub ShowsTree : List Row → List BlockLine → LeafState → Tree → Type 0
-ShowsTree rows pool state t = ShowsOpening rows pool state t.done t.now
+-- the rows stand for what was read but for the endings at the end, which wait, and leave these lines
+pub record Written (rows waiting : List Row) (bare : Bool) (pool : List BlockLine) (around : List Level) (kids : Blocks) (left : List BlockLine) : Type 0 where
+  pub rows_shown : shown rows pool ≡ shown_as (rows_around around ++ rows_of (front kids)) left
+  pub waiting_shown : map lone waiting ≡ rows_of (trailing kids)
+  pub is_bare : bare ≡ is_nil (front kids)
+
+-- and the lines are those of the open leaf
+pub record Shows (rows waiting : List Row) (bare : Bool) (containers : List Container) (pool : List BlockLine) (state : LeafState) (s : Spine) : Type 0 where
+  pub written : Written rows waiting bare pool s.around s.kids (leaf_lines s.leaf)
+  pub opened : containers ≡ containers_of s.around
+  pub same_state : state ≡ state_of s.leaf

@@ -1,26 +1,53 @@
 -- What a parser has read.
-use Rattle.std.specs.Prelude.{◌≡◌, Bool, List, length, Option}
+use Rattle.std.specs.Prelude.{◌≡◌, ℕ, ◌<◌, true, false, List, [], length, Option}
 use Rattle.markdown_options.specs.declared.configuration.Constructs.{Constructs}
 use Rattle.markdown_options.specs.declared.line_ending.LineEnding.{LineEnding}
 use Rattle.markdown_definition.specs.Columns.{Rest}
-use Rattle.markdown_definition.specs.Tree.{Blocks, Nil, join, Opening, Leaf, Inside, Tree, tree, nothing, takes, taken, leaf_line, closed}
+use Rattle.markdown_definition.specs.Tree.{Blocks, Nil, Text, Opening, Leaf, Inside, Tree, tree, nothing, new, leaf_line, grow}
 use Rattle.markdown_definition.specs.Rows.{piece_lines}
 use Rattle.block_tree.specs.declared.parser.Parser.{Parser}
 use Rattle.block_tree.specs.Leaves.{leaf_state}
-use Rattle.block_tree.specs.Shows.{ShowsTree}
+use Rattle.block_tree.specs.Spine.{Level, Spine, spine, spine_at, spine_of, grown}
+use Rattle.block_tree.specs.Shows.{Shows}
 
--- what was read so far is this tree
-abbrev pub HasRead : {A : Type 0} → Parser A → Tree → Type 0
-HasRead p t = ShowsTree p.rows.items (piece_lines p.pieces.items) (leaf_state p.leaf) t
+-- what was read so far is this
+abbrev pub HasRead : {A : Type 0} → Parser A → Spine → Type 0
+HasRead p s = Shows p.rows.rows.items p.rows.waiting.items p.rows.bare p.open.items (piece_lines p.pieces.items) (leaf_state p.leaf) s
 
--- a tree after what a line adds to its finished children and leaves open
-abbrev pub with_more : Tree → Tree → Tree
-with_more t more = tree (join t.done more.done) more.now
+-- where no leaf is open, this is added in the innermost container
+abbrev pub Adds : {A : Type 0} → Parser A → Parser A → Tree → Type 0
+Adds old new more = (around : List Level) (kids : Blocks) → HasRead old (spine around kids (Text [])) → HasRead new (grown around kids more)
 
--- what a line adds where no container is open
-abbrev pub leaf_step : Constructs → Option LineEnding → Opening → Rest → Tree
-leaf_step on ending (Leaf leaf) rest = taken (takes on leaf rest ending) (leaf_line on (Leaf leaf) rest ending)
-leaf_step on ending (Inside c kids inner) rest = tree Nil (Inside c kids inner)
+-- so many containers stay open, and what is open in them becomes something else
+abbrev pub Grows : {A : Type 0} → Parser A → Parser A → ℕ → (Opening → Tree) → Type 0
+Grows old new depth becomes = (around : List Level) (kids : Blocks) (away : Opening) → depth ≡ length around → HasRead old (spine_at around kids away) → HasRead new (grown around kids (becomes away))
 
-abbrev pub closed_tree : Tree → Tree
-closed_tree t = tree (closed t) nothing
+-- what a line that is in all containers makes of the open leaf
+abbrev pub leaf_grown : Constructs → Option LineEnding → Rest → Opening → Tree
+leaf_grown on ending rest (Leaf leaf) = grow on ending (Leaf leaf) rest
+leaf_grown on ending rest (Inside c kids inner) = tree Nil (Inside c kids inner)
+
+-- how far a line is in the containers that are open
+pub record Descent (on : Constructs) (ending : Option LineEnding) (line : Rest) (t : Tree) (count depth : ℕ) (rest : Rest) : Type 0 where
+  pub around : List Level
+  pub kids : Blocks
+  pub now : Opening
+  pub deep : depth ≡ length around
+  pub same : spine_at around kids now ≡ spine_of t
+  pub grows : grown [] t.done (grow on ending t.now line) ≡ grown around kids (grow on ending now rest)
+  pub stuck : depth < count → grow on ending now rest ≡ new (length rest) on false now ending rest
+
+-- what a rest makes where all that was open is closed
+abbrev pub new_inside : Constructs → Option LineEnding → Rest → Tree
+new_inside on ending rest = new (length rest) on true nothing ending rest
+
+-- containers started on a line are open, and what they make of the rest is what is left to read
+pub record Inner {A : Type 0} (p : Parser A) (around : List Level) (kids : Blocks) (from to : Option LineEnding → Tree) : Type 0 where
+  pub inner : List Level
+  pub inner_kids : Blocks
+  pub reads : HasRead p (spine inner inner_kids (Text []))
+  pub grows : (ending : Option LineEnding) → grown around kids (from ending) ≡ grown inner inner_kids (to ending)
+
+-- all containers that a rest starts are open, and the rest after them starts none
+abbrev pub Entered : {A : Type 0} → Constructs → Rest → Rest → Parser A → List Level → Blocks → Type 0
+Entered on rest after p around kids = Inner p around kids (λ ending. new_inside on ending rest) (λ ending. leaf_line on nothing after ending)

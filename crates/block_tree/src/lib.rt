@@ -3,5 +3,6 @@
 
 mod leaf;
 mod parser;
+mod rows;
 
 pub use parser::{BlockRows, block_rows};

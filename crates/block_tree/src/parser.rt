@@ -1,19 +1,20 @@
 //! Blocks, line by line (CommonMark 4, 5 and appendix, phase 1).
-ghost use Rattle.std.specs.Prelude.{◌≡◌, ◌≤◌, ◌<◌, ◌+◌, ◌&&◌, not, ◌^◌, ◌++◌, ◌∷◌, [], IfOk, length, vec_len};
+ghost use Rattle.std.specs.Prelude.{◌≡◌, ◌≤◌, ◌<◌, ◌+◌, ◌-◌, ◌&&◌, not, ◌^◌, ◌++◌, ◌∷◌, [], IfOk, length, vec_len};
 ghost use Rattle.markdown_definition.specs.Tree.{blocks, rest_line};
 ghost use Rattle.markdown_definition.specs.Rows.{all_taken, piece_line, piece_lines, rows_of, shown, shown_as};
 ghost use Rattle.markdown_definition.specs.CodeIndented.{starts_code_indented as has_code_indent};
 ghost use Rattle.block_lines.specs.View.{rest_of};
 ghost use Rattle.block_tree.specs.Leaves.{lines_needed};
-ghost use Rattle.block_tree.specs.Containers.{HasNoContainers};
 
 use crate::leaf::OpenLeaf;
+use crate::rows::Rows;
 use block_lines::Cursor;
 use block_lines::code_fenced::{Fence, fence_line, fence_start, is_fence_end};
 use block_lines::code_indented::starts_code_indented;
+use block_lines::container::{continues, starts};
 use block_lines::heading_atx::{Atx, heading_atx};
 use block_lines::thematic_break::is_break;
-use markdown_definition::{Piece, Row};
+use markdown_definition::{Container, Piece, Row};
 use markdown_options::{Constructs, LineEnding};
 use std::alloc::{AllocError, Allocator};
 use text_lines::{Line, Lines};
@@ -28,12 +29,14 @@ pub struct BlockRows<'a, A: Allocator> {
 /// What was read so far.
 #[derive(Drop)]
 struct Parser<'a, A: Allocator> {
-    rows: Vec<Row, A>,
+    rows: Rows<A>,
     pieces: Vec<Piece<'a>, A>,
     /// How many of the lines the rows take. The others are those of the open leaf.
     taken: usize,
+    /// The containers that are open, the outermost first.
+    open: Vec<Container, A>,
     leaf: OpenLeaf<'a>,
-    ghost counted: { taken ≡ all_taken rows.items },
+    ghost counted: { taken ≡ all_taken rows.rows.items },
     ghost enough: { taken + lines_needed leaf ≤ vec_len pieces },
 }
 
@@ -41,50 +44,88 @@ struct Parser<'a, A: Allocator> {
 const NOTHING: OpenLeaf<'static> = OpenLeaf::Text { ending: None };
 
 impl<'a, A: Allocator> Parser<'a, A> {
-    ghost use Rattle.std.specs.Prelude.{◌≡◌, OnOk};
-    ghost use Rattle.markdown_definition.specs.Lines.{text_line};
-    ghost use Rattle.std.specs.Prelude.{List, Option};
+    ghost use Rattle.std.specs.Prelude.{◌≡◌, ◌==◌, ◌&&◌, OnOk, IfOk, List, Option, Bool, true, false};
     ghost use Rattle.markdown_options.specs.declared.line_ending.LineEnding.{LineEnding};
-    ghost use Rattle.markdown_definition.specs.CodeFenced.{Fence as FenceRecord};
+    ghost use Rattle.markdown_definition.specs.Lines.{text_line};
+    ghost use Rattle.markdown_definition.specs.Columns.{Rest};
     ghost use Rattle.markdown_definition.specs.Indents.{outdented};
-    ghost use Rattle.markdown_definition.specs.Tree.{Tree, Blocks, BlockLine, tree, empty_tree, nothing, Nil, join, one, step, after, text_line_of, ended, block_line, last_ending, last_ending_or};
-    ghost use Rattle.markdown_definition.specs.Tree.{leaf_line as line_of_leaf, has_text as is_text_open, Blank as BlankBlock, Break as BreakBlock, Heading as HeadingBlock, Leaf as OpenedLeaf, Text as TextLeaf, Indented as IndentedLeaf, Fenced as FencedLeaf};
+    ghost use Rattle.markdown_definition.specs.CodeFenced.{Fence as FenceRecord};
+    ghost use Rattle.markdown_definition.specs.Tree.{Tree, Block, Blocks, BlockLine, tree, nothing, Nil, join, one, ended, step, after, new, close, close_leaf, text_line_of, block_line, last_ending, last_ending_or, is_ending, is_nothing, is_some_line, leaf_text, began_blank, OpenLeaf as OpenLeafOf};
+    ghost use Rattle.markdown_definition.specs.Tree.{Opening, leaf_line as line_of_leaf, has_text as is_text_open, Blank as BlankBlock, Break as BreakBlock, Heading as HeadingBlock, Leaf as OpenedLeaf, Inside, Text as TextLeaf, Indented as IndentedLeaf, Fenced as FencedLeaf};
+    ghost use Rattle.markdown_definition.specs.Rows.{block_rows, row_shown, lines_taken};
     ghost use Rattle.block_lines.specs.Fences.{fence_view};
-    ghost use Rattle.block_tree.specs.View.{HasRead, with_more, leaf_step, closed_tree};
+    ghost use Rattle.block_tree.specs.Spine.{Level, Spine, level, spine, spine_at, spine_of, grown, exited};
+    ghost use Rattle.block_tree.specs.Shows.{leaf_lines};
+    ghost use Rattle.block_tree.specs.View.{HasRead, Adds, Grows, Descent, Entered, leaf_grown};
 
-    fn new(rows_alloc: A, pieces_alloc: A) -> Parser<'a, A>
-        ensures { HasRead result empty_tree }
+    /// Reads a line: the containers that go on, then the leaf that takes the rest, or what is new.
+    fn line(&mut self, on: &Constructs, line: Line<'a>) -> Result<(), AllocError>
+        ensures { OnOk result ((t : Tree) → HasRead self.old (spine_of t) → HasRead self.new (spine_of (step on.now t (text_line line.entry.content.now line.entry.ending)))) }
     {
-        Parser {
-            rows: Vec::new(rows_alloc),
-            pieces: Vec::new(pieces_alloc),
-            taken: 0,
-            leaf: OpenLeaf::Text { ending: None },
+        let (depth, rest) = self.descend(on, Cursor::new(line.content));
+        if depth < self.open.len() {
+            return self.start_line(on, depth, rest, line.ending);
+        }
+        match self.leaf {
+            OpenLeaf::Text { .. } => self.start_line(on, depth, rest, line.ending),
+            OpenLeaf::Indented { .. } => self.indented_line(on, rest, line.ending),
+            OpenLeaf::Fenced { fence, .. } => self.fenced_line(on, fence, rest, line.ending),
         }
     }
 
-    /// Reads a line.
-    fn line(&mut self, on: &Constructs, line: Line<'a>) -> Result<(), AllocError>
-        requires { HasNoContainers on.now }
-        ensures { OnOk result ((t : Tree) → HasRead self.old t → HasRead self.new (step on.now t (text_line line.entry.content.now line.entry.ending))) }
+    /// How many containers go on, and the rest after what they have on this line.
+    fn descend(&self, on: &Constructs, line: Cursor<'a>) -> (usize, Cursor<'a>)
+        ensures within { result.0 ≤ vec_len self.now.open }
+        ensures descent { (t : Tree) (ending : Option LineEnding) → HasRead self.now (spine_of t) → Descent on.now ending (rest_of line.entry) t (vec_len self.now.open) result.0 (rest_of result.1) }
     {
-        self.rest_of_line(on, Cursor::new(line.content), line.ending)
+        let mut rest = line;
+        for depth in 0..self.open.len() {
+            match continues(on, self.open[depth], self.began_blank(depth), rest) {
+                Some(after) => rest = after,
+                None => return (depth, rest),
+            }
+        }
+        (self.open.len(), rest)
     }
 
-    /// Reads the rest of a line, which the open leaf may take.
-    fn rest_of_line(
-        &mut self,
-        on: &Constructs,
-        rest: Cursor<'a>,
-        ending: Option<LineEnding>,
-    ) -> Result<(), AllocError>
-        ensures { OnOk result ((t : Tree) → HasRead self.old t → HasRead self.new (with_more t (leaf_step on.now ending t.now (rest_of rest.entry)))) }
+    /// Whether a container, at a depth, began with a blank line, and nothing followed.
+    fn began_blank(&self, depth: usize) -> bool
+        requires { depth < vec_len self.now.open }
+        ensures { (around : List Level) (kids inner_kids : Blocks) (c : Container) (inner : Opening) → depth ≡ length around → HasRead self.now (spine_at around kids (Inside c inner_kids inner)) → result ≡ began_blank inner_kids inner }
+    {
+        if depth + 1 != self.open.len() {
+            return false;
+        }
+        self.is_nothing() && self.rows.began_blank()
+    }
+
+    /// Whether no leaf is open.
+    fn is_nothing(&self) -> bool
+        ensures { (s : Spine) → HasRead self.now s → result ≡ is_nothing (OpenedLeaf s.leaf) }
     {
         match self.leaf {
-            OpenLeaf::Text { .. } => self.leaf_line(on, rest, ending),
-            OpenLeaf::Indented { .. } => self.indented_line(on, rest, ending),
-            OpenLeaf::Fenced { fence, .. } => self.fenced_line(on, fence, rest, ending),
+            OpenLeaf::Text { .. } => self.taken == self.pieces.len(),
+            OpenLeaf::Indented { .. } => false,
+            OpenLeaf::Fenced { .. } => false,
         }
+    }
+
+    /// Whether a paragraph is open.
+    fn has_text(&self) -> bool
+        ensures { (s : Spine) → HasRead self.now s → result ≡ is_some_line (leaf_text s.leaf) }
+    {
+        match self.leaf {
+            OpenLeaf::Text { .. } => self.taken < self.pieces.len(),
+            OpenLeaf::Indented { .. } => false,
+            OpenLeaf::Fenced { .. } => false,
+        }
+    }
+
+    /// Whether what starts on a line that is in so many containers interrupts a paragraph.
+    fn interrupts(&self, depth: usize) -> bool
+        ensures { (around : List Level) (kids : Blocks) (away : Opening) → depth ≡ length around → HasRead self.now (spine_at around kids away) → result ≡ ((depth == vec_len self.now.open) && is_text_open away) }
+    {
+        depth == self.open.len() && self.has_text()
     }
 
     /// Indented code goes on where the rest has its indent, and may go on over a blank one.
@@ -94,8 +135,7 @@ impl<'a, A: Allocator> Parser<'a, A> {
         rest: Cursor<'a>,
         ending: Option<LineEnding>,
     ) -> Result<(), AllocError>
-        ensures { OnOk result ((ls pending : List BlockLine) (done : Blocks) → HasRead self.old (tree done (OpenedLeaf (IndentedLeaf ls pending))) →
-            HasRead self.new (with_more (tree done (OpenedLeaf (IndentedLeaf ls pending))) (leaf_step on.now ending (OpenedLeaf (IndentedLeaf ls pending)) (rest_of rest.entry)))) }
+        ensures { OnOk result ((around : List Level) (kids : Blocks) (ls pending : List BlockLine) → HasRead self.old (spine around kids (IndentedLeaf ls pending)) → HasRead self.new (grown around kids (leaf_grown on.now ending (rest_of rest.entry) (OpenedLeaf (IndentedLeaf ls pending))))) }
     {
         if rest.is_blank() {
             self.pieces.push(piece(rest.outdented(4), ending))?;
@@ -107,7 +147,8 @@ impl<'a, A: Allocator> Parser<'a, A> {
             self.leaf = OpenLeaf::Indented { count, ending };
             return Ok(());
         }
-        self.leaf_line(on, rest, ending)
+        let depth = self.open.len();
+        self.start_line(on, depth, rest, ending)
     }
 
     /// Fenced code takes every line up to its closing fence.
@@ -119,8 +160,7 @@ impl<'a, A: Allocator> Parser<'a, A> {
         ending: Option<LineEnding>,
     ) -> Result<(), AllocError>
         requires { self.old.taken + 1 ≤ vec_len self.old.pieces }
-        ensures { OnOk result ((opening : Option LineEnding) (ls : List BlockLine) (done : Blocks) → HasRead self.old (tree done (OpenedLeaf (FencedLeaf (fence_view fence.entry) opening ls))) →
-            HasRead self.new (with_more (tree done (OpenedLeaf (FencedLeaf (fence_view fence.entry) opening ls))) (leaf_step on.now ending (OpenedLeaf (FencedLeaf (fence_view fence.entry) opening ls)) (rest_of rest.entry)))) }
+        ensures { OnOk result ((around : List Level) (kids : Blocks) (opening : Option LineEnding) (ls : List BlockLine) → HasRead self.old (spine around kids (FencedLeaf (fence_view fence.entry) opening ls)) → HasRead self.new (grown around kids (leaf_grown on.now ending (rest_of rest.entry) (OpenedLeaf (FencedLeaf (fence_view fence.entry) opening ls))))) }
     {
         if !is_fence_end(on, &fence, rest) {
             self.pieces.push(piece(fence_line(&fence, rest), ending))?;
@@ -128,110 +168,131 @@ impl<'a, A: Allocator> Parser<'a, A> {
             return Ok(());
         }
         let count = self.pieces.len() - self.taken - 1;
-        self.rows.push(Row::FencedCode(count))?;
-        self.taken = self.pieces.len();
-        self.leaf = NOTHING;
-        self.rows.push(Row::Ending(ending))?;
-        Ok(())
+        self.end_leaf(Row::FencedCode(count), ending)
     }
 
-    /// Reads a rest that the open leaf doesn't take: a blank one, or a leaf that starts.
-    fn leaf_line(
+    /// Reads the rest of a line after the containers that it is in, which are so many.
+    fn start_line(
         &mut self,
         on: &Constructs,
+        depth: usize,
         rest: Cursor<'a>,
         ending: Option<LineEnding>,
     ) -> Result<(), AllocError>
-        ensures { OnOk result ((t : Tree) → HasRead self.old t → HasRead self.new (with_more t (line_of_leaf on.now t.now (rest_of rest.entry) ending))) }
+        requires { depth ≤ vec_len self.old.open }
+        ensures { OnOk result (Grows self.old self.new depth (λ away. new (length (rest_of rest.entry)) on.now (depth == vec_len self.old.open) away ending (rest_of rest.entry))) }
     {
+        let Some((container, after)) = starts(on, self.interrupts(depth), rest) else {
+            return self.leaf_line(on, depth, rest, ending);
+        };
+        self.close_to(depth)?;
+        self.enter(container)?;
+        let inside = self.enter_all(on, after)?;
+        let depth = self.open.len();
+        self.leaf_line(on, depth, inside, ending)
+    }
+
+    /// Starts containers, where no leaf is open, as long as the rest starts one.
+    fn enter_all(&mut self, on: &Constructs, rest: Cursor<'a>) -> Result<Cursor<'a>, AllocError>
+        ensures { IfOk result (λ inside. (around : List Level) (kids : Blocks) → HasRead self.old (spine around kids (TextLeaf [])) → Entered on.now (rest_of rest.entry) (rest_of inside) self.new around kids) }
+    {
+        let mut inside = rest;
+        while let Some((container, after)) = starts(on, false, inside) {
+            self.enter(container)?;
+            inside = after;
+        }
+        Ok(inside)
+    }
+
+    /// Reads a rest that starts no container: a blank one, or a leaf that starts.
+    fn leaf_line(
+        &mut self,
+        on: &Constructs,
+        depth: usize,
+        rest: Cursor<'a>,
+        ending: Option<LineEnding>,
+    ) -> Result<(), AllocError>
+        requires { depth ≤ vec_len self.old.open }
+        ensures { OnOk result (Grows self.old self.new depth (λ away. line_of_leaf on.now away (rest_of rest.entry) ending)) }
+    {
+        let paragraph = self.has_text();
         if rest.is_blank() {
+            self.close_to(depth)?;
             return self.blank_line(ending);
         }
-        let paragraph = self.has_text();
         if begins_code(on, paragraph, rest) {
+            self.close_to(depth)?;
             return self.start_indented(rest, ending);
         }
         if let Some(fence) = fence_start(on, rest) {
+            self.close_to(depth)?;
             return self.start_fenced(fence, ending);
         }
         if let Some(atx) = heading_atx(on, rest) {
+            self.close_to(depth)?;
             return self.heading(atx, ending);
         }
         if is_break(on, rest) {
+            self.close_to(depth)?;
             return self.thematic_break(ending);
         }
+        if paragraph {
+            return self.text_line(rest, ending);
+        }
+        self.close_to(depth)?;
         self.text_line(rest, ending)
     }
 
-    /// Whether a paragraph is open.
-    fn has_text(&self) -> bool
-        ensures { (t : Tree) → HasRead self.now t → result ≡ is_text_open t.now }
-    {
-        match self.leaf {
-            OpenLeaf::Text { .. } => self.taken < self.pieces.len(),
-            OpenLeaf::Indented { .. } => false,
-            OpenLeaf::Fenced { .. } => false,
-        }
-    }
-
-    /// A blank line closes a leaf.
+    /// A blank line, where no leaf is open.
     fn blank_line(&mut self, ending: Option<LineEnding>) -> Result<(), AllocError>
-        ensures { OnOk result ((t : Tree) → HasRead self.old t → HasRead self.new (with_more t (after t.now (tree (one (BlankBlock ending)) nothing)))) }
+        ensures { OnOk result (Adds self.old self.new (tree (one (BlankBlock ending)) nothing)) }
     {
-        self.close()?;
-        self.rows.push(Row::Blank(ending))?;
-        Ok(())
+        self.rows.blank(ending)
     }
 
-    /// A thematic break.
+    /// A thematic break, where no leaf is open.
     fn thematic_break(&mut self, ending: Option<LineEnding>) -> Result<(), AllocError>
-        ensures { OnOk result ((t : Tree) → HasRead self.old t → HasRead self.new (with_more t (after t.now (tree (ended BreakBlock ending) nothing)))) }
+        ensures { OnOk result (Adds self.old self.new (tree (ended BreakBlock ending) nothing)) }
     {
-        self.close()?;
-        self.rows.push(Row::Break)?;
-        self.rows.push(Row::Ending(ending))?;
-        Ok(())
+        self.rows.block(Row::Break)?;
+        self.rows.ending(ending)
     }
 
-    /// An ATX heading.
+    /// An ATX heading, where no leaf is open.
     fn heading(&mut self, atx: Atx<'a>, ending: Option<LineEnding>) -> Result<(), AllocError>
-        ensures { OnOk result ((t : Tree) → HasRead self.old t → HasRead self.new (with_more t (after t.now (tree (ended (HeadingBlock atx.entry.rank (block_line atx.entry.content.now None ∷ [])) ending) nothing)))) }
+        ensures { OnOk result (Adds self.old self.new (tree (ended (HeadingBlock atx.entry.rank (block_line atx.entry.content.now None ∷ [])) ending) nothing)) }
     {
-        self.close()?;
         self.pieces.push(Piece {
             text: atx.content,
             owed: 0,
             ending: None,
         })?;
-        self.rows.push(Row::Heading(atx.rank))?;
+        self.rows.block(Row::Heading(atx.rank))?;
         self.taken += 1;
-        self.rows.push(Row::Ending(ending))?;
-        Ok(())
+        self.rows.ending(ending)
     }
 
-    /// Indented code starts.
+    /// Indented code starts, where no leaf is open.
     fn start_indented(
         &mut self,
         rest: Cursor<'a>,
         ending: Option<LineEnding>,
     ) -> Result<(), AllocError>
-        ensures { OnOk result ((t : Tree) → HasRead self.old t → HasRead self.new (with_more t (after t.now (tree Nil (OpenedLeaf (IndentedLeaf (rest_line (outdented 4 (rest_of rest.entry)) ending ∷ []) [])))))) }
+        ensures { OnOk result (Adds self.old self.new (tree Nil (OpenedLeaf (IndentedLeaf (rest_line (outdented 4 (rest_of rest.entry)) ending ∷ []) [])))) }
     {
-        self.close()?;
         self.pieces.push(piece(rest.outdented(4), ending))?;
         self.leaf = OpenLeaf::Indented { count: 1, ending };
         Ok(())
     }
 
-    /// Fenced code starts.
+    /// Fenced code starts, where no leaf is open.
     fn start_fenced(
         &mut self,
         fence: Fence<'a>,
         ending: Option<LineEnding>,
     ) -> Result<(), AllocError>
-        ensures { OnOk result ((t : Tree) → HasRead self.old t → HasRead self.new (with_more t (after t.now (tree Nil (OpenedLeaf (FencedLeaf (fence_view fence.entry) ending [])))))) }
+        ensures { OnOk result (Adds self.old self.new (tree Nil (OpenedLeaf (FencedLeaf (fence_view fence.entry) ending [])))) }
     {
-        self.close()?;
         self.pieces.push(Piece {
             text: fence.info,
             owed: 0,
@@ -241,30 +302,53 @@ impl<'a, A: Allocator> Parser<'a, A> {
         Ok(())
     }
 
-    /// A line of text goes on a paragraph, or starts one.
-    fn text_line(&mut self, rest: Cursor<'a>, ending: Option<LineEnding>) -> Result<(), AllocError>
-        ensures { OnOk result ((t : Tree) → HasRead self.old t → HasRead self.new (with_more t (text_line_of t.now (rest_of rest.entry) ending))) }
-    {
-        if self.has_text() {
-            return self.more_text(rest, ending);
-        }
-        self.close()?;
-        self.more_text(rest, ending)
-    }
-
     /// A line of text goes on the paragraph, or is its first.
-    fn more_text(&mut self, rest: Cursor<'a>, ending: Option<LineEnding>) -> Result<(), AllocError>
-        ensures { OnOk result ((ls : List BlockLine) (done : Blocks) → HasRead self.old (tree done (OpenedLeaf (TextLeaf ls))) →
-            HasRead self.new (tree done (OpenedLeaf (TextLeaf (ls ++ rest_line (rest_of rest.entry) ending ∷ []))))) }
+    fn text_line(&mut self, rest: Cursor<'a>, ending: Option<LineEnding>) -> Result<(), AllocError>
+        ensures { OnOk result ((around : List Level) (kids : Blocks) (ls : List BlockLine) → HasRead self.old (spine around kids (TextLeaf ls)) → HasRead self.new (spine around kids (TextLeaf (ls ++ rest_line (rest_of rest.entry) ending ∷ [])))) }
     {
         self.pieces.push(piece(rest, ending))?;
         self.leaf = OpenLeaf::Text { ending };
         Ok(())
     }
 
+    /// A container starts, where no leaf is open.
+    fn enter(&mut self, container: Container) -> Result<(), AllocError>
+        ensures { OnOk result ((around : List Level) (kids : Blocks) → HasRead self.old (spine around kids (TextLeaf [])) → HasRead self.new (spine (level container kids ∷ around) Nil (TextLeaf []))) }
+    {
+        self.rows.enter(container)?;
+        self.open.push(container)?;
+        Ok(())
+    }
+
+    /// Closes the open leaf, and all containers but so many.
+    fn close_to(&mut self, depth: usize) -> Result<(), AllocError>
+        requires { depth ≤ vec_len self.old.open }
+        ensures read { OnOk result (Grows self.old self.new depth (λ away. tree (close away) nothing)) }
+        ensures count { OnOk result (vec_len self.new.open ≡ depth) }
+    {
+        self.close_leaf()?;
+        while self.open.len() > depth {
+            self.exit()?;
+        }
+        Ok(())
+    }
+
+    /// Closes the innermost container, where no leaf is open.
+    fn exit(&mut self) -> Result<(), AllocError>
+        ensures read { OnOk result ((s : Spine) → s.leaf ≡ TextLeaf [] → HasRead self.old s → HasRead self.new (exited s)) }
+        ensures count { OnOk result (vec_len self.new.open ≡ vec_len self.old.open - 1) }
+    {
+        match self.open.pop() {
+            Some(container) => self.rows.exit(container)?,
+            None => {}
+        }
+        Ok(())
+    }
+
     /// Closes the open leaf, if there is one.
-    fn close(&mut self) -> Result<(), AllocError>
-        ensures { OnOk result ((t : Tree) → HasRead self.old t → HasRead self.new (closed_tree t)) }
+    fn close_leaf(&mut self) -> Result<(), AllocError>
+        ensures read { OnOk result ((around : List Level) (kids : Blocks) (leaf : OpenLeafOf) → HasRead self.old (spine around kids leaf) → HasRead self.new (spine around (join kids (close_leaf leaf)) (TextLeaf []))) }
+        ensures containers { self.new.open ≡ self.old.open }
     {
         match self.leaf {
             OpenLeaf::Text { ending } => self.close_text(ending),
@@ -274,45 +358,50 @@ impl<'a, A: Allocator> Parser<'a, A> {
     }
 
     fn close_text(&mut self, ending: Option<LineEnding>) -> Result<(), AllocError>
-        ensures { OnOk result ((ls : List BlockLine) (done : Blocks) → ending ≡ last_ending ls → HasRead self.old (tree done (OpenedLeaf (TextLeaf ls))) → HasRead self.new (closed_tree (tree done (OpenedLeaf (TextLeaf ls))))) }
+        ensures read { OnOk result ((around : List Level) (kids : Blocks) (ls : List BlockLine) → ending ≡ last_ending ls → HasRead self.old (spine around kids (TextLeaf ls)) → HasRead self.new (spine around (join kids (close_leaf (TextLeaf ls))) (TextLeaf []))) }
+        ensures containers { self.new.open ≡ self.old.open }
     {
         let count = self.pieces.len() - self.taken;
         if count == 0 {
             return Ok(());
         }
-        self.rows.push(Row::Paragraph(count))?;
-        self.taken = self.pieces.len();
-        self.leaf = NOTHING;
-        self.rows.push(Row::Ending(ending))?;
-        Ok(())
-    }
-
-    fn close_indented(&mut self, count: usize, ending: Option<LineEnding>) -> Result<(), AllocError>
-        requires { self.old.taken + count ≤ vec_len self.old.pieces }
-        ensures { OnOk result ((ls pending : List BlockLine) (done : Blocks) → count ≡ length ls → ending ≡ last_ending ls → HasRead self.old (tree done (OpenedLeaf (IndentedLeaf ls pending))) →
-            HasRead self.new (closed_tree (tree done (OpenedLeaf (IndentedLeaf ls pending))))) }
-    {
-        self.rows.push(Row::IndentedCode(count))?;
-        self.taken += count;
-        self.leaf = NOTHING;
-        self.rows.push(Row::Ending(ending))?;
-        for i in self.taken..self.pieces.len() {
-            self.rows.push(Row::Blank(self.pieces[i].ending))?;
-        }
-        self.pieces.truncate(self.taken);
-        Ok(())
+        self.end_leaf(Row::Paragraph(count), ending)
     }
 
     fn close_fenced(&mut self, ending: Option<LineEnding>) -> Result<(), AllocError>
         requires { self.old.taken + 1 ≤ vec_len self.old.pieces }
-        ensures { OnOk result ((fence : FenceRecord) (opening : Option LineEnding) (ls : List BlockLine) (done : Blocks) → ending ≡ last_ending_or opening ls → HasRead self.old (tree done (OpenedLeaf (FencedLeaf fence opening ls))) →
-            HasRead self.new (closed_tree (tree done (OpenedLeaf (FencedLeaf fence opening ls))))) }
+        ensures read { OnOk result ((around : List Level) (kids : Blocks) (fence : FenceRecord) (opening : Option LineEnding) (ls : List BlockLine) → ending ≡ last_ending_or opening ls → HasRead self.old (spine around kids (FencedLeaf fence opening ls)) → HasRead self.new (spine around (join kids (close_leaf (FencedLeaf fence opening ls))) (TextLeaf []))) }
+        ensures containers { self.new.open ≡ self.old.open }
     {
         let count = self.pieces.len() - self.taken - 1;
-        self.rows.push(Row::UnclosedCode(count))?;
+        self.end_leaf(Row::UnclosedCode(count), ending)
+    }
+
+    /// The open leaf ends: a row takes all lines that are left.
+    fn end_leaf(&mut self, row: Row, ending: Option<LineEnding>) -> Result<(), AllocError>
+        requires { self.old.taken + lines_taken row ≡ vec_len self.old.pieces }
+        ensures read { OnOk result ((around : List Level) (kids : Blocks) (leaf : OpenLeafOf) (b : Block) → HasRead self.old (spine around kids leaf) → block_rows b ≡ row_shown row (leaf_lines leaf) ∷ [] → is_ending b ≡ false → HasRead self.new (spine around (join kids (ended b ending)) (TextLeaf []))) }
+        ensures containers { self.new.open ≡ self.old.open }
+    {
+        self.rows.block(row)?;
         self.taken = self.pieces.len();
         self.leaf = NOTHING;
-        self.rows.push(Row::Ending(ending))?;
+        self.rows.ending(ending)
+    }
+
+    fn close_indented(&mut self, count: usize, ending: Option<LineEnding>) -> Result<(), AllocError>
+        requires { self.old.taken + count ≤ vec_len self.old.pieces }
+        ensures read { OnOk result ((around : List Level) (kids : Blocks) (ls pending : List BlockLine) → count ≡ length ls → ending ≡ last_ending ls → HasRead self.old (spine around kids (IndentedLeaf ls pending)) → HasRead self.new (spine around (join kids (close_leaf (IndentedLeaf ls pending))) (TextLeaf []))) }
+        ensures containers { self.new.open ≡ self.old.open }
+    {
+        self.rows.block(Row::IndentedCode(count))?;
+        self.taken += count;
+        self.leaf = NOTHING;
+        self.rows.ending(ending)?;
+        for i in self.taken..self.pieces.len() {
+            self.rows.blank(self.pieces[i].ending)?;
+        }
+        self.pieces.truncate(self.taken);
         Ok(())
     }
 }
@@ -342,16 +431,24 @@ pub fn block_rows<'a, A: Allocator + Clone>(
     on: &Constructs,
 ) -> Result<BlockRows<'a, A>, AllocError>
     requires fits { length text.now < 2 ^ 61 }
-    requires containers { HasNoContainers on.now }
     ensures shown { IfOk result (λ r. shown r.rows.items (piece_lines r.pieces.items) ≡ shown_as (rows_of (blocks on.now text.entry.now)) []) }
     ensures enough { IfOk result (λ r. all_taken r.rows.items ≤ length r.pieces.items) }
 {
-    let rows_alloc = alloc.clone()?;
-    let mut parser = Parser::new(rows_alloc, alloc);
+    let rows = Rows::new(alloc.clone()?, alloc.clone()?);
+    let mut parser = Parser {
+        rows,
+        pieces: Vec::new(alloc.clone()?),
+        taken: 0,
+        open: Vec::new(alloc),
+        leaf: NOTHING,
+    };
     for line in Lines::new(text) {
         parser.line(on, line)?;
     }
-    parser.close()?;
+    parser.close_to(0)?;
     let Parser { rows, pieces, .. } = parser;
-    Ok(BlockRows { rows, pieces })
+    Ok(BlockRows {
+        rows: rows.finish()?,
+        pieces,
+    })
 }

@@ -103,9 +103,11 @@ fn default_built() -> Constructs
     ensures { result ≡ default_built }
 {
     Constructs {
+        block_quote: true,
         code_fenced: true,
         code_indented: true,
         heading_atx: true,
+        list_item: true,
         thematic_break: true,
         ..Constructs::none()
     }

@@ -1,19 +1,41 @@
 -- The rows of a block tree: what the block parser hands to the printer.
-use Rattle.std.specs.Prelude.{ℕ, ◌+◌, true, false, List, [], ◌∷◌, ◌++◌, map, take, drop, replicate}
+use Rattle.std.specs.Prelude.{ℕ, ◌+◌, true, false, Option, List, [], ◌∷◌, ◌++◌, map, take, drop, replicate}
 use Rattle.std.specs.List.{fold, sum_by}
+use Rattle.markdown_definition.specs.declared.container.Container.{Container}
+use Rattle.markdown_definition.specs.declared.container.Container.TheVariants.{Quote, Item}
 use Rattle.markdown_definition.specs.declared.row.Row.{Row}
 use Rattle.markdown_definition.specs.declared.row.Row.TheVariants as row
 use Rattle.markdown_definition.specs.declared.row.Piece.{Piece}
 use Rattle.markdown_definition.specs.Columns.{tab_column}
-use Rattle.markdown_definition.specs.Tree.{BlockLine, block_line, Block, Paragraph, Heading, Break, IndentedCode, FencedCode, Ending, Blank, Blocks, Nil, Cons, own_lines}
+use Rattle.markdown_definition.specs.Tree.{BlockLine, block_line, Block, Paragraph, Heading, Break, IndentedCode, FencedCode, Holds, Items, Ending, Blank, Blocks, Nil, Cons, own_lines}
 
--- a block that holds no other, or an ending
+-- a block that holds no other, or an ending; the start of a quote; the start of an item, with the byte of its marker and its number; the end of the innermost container
 pub data BlockRow : Type 0 where
   Single : Block → BlockRow
+  EnterQuote : BlockRow
+  EnterItem : ℕ → Option ℕ → BlockRow
+  Exit : BlockRow
 
-abbrev pub rows_of : Blocks → List BlockRow
-rows_of Nil = []
-rows_of (Cons b bs) = Single b ∷ rows_of bs
+abbrev pub entered : Container → BlockRow
+entered Quote = EnterQuote
+entered (Item item) = EnterItem item.marker item.number
+
+-- the rows of blocks, before their items are put into lists
+abbrev mutual
+  pub block_rows : Block → List BlockRow
+  block_rows (Paragraph ls) = Single (Paragraph ls) ∷ []
+  block_rows (Heading rank ls) = Single (Heading rank ls) ∷ []
+  block_rows Break = Single Break ∷ []
+  block_rows (IndentedCode ls) = Single (IndentedCode ls) ∷ []
+  block_rows (FencedCode info closed ls) = Single (FencedCode info closed ls) ∷ []
+  block_rows (Holds c kids) = entered c ∷ (rows_of kids ++ Exit ∷ [])
+  block_rows (Items items) = rows_of items
+  block_rows (Ending ending) = Single (Ending ending) ∷ []
+  block_rows (Blank ending) = Single (Blank ending) ∷ []
+
+  pub rows_of : Blocks → List BlockRow
+  rows_of Nil = []
+  rows_of (Cons b bs) = block_rows b ++ rows_of bs
 
 -- rows, and the lines that they leave
 pub record Shown : Type 0 where
@@ -31,6 +53,9 @@ lines_taken row.Break = 0
 lines_taken (row.IndentedCode count) = count
 lines_taken (row.FencedCode count) = 1 + count
 lines_taken (row.UnclosedCode count) = 1 + count
+lines_taken row.EnterQuote = 0
+lines_taken (row.EnterItem marker number) = 0
+lines_taken row.Exit = 0
 lines_taken (row.Ending ending) = 0
 lines_taken (row.Blank ending) = 0
 
@@ -43,18 +68,21 @@ first_codes [] = []
 first_codes (line ∷ others) = line.codes
 
 -- what a row stands for: it takes its lines from the front of those that are left
-abbrev pub block_shown : Row → List BlockLine → Block
-block_shown (row.Paragraph count) left = Paragraph (own_lines (take count left))
-block_shown (row.Heading rank) left = Heading rank (take 1 left)
-block_shown row.Break left = Break
-block_shown (row.IndentedCode count) left = IndentedCode (own_lines (take count left))
-block_shown (row.FencedCode count) left = FencedCode (first_codes left) true (take count (drop 1 left))
-block_shown (row.UnclosedCode count) left = FencedCode (first_codes left) false (take count (drop 1 left))
-block_shown (row.Ending ending) left = Ending ending
-block_shown (row.Blank ending) left = Blank ending
+abbrev pub row_shown : Row → List BlockLine → BlockRow
+row_shown (row.Paragraph count) left = Single (Paragraph (own_lines (take count left)))
+row_shown (row.Heading rank) left = Single (Heading rank (take 1 left))
+row_shown row.Break left = Single Break
+row_shown (row.IndentedCode count) left = Single (IndentedCode (own_lines (take count left)))
+row_shown (row.FencedCode count) left = Single (FencedCode (first_codes left) true (take count (drop 1 left)))
+row_shown (row.UnclosedCode count) left = Single (FencedCode (first_codes left) false (take count (drop 1 left)))
+row_shown row.EnterQuote left = EnterQuote
+row_shown (row.EnterItem marker number) left = EnterItem marker number
+row_shown row.Exit left = Exit
+row_shown (row.Ending ending) left = Single (Ending ending)
+row_shown (row.Blank ending) left = Single (Blank ending)
 
 abbrev pub show_row : Shown → Row → Shown
-show_row s r = shown_as (s.rows ++ Single (block_shown r s.left) ∷ []) (drop (lines_taken r) s.left)
+show_row s r = shown_as (s.rows ++ row_shown r s.left ∷ []) (drop (lines_taken r) s.left)
 
 abbrev pub shown : List Row → List BlockLine → Shown
 shown rows ls = fold show_row (shown_as [] ls) rows

@@ -12,7 +12,7 @@ pub struct Piece<'a> {
     pub ending: Option<LineEnding>,
 }
 
-/// A block, or the end of a line that is in no block, in the order of the text.
+/// A block, the start or end of a container, or the end of a line, in the order of the text.
 ///
 /// The lines of the blocks stand in a list beside the rows: each block takes its lines from the
 /// front of what the rows before it left.
@@ -30,6 +30,12 @@ pub enum Row {
     FencedCode(usize),
     /// The same where no fence closes it.
     UnclosedCode(usize),
+    /// A block quote starts (CommonMark 5.1).
+    EnterQuote,
+    /// A list item starts, with the byte of its marker and its number (CommonMark 5.2).
+    EnterItem { marker: u8, number: Option<u32> },
+    /// The innermost container ends.
+    Exit,
     /// The ending of a block's last line. The last line of a text may lack one.
     Ending(Option<LineEnding>),
     /// The ending of a blank line (CommonMark 4.9).

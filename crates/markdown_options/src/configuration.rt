@@ -161,11 +161,7 @@ impl Constructs {
     fn has_blocks(&self) -> bool
         ensures { result ≡ has_blocks self.now }
     {
-        self.block_quote
-            || self.definition
-            || self.heading_setext
-            || self.html_flow
-            || self.list_item
+        self.definition || self.heading_setext || self.html_flow
     }
 
     /// Whether some of the inline constructs of CommonMark are on.

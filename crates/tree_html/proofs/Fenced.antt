@@ -1,6 +1,6 @@
 -- Fenced code, and what it takes from the lines.
-use Rattle.std.proofs.Common.{◌≡◌, ℕ, ◌+◌, ◌-◌, ◌<◌, ◌≤◌, suc, take, drop, None, List, [], ◌∷◌, ◌++◌, Bool, true, false, ◌==◌, codes, sym, refl, ap, ◌∙◌, length, get_or, arith, append_assoc}
-use Rattle.std.specs.Prelude.{map}
+use Rattle.std.proofs.Common.{Option, Some, ◌≡◌, ℕ, ◌+◌, ◌-◌, ◌<◌, ◌≤◌, suc, take, drop, None, List, [], ◌∷◌, ◌++◌, Bool, true, false, ◌==◌, codes, sym, refl, ap, ◌∙◌, length, get_or, arith, append_assoc}
+use Rattle.std.specs.Prelude.{map, if◌then◌else◌, ◌||◌}
 use Rattle.std.specs.List.{list_all}
 use Rattle.std.proofs.lemmas.List.{take-map, drop-map, take_rest}
 use Rattle.markdown_options.specs.declared.line_ending.LineEnding.{LineEnding}
@@ -13,7 +13,7 @@ use Rattle.markdown_definition.specs.Tree.{BlockLine, FencedCode, own_lines, las
 use Rattle.markdown_definition.specs.Pieces.{Fresh, print}
 use Rattle.markdown_definition.specs.Html.{block_pieces, class_of, code_byte, code_of, fenced_content}
 use Rattle.markdown_definition.specs.Rows.{piece_line, piece_lines, first_codes}
-use Rattle.tree_html.specs.RowPieces.{laid}
+use Rattle.tree_html.specs.Printed.{laid}
 use Rattle.tree_html.proofs.Owed.{none_owed}
 use Rattle.tree_html.proofs.Lines.{with_last_ending}
 
@@ -22,18 +22,24 @@ pub class_some : (info : List ℕ) → (length info == 0) ≡ false → class_of
 class_some [] some = let wrong : true ≡ false = some in cc
 class_some (b ∷ bs) some = refl
 
--- content with its last ending
-pub content_laid : (e : LineEnding) (out : List ℕ) (ls : List BlockLine) → 0 < length ls
-    → laid e out (fenced_content true true ls) ≡ print (ending_bytes e) ((out ++ code_of (own_lines ls)) ++ ending_text (last_ending ls)) Fresh
-content_laid e out [] some = absurd (omega arith)
-content_laid e out (l ∷ ls) some =
-    ap (λ x. print (ending_bytes e) (out ++ x) Fresh) (with_last_ending (λ codes. encode (map code_byte codes)) (l ∷ ls))
-    ∙ ap (λ x. print (ending_bytes e) x Fresh) (sym (append_assoc out (code_of (own_lines (l ∷ ls))) (ending_text (last_ending (l ∷ ls)))))
+-- content with the ending of its last line
+whole_laid : (e : LineEnding) (out : List ℕ) (ls : List BlockLine)
+    → print (ending_bytes e) (out ++ code_of ls) Fresh ≡ print (ending_bytes e) ((out ++ code_of (own_lines ls)) ++ ending_text (last_ending ls)) Fresh
+whole_laid e out ls =
+    ap (λ x. print (ending_bytes e) (out ++ x) Fresh) (with_last_ending (λ codes. encode (map code_byte codes)) ls)
+    ∙ ap (λ x. print (ending_bytes e) x Fresh) (sym (append_assoc out (code_of (own_lines ls)) (ending_text (last_ending ls))))
 
--- at the top the content is the same whether the code is closed or not
-pub same_content : (closed : Bool) (ls : List BlockLine) → fenced_content true true ls ≡ fenced_content true closed ls
-same_content closed [] = refl
-same_content closed (l ∷ ls) = refl
+-- the ending that is printed last
+abbrev pub content_ending : Bool → Bool → LineEnding → List BlockLine → Option LineEnding
+content_ending top closed e ls = if top || closed then last_ending ls else Some e
+
+-- content with that ending
+pub content_laid : (e : LineEnding) (out : List ℕ) (top closed : Bool) (ls : List BlockLine) → 0 < length ls
+    → laid e out (fenced_content top closed ls) ≡ print (ending_bytes e) ((out ++ code_of (own_lines ls)) ++ ending_text (content_ending top closed e ls)) Fresh
+content_laid e out top closed [] some = absurd (omega arith)
+content_laid e out true closed (l ∷ ls) some = whole_laid e out (l ∷ ls)
+content_laid e out false true (l ∷ ls) some = whole_laid e out (l ∷ ls)
+content_laid e out false false (l ∷ ls) some = refl
 
 -- the last line of pieces
 pub last_piece_ending : (pieces : List Piece) (d : Piece) → 0 < length pieces → (get_or pieces (length pieces - 1) d).ending ≡ last_ending (piece_lines pieces)
@@ -61,12 +67,12 @@ content_is count pieces =
     ∙ sym (take-map piece_line count (drop 1 pieces))
     ∙ ap (take count) (sym (drop-map piece_line 1 pieces))
 
-pub fenced_laid : (e : LineEnding) (out : List ℕ) (silent closed : Bool) (count : ℕ) (pieces : List Piece)
+pub fenced_laid : (e : LineEnding) (out : List ℕ) (top tight silent closed : Bool) (count : ℕ) (pieces : List Piece)
     → 1 + count ≤ length pieces → list_all is_byte (first_codes (piece_lines pieces)) ≡ true
-    → laid e out (block_pieces true false false (FencedCode (get_or pieces 0 no_piece).text.now closed (piece_lines (take count (take (length pieces - 1) (drop 1 pieces))))))
-    ≡ laid e out (block_pieces true false silent (FencedCode (first_codes (piece_lines pieces)) closed (take count (drop 1 (piece_lines pieces)))))
-fenced_laid e out silent closed count pieces enough h =
+    → laid e out (block_pieces top false false (FencedCode (get_or pieces 0 no_piece).text.now closed (piece_lines (take count (take (length pieces - 1) (drop 1 pieces))))))
+    ≡ laid e out (block_pieces top tight silent (FencedCode (first_codes (piece_lines pieces)) closed (take count (drop 1 (piece_lines pieces)))))
+fenced_laid e out top tight silent closed count pieces enough h =
     let info = (get_or pieces 0 no_piece).text.now in
-    ap (λ ls. laid e out (block_pieces true false silent (FencedCode info closed ls))) (content_is count pieces)
-    ∙ ap (λ x. laid e out (block_pieces true false silent (FencedCode x closed (take count (drop 1 (piece_lines pieces))))))
+    ap (λ ls. laid e out (block_pieces top tight silent (FencedCode info closed ls))) (content_is count pieces)
+    ∙ ap (λ x. laid e out (block_pieces top tight silent (FencedCode x closed (take count (drop 1 (piece_lines pieces))))))
     (sym (info_is pieces (omega arith) h))

@@ -2,6 +2,13 @@ pub mod Encoding
 pub mod Owed
 pub mod Lines
 pub mod Fenced
-pub mod RowSteps
+pub mod Ahead
+pub mod Places
+pub mod Past
+pub mod Children
 pub mod RowsOf
+pub mod RowSteps
+pub mod Backward
+pub mod Choose
+pub mod Markers
 pub mod Printable

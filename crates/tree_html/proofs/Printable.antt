@@ -1,6 +1,5 @@
--- The blocks of a text can be printed: the ranks of headings are from 1 to 6, and infos are bytes.
+-- The blocks of a text can be printed: the ranks of headings are from 1 to 6, infos are bytes, and items have markers.
 use Rattle.std.proofs.Common.{◌≡◌, ℕ, zero, suc, ◌-◌, ◌≤◌, List, [], ◌∷◌, Option, None, Some, Bool, true, false, ◌&&◌, ◌==◌, not, leb, refl, sym, subst, ap, take, drop, length}
-use Rattle.std.specs.Prelude.{if◌then◌else◌}
 use Rattle.std.specs.Option.{IfSome}
 use Rattle.std.specs.List.{fold, list_all, prefix_len, suffix_len, position_or_len}
 use Rattle.std.proofs.lemmas.Bool.{and_parts, and_from, leb-true}
@@ -18,19 +17,13 @@ use Rattle.markdown_definition.specs.Indents.{small_indent}
 use Rattle.markdown_definition.specs.CodeIndented.{starts_code_indented}
 use Rattle.markdown_definition.specs.ThematicBreak.{is_break}
 use Rattle.markdown_definition.specs.HeadingAtx.{Atx, atx_of, begins_apart, heading_atx}
-use Rattle.markdown_definition.specs.Tree.{BlockLine, block_line, in_container, Block, Paragraph, Heading, Break, IndentedCode, FencedCode, Holds, Items, Ending, Blank, Blocks, Nil, Cons, join, one, ended, OpenLeaf, Text, Indented, Fenced, Opening, Leaf, Inside, Tree, tree, nothing, empty_tree, close_leaf, close, blanks, is_ending, all_endings, trailing, last_of, holds, has_text, with_line, rest_line, takes, taken, or_heading, or_fence, begins, after, text_line_of, break_or_text, begun, leaf_line, start, new, began_blank, goes_on, grow, step, closed, blocks}
+use Rattle.markdown_definition.specs.Tree.{BlockLine, block_line, in_container, Block, Paragraph, Heading, Break, IndentedCode, FencedCode, Holds, Items, Ending, Blank, Blocks, Nil, Cons, join, one, ended, OpenLeaf, Text, Indented, Fenced, Opening, Leaf, Inside, Tree, tree, nothing, empty_tree, close_leaf, close, blanks, is_ending, all_endings, front, trailing, without_last, last_of, holds, has_text, with_line, rest_line, takes, taken, or_heading, or_fence, begins, after, text_line_of, break_or_text, begun, leaf_line, start, new, began_blank, goes_on, grow, step, closed, blocks}
 use Rattle.markdown_definition.specs.Rows.{Shown, shown, shown_as, rows_of}
 use Rattle.markdown_definition.specs.declared.row.Row.{Row}
-use Rattle.tree_html.specs.RowPieces.{IsPrintable, ArePrintable, CanBePrinted}
+use Rattle.tree_html.specs.Printable.{IsPrintableContainer, IsPrintable, ArePrintable, CanBePrinted}
+use Rattle.tree_html.proofs.Choose.{choose_if, choose}
+use Rattle.tree_html.proofs.Markers.{StartFits, starts_fits}
 use Rattle.tree_html.proofs.RowsOf.{printable_rows_of}
-
--- either of two, where the first is taken only if the test passes
-choose_if : {X : Type 0} (P : X → Type 0) (b : Bool) (x y : X) → (b ≡ true → P x) → P y → P (if b then x else y)
-choose_if P true x y h k = h refl
-choose_if P false x y h k = k
-
-choose : {X : Type 0} (P : X → Type 0) (b : Bool) (x y : X) → P x → P y → P (if b then x else y)
-choose P b x y h k = choose_if P b x y (λ _. h) k
 
 -- ---- infos are bytes
 
@@ -101,8 +94,8 @@ ending_printable (Heading rank ls) h = let wrong : false ≡ true = h in cc
 ending_printable Break h = tt
 ending_printable (IndentedCode ls) h = tt
 ending_printable (FencedCode info closed ls) h = let wrong : false ≡ true = h in cc
-ending_printable (Holds c kids) h = tt
-ending_printable (Items items) h = tt
+ending_printable (Holds c kids) h = let wrong : false ≡ true = h in cc
+ending_printable (Items items) h = let wrong : false ≡ true = h in cc
 ending_printable (Ending ending) h = tt
 ending_printable (Blank ending) h = tt
 
@@ -122,9 +115,18 @@ last_printable Nil = tt
 last_printable (Cons b Nil) = choose_if CanBePrinted (is_ending b) (one b) Nil (λ h. (ending_printable b h, tt)) tt
 last_printable (Cons b (Cons c bs)) = last_printable (Cons c bs)
 
-holds_printable : (c : Container) (kids : Blocks) → CanBePrinted (holds c kids)
-holds_printable Quote kids = (tt, last_printable kids)
-holds_printable (Item item) kids = (tt, trailing_printable kids)
+front_printable : (bs : Blocks) → CanBePrinted bs → CanBePrinted (front bs)
+front_printable Nil h = tt
+front_printable (Cons b bs) h = choose CanBePrinted (all_endings (Cons b bs)) Nil (Cons b (front bs)) tt (h.0, front_printable bs h.1)
+
+without_last_printable : (bs : Blocks) → CanBePrinted bs → CanBePrinted (without_last bs)
+without_last_printable Nil h = tt
+without_last_printable (Cons b Nil) h = choose CanBePrinted (is_ending b) Nil (one b) tt h
+without_last_printable (Cons b (Cons c bs)) h = (h.0, without_last_printable (Cons c bs) h.1)
+
+holds_printable : (c : Container) (kids : Blocks) → IsPrintableContainer c → CanBePrinted kids → CanBePrinted (holds c kids)
+holds_printable Quote kids h k = ((tt, without_last_printable kids k), last_printable kids)
+holds_printable (Item item) kids h k = ((h, front_printable kids k), trailing_printable kids)
 
 blanks_printable : (ls : List BlockLine) → CanBePrinted (blanks ls)
 blanks_printable [] = tt
@@ -139,7 +141,7 @@ LeafFits (Fenced fence opening ls) = AreBytes fence.info
 
 abbrev Fits : Opening → Type 0
 Fits (Leaf leaf) = LeafFits leaf
-Fits (Inside c kids inner) = Unit {0}
+Fits (Inside c kids inner) = IsPrintableContainer c × CanBePrinted kids × Fits inner
 
 record TreeFits (t : Tree) : Type 0 where
   done : CanBePrinted t.done
@@ -162,7 +164,7 @@ leaf_closed (Fenced fence opening ls) h = (h, (tt, tt))
 
 close_printable : (now : Opening) → Fits now → CanBePrinted (close now)
 close_printable (Leaf leaf) h = leaf_closed leaf h
-close_printable (Inside c kids inner) h = holds_printable c (join kids (close inner))
+close_printable (Inside c kids inner) h = holds_printable c (join kids (close inner)) h.0 (joined kids (close inner) h.1 (close_printable inner h.2))
 
 after_fits : (away : Opening) (t : Tree) → Fits away → TreeFits t → TreeFits (after away t)
 after_fits away t h k = record { done = joined (close away) t.done (close_printable away h) k.done; now = k.now }
@@ -171,7 +173,7 @@ with_line_fits : (line : BlockLine) (now : Opening) → Fits now → Fits (with_
 with_line_fits line (Leaf (Text ls)) h = tt
 with_line_fits line (Leaf (Indented ls pending)) h = tt
 with_line_fits line (Leaf (Fenced fence opening ls)) h = h
-with_line_fits line (Inside c kids inner) h = tt
+with_line_fits line (Inside c kids inner) h = (h.0, h.1, with_line_fits line inner h.2)
 
 -- ---- a line
 
@@ -215,34 +217,44 @@ module _ (on : Constructs) (e : Option LineEnding) (r : Rest) where
       choose TreeFits (is_blank r) _ _ (after_fits away t h (fits t (tt, tt) tt))
       (begun_fits (begins on (has_text away) r e) away (break_or_text on away r e) h (begins_fits (has_text away)) (break_fits away h))
 
-  start_fits : (o : Option Started) (away : Opening) (other : Tree) (more : Rest → Tree) → Fits away → TreeFits other → TreeFits (start o away other more)
-  start_fits None away other more h k = k
-  start_fits (Some s) away other more h k =
+  start_fits : (o : Option Started) (away : Opening) (other : Tree) (more : Rest → Tree) → StartFits o → Fits away → TreeFits other → ((rest : Rest) → TreeFits (more rest)) → TreeFits (start o away other more)
+  start_fits None away other more s h k l = k
+  start_fits (Some s) away other more c h k l =
       let t = tree Nil (Inside s.container (more s.rest).done (more s.rest).now) in
-      after_fits away t h (fits t tt tt)
+      let f = l s.rest in
+      after_fits away t h (fits t tt (c.container, f.done, f.now))
 
-  new_fits : (most : ℕ) (all : Bool) (away : Opening) → Fits away → TreeFits (new most on all away e r)
-  new_fits zero all away h = leaf_line_fits away h
-  new_fits (suc most) all away h =
-      start_fits (starts on (all && has_text away) r) away (leaf_line on away r e) (new most on true nothing e) h (leaf_line_fits away h)
-
-  goes_on_fits : (o : Option Rest) (c : Container) (kids : Blocks) (inner : Opening) (more : Rest → Tree) → TreeFits (goes_on o on c kids inner e r more)
-  goes_on_fits None c kids inner more = new_fits (length r) false (Inside c kids inner) tt
-  goes_on_fits (Some rest) c kids inner more = fits (in_container c kids (more rest)) tt tt
+  in_container_fits : (c : Container) (kids : Blocks) (t : Tree) → IsPrintableContainer c → CanBePrinted kids → TreeFits t → TreeFits (in_container c kids t)
+  in_container_fits c kids t h k f = fits (in_container c kids t) tt (h, joined kids t.done k f.done, f.now)
 
   taken_fits : (o : Option Tree) (other : Tree) → OptionFits o → TreeFits other → TreeFits (taken o other)
   taken_fits None other h k = k
   taken_fits (Some t) other h k = h.tree
 
-  grow_fits : (now : Opening) → Fits now → TreeFits (grow on e now r)
-  grow_fits (Leaf leaf) h = taken_fits (takes on leaf r e) (new (length r) on true (Leaf leaf) e r) (takes_fits leaf h) (new_fits (length r) true (Leaf leaf) h)
-  grow_fits (Inside c kids inner) h = goes_on_fits (continues on c (began_blank kids inner) r) c kids inner (grow on e inner)
+-- containers that start, and a leaf
+new_fits : (on : Constructs) (e : Option LineEnding) (most : ℕ) (all : Bool) (away : Opening) (r : Rest) → Fits away → TreeFits (new most on all away e r)
+new_fits on e zero all away r h = leaf_line_fits on e r away h
+new_fits on e (suc most) all away r h =
+    let interrupts = all && has_text away in
+    start_fits on e r (starts on interrupts r) away (leaf_line on away r e) (new most on true nothing e) (starts_fits on interrupts r) h (leaf_line_fits on e r away h)
+    (λ rest. new_fits on e most true nothing rest tt)
+
+goes_on_fits : (on : Constructs) (e : Option LineEnding) (r : Rest) (o : Option Rest) (c : Container) (kids : Blocks) (inner : Opening) (more : Rest → Tree) → Fits (Inside c kids inner)
+    → ((rest : Rest) → TreeFits (more rest)) → TreeFits (goes_on o on c kids inner e r more)
+goes_on_fits on e r None c kids inner more h k = new_fits on e (length r) false (Inside c kids inner) r h
+goes_on_fits on e r (Some rest) c kids inner more h k = in_container_fits on e r c kids (more rest) h.0 h.1 (k rest)
+
+grow_fits : (on : Constructs) (e : Option LineEnding) (now : Opening) (r : Rest) → Fits now → TreeFits (grow on e now r)
+grow_fits on e (Leaf leaf) r h =
+    taken_fits on e r (takes on leaf r e) (new (length r) on true (Leaf leaf) e r) (takes_fits on e r leaf h) (new_fits on e (length r) true (Leaf leaf) r h)
+grow_fits on e (Inside c kids inner) r h =
+    goes_on_fits on e r (continues on c (began_blank kids inner) r) c kids inner (grow on e inner) h (λ rest. grow_fits on e inner rest h.2)
 
 -- ---- the whole
 
 step_fits : (on : Constructs) (t : Tree) (line : TextLine) → TreeFits t → TreeFits (step on t line)
 step_fits on t line h =
-    let more = grow_fits on line.ending (whole line.content) t.now h.now in
+    let more = grow_fits on line.ending t.now (whole line.content) h.now in
     record { done = joined t.done (grow on line.ending t.now (whole line.content)).done h.done more.done; now = more.now }
 
 steps_fit : (on : Constructs) (t : Tree) (ls : List TextLine) → TreeFits t → TreeFits (fold (step on) t ls)

@@ -1,5 +1,5 @@
 -- One more row.
-use Rattle.std.proofs.Common.{◌≡◌, ℕ, ◌+◌, ◌<◌, List, [], ◌∷◌, ◌++◌, false, ap, sym, ◌∙◌, subst, take, drop, get_or, length}
+use Rattle.std.proofs.Common.{◌≡◌, ℕ, ◌+◌, ◌<◌, List, [], ◌∷◌, ◌++◌, ap, sym, ◌∙◌, subst, take, drop, get_or, length}
 use Rattle.std.specs.Prelude.{map}
 use Rattle.std.specs.List.{fold, All}
 use Rattle.std.proofs.lemmas.List.{append-nil, append_assoc, drop-drop, drop-map, drop_more, take-append-drop}
@@ -7,16 +7,17 @@ use Rattle.std.proofs.lemmas.List.Elements.{All-head, All-tail}
 use Rattle.std.proofs.lemmas.List.Sums.{fold_more, fold_push, fold-append, sum_by-drop_more}
 use Rattle.markdown_definition.specs.declared.row.Row.{Row}
 use Rattle.markdown_definition.specs.Tree.{BlockLine}
-use Rattle.markdown_definition.specs.Rows.{BlockRow, Single, Shown, shown, shown_as, show_row, block_shown, lines_taken, all_taken}
-use Rattle.tree_html.specs.RowPieces.{IsPrintable, IsPrintableRow, ArePrintable, printed, printed_as, print_row}
+use Rattle.markdown_definition.specs.Rows.{BlockRow, Shown, shown, shown_as, show_row, row_shown, lines_taken, all_taken}
+use Rattle.tree_html.specs.Printable.{IsPrintableRow, ArePrintable}
+use Rattle.tree_html.specs.Printed.{Printed, row_printed, printed}
 
 pub shown_more : (rows : List Row) (ls : List BlockLine) (i : ℕ) (d : Row) → i < length rows
     → shown (take (i + 1) rows) ls ≡ show_row (shown (take i rows) ls) (get_or rows i d)
 shown_more rows ls i d lt = fold_more show_row (shown_as [] ls) rows i d lt
 
--- a block is printed after those before it
-pub printed_more : (default : List ℕ) (rows : List BlockRow) (row : BlockRow) → printed default (rows ++ row ∷ []) ≡ print_row default (printed default rows) row
-printed_more default rows row = fold_push (print_row default) (printed_as [] false) rows row
+-- a row is printed after those before it
+pub printed_more : (default : List ℕ) (p : Printed) (rows : List BlockRow) (row : BlockRow) → printed default p (rows ++ row ∷ []) ≡ row_printed default (printed default p rows) row
+printed_more default p rows row = fold_push (row_printed default) p rows row
 
 -- the lines that a row takes, and those of the rows after it
 pub taken_more : (rows : List Row) (i : ℕ) (d : Row) → i < length rows → all_taken (drop i rows) ≡ lines_taken (get_or rows i d) + all_taken (drop (i + 1) rows)
@@ -29,10 +30,10 @@ left_more f n taken lines = drop-map f n (drop taken lines) ∙ ap (map f) (drop
 -- ---- a row that is shown
 
 -- the rows that are shown already stay
-shown_after : (s : Shown) (rows : List Row) → (fold show_row s rows).rows ≡ s.rows ++ (fold show_row (shown_as [] s.left) rows).rows
+pub shown_after : (s : Shown) (rows : List Row) → (fold show_row s rows).rows ≡ s.rows ++ (fold show_row (shown_as [] s.left) rows).rows
 shown_after s [] = sym (append-nil s.rows)
 shown_after s (r ∷ rs) =
-    let b = Single (block_shown r s.left) in
+    let b = row_shown r s.left in
     let left = drop (lines_taken r) s.left in
     shown_after (show_row s r) rs
     ∙ append_assoc s.rows (b ∷ []) (fold show_row (shown_as [] left) rs).rows
@@ -44,11 +45,11 @@ all_at P (x ∷ xs) y ys h = all_at P xs y ys (All-tail P x (xs ++ y ∷ ys) h)
 
 -- each row that is shown can be printed
 pub printable_at : (rows : List Row) (ls : List BlockLine) (i : ℕ) (d : Row) → i < length rows → ArePrintable (shown rows ls).rows
-    → IsPrintable (block_shown (get_or rows i d) (shown (take i rows) ls).left)
+    → IsPrintableRow (row_shown (get_or rows i d) (shown (take i rows) ls).left)
 printable_at rows ls i d lt h =
     let so_far = shown (take i rows) ls in
     let row = get_or rows i d in
-    let b = Single (block_shown row so_far.left) in
+    let b = row_shown row so_far.left in
     let others = (fold show_row (shown_as [] (drop (lines_taken row) so_far.left)) (drop (i + 1) rows)).rows in
     let split : (shown rows ls).rows ≡ so_far.rows ++ b ∷ others =
     ap (λ rs. (shown rs ls).rows) (sym (take-append-drop i rows))

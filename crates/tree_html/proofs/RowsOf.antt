@@ -1,55 +1,87 @@
 -- The rows of blocks print what the blocks print.
-use Rattle.std.proofs.Common.{◌≡◌, ℕ, Bool, true, false, List, [], ◌++◌, refl, sym, ap, ◌∙◌}
-use Rattle.std.specs.List.{fold}
+use Rattle.std.proofs.Common.{◌≡◌, ℕ, Bool, true, false, List, [], ◌∷◌, ◌++◌, refl, sym, ap, ◌∙◌}
+use Rattle.std.specs.List.{fold, All}
 use Rattle.std.proofs.lemmas.List.Sums.{fold-append}
-use Rattle.std.proofs.lemmas.List.Elements.{All-nil, All-cons}
+use Rattle.std.proofs.lemmas.List.Elements.{All-nil, All-cons, All-head, All-tail}
+use Rattle.markdown_definition.specs.declared.container.Container.{Container}
+use Rattle.markdown_definition.specs.declared.container.Container.TheVariants.{Quote, Item}
 use Rattle.markdown_definition.specs.Tree.{Block, Paragraph, Heading, Break, IndentedCode, FencedCode, Holds, Items, Ending, Blank, Blocks, Nil, Cons}
-use Rattle.markdown_definition.specs.Lists.{before, grouped, grouped_block}
+use Rattle.markdown_definition.specs.Lists.{grouped}
 use Rattle.markdown_definition.specs.Pieces.{print, layout}
-use Rattle.markdown_definition.specs.Html.{block_pieces, children_pieces, silences, ends_blank, is_blank_ending, last_piece, document_pieces}
-use Rattle.markdown_definition.specs.Rows.{Single, rows_of}
-use Rattle.tree_html.specs.RowPieces.{is_blank_row, ends_blank_rows, Printed, printed_as, print_row, rows_html, IsPrintableRow, ArePrintable, CanBePrinted, IsNoHold, HasNoHolds}
+use Rattle.markdown_definition.specs.Html.{children_pieces, ends_blank, is_blank_ending, last_piece, document_pieces}
+use Rattle.markdown_definition.specs.Rows.{BlockRow, Single, Exit, entered, rows_of, block_rows}
+use Rattle.tree_html.specs.declared.level.Kind.TheVariants as kind
+use Rattle.tree_html.specs.declared.loose.Place.{Place}
+use Rattle.tree_html.specs.Printable.{IsPrintable, IsPrintableRow, ArePrintable, CanBePrinted}
+use Rattle.tree_html.specs.Loose.{Passed}
+use Rattle.tree_html.specs.Levels.{new_level}
+use Rattle.tree_html.specs.Printed.{Printed, printed_at, printed, is_blank_row, ends_blank_rows, rows_html}
+use Rattle.tree_html.proofs.Places.{blocks_passed}
+use Rattle.tree_html.proofs.Children.{blocks_printed}
 
--- ---- no list is made where there is no container
+-- ---- whether the last row is the ending of a blank line
 
-before_same : (b : Block) (bs : Blocks) → IsNoHold b → before (grouped_block b) bs ≡ Cons b bs
-before_same (Paragraph ls) bs h = refl
-before_same (Heading rank ls) bs h = refl
-before_same Break bs h = refl
-before_same (IndentedCode ls) bs h = refl
-before_same (FencedCode info closed ls) bs h = refl
-before_same (Holds c kids) bs h = absurd h
-before_same (Items items) bs h = absurd h
-before_same (Ending ending) bs h = refl
-before_same (Blank ending) bs h = refl
+abbrev blank_after : Bool → List BlockRow → Bool
+blank_after blank rows = fold (λ (before : Bool) row. is_blank_row row) blank rows
 
-pub grouped_same : (bs : Blocks) → HasNoHolds bs → grouped bs ≡ bs
-grouped_same Nil h = refl
-grouped_same (Cons b bs) h = before_same b (grouped bs) h.0 ∙ ap (Cons b) (grouped_same bs h.1)
+block_ends_blank : (b : Block) (blank : Bool) → IsPrintable b → blank_after blank (block_rows b) ≡ is_blank_ending b
+block_ends_blank (Paragraph ls) blank h = refl
+block_ends_blank (Heading rank ls) blank h = refl
+block_ends_blank Break blank h = refl
+block_ends_blank (IndentedCode ls) blank h = refl
+block_ends_blank (FencedCode info closed ls) blank h = refl
+block_ends_blank (Holds c kids) blank h =
+    fold-append (λ (before : Bool) row. is_blank_row row) (is_blank_row (entered c)) (rows_of kids) (Exit ∷ [])
+block_ends_blank (Items items) blank h = absurd h
+block_ends_blank (Ending ending) blank h = refl
+block_ends_blank (Blank ending) blank h = refl
 
--- ---- rows
+rows_end_blank : (bs : Blocks) (blank : Bool) → CanBePrinted bs → blank_after blank (rows_of bs) ≡ ends_blank blank bs
+rows_end_blank Nil blank h = refl
+rows_end_blank (Cons b bs) blank h =
+    fold-append (λ (before : Bool) row. is_blank_row row) blank (block_rows b) (rows_of bs)
+    ∙ ap (λ x. blank_after x (rows_of bs)) (block_ends_blank b blank h.0)
+    ∙ rows_end_blank bs (is_blank_ending b) h.1
 
-printed_rows_of : (default : List ℕ) (p : Printed) (bs : Blocks)
-    → (fold (print_row default) p (rows_of bs)).out ≡ fold (print default) p.out (children_pieces true false p.silent bs)
-printed_rows_of default p Nil = refl
-printed_rows_of default p (Cons b bs) =
-    printed_rows_of default (print_row default p (Single b)) bs
-    ∙ sym (fold-append (print default) p.out (block_pieces true false p.silent b) (children_pieces true false (silences true false b) bs))
+-- ---- the page
 
-ends_blank_rows_of : (blank : Bool) (bs : Blocks) → fold (λ (before : Bool) row. is_blank_row row) blank (rows_of bs) ≡ ends_blank blank bs
-ends_blank_rows_of blank Nil = refl
-ends_blank_rows_of blank (Cons b bs) = ends_blank_rows_of (is_blank_ending b) bs
-
-pub rows_html_of : (default : List ℕ) (bs : Blocks) → HasNoHolds bs → rows_html default (rows_of bs) ≡ layout default (document_pieces bs)
+pub rows_html_of : (default : List ℕ) (bs : Blocks) → CanBePrinted bs → rows_html default (rows_of bs) ≡ layout default (document_pieces bs)
 rows_html_of default bs h =
-    let pieces = children_pieces true false false bs in
-    ap (λ out. fold (print default) out (last_piece (ends_blank_rows (rows_of bs)))) (printed_rows_of default (printed_as [] false) bs)
-    ∙ ap (λ blank. fold (print default) (layout default pieces) (last_piece blank)) (ends_blank_rows_of false bs)
+    let pieces = children_pieces true false false (grouped bs) in
+    let start = new_level kind.Document false in
+    let last = λ (out : List ℕ) (blank : Bool). fold (print default) out (last_piece blank) in
+    let blank = ends_blank_rows (rows_of bs) in
+    ap (λ (ps : List Place). last (printed default (printed_at [] start [] ps) (rows_of bs)).out blank) (ap (λ (p : Passed). p.places) (blocks_passed bs h [] []))
+    ∙ ap (λ (p : Printed). last p.out blank) ((blocks_printed default bs h).children start [] [] [] refl)
+    ∙ ap (last (layout default pieces)) (rows_end_blank bs false h)
     ∙ sym (fold-append (print default) [] pieces (last_piece (ends_blank false bs)))
-    ∙ ap (λ kids. layout default (children_pieces true false false kids ++ last_piece (ends_blank false bs))) (sym (grouped_same bs h))
 
 -- ---- what can be printed
 
-pub printable_rows_of : (bs : Blocks) → CanBePrinted bs → ArePrintable (rows_of bs)
-printable_rows_of Nil h = All-nil IsPrintableRow
-printable_rows_of (Cons b bs) h = All-cons IsPrintableRow (Single b) (rows_of bs) h.0 (printable_rows_of bs h.1)
+all_append : {X : Type 0} (P : X → Type 0) (xs ys : List X) → All P xs → All P ys → All P (xs ++ ys)
+all_append P [] ys h k = k
+all_append P (x ∷ xs) ys h k = All-cons P x (xs ++ ys) (All-head P x xs h) (all_append P xs ys (All-tail P x xs h) k)
+
+all_one : (row : BlockRow) → IsPrintableRow row → ArePrintable (row ∷ [])
+all_one row h = All-cons IsPrintableRow row [] h (All-nil IsPrintableRow)
+
+entered_printable : (c : Container) → IsPrintableRow (entered c)
+entered_printable Quote = tt
+entered_printable (Item item) = tt
+
+mutual
+  pub printable_block : (b : Block) → IsPrintable b → ArePrintable (block_rows b)
+  printable_block (Paragraph ls) h = all_one (Single (Paragraph ls)) h
+  printable_block (Heading rank ls) h = all_one (Single (Heading rank ls)) h
+  printable_block Break h = all_one (Single Break) h
+  printable_block (IndentedCode ls) h = all_one (Single (IndentedCode ls)) h
+  printable_block (FencedCode info closed ls) h = all_one (Single (FencedCode info closed ls)) h
+  printable_block (Holds c kids) h =
+      All-cons IsPrintableRow (entered c) (rows_of kids ++ Exit ∷ []) (entered_printable c) (all_append IsPrintableRow (rows_of kids) (Exit ∷ []) (printable_rows_of kids h.1) (all_one Exit tt))
+  printable_block (Items items) h = absurd h
+  printable_block (Ending ending) h = all_one (Single (Ending ending)) h
+  printable_block (Blank ending) h = all_one (Single (Blank ending)) h
+
+  pub printable_rows_of : (bs : Blocks) → CanBePrinted bs → ArePrintable (rows_of bs)
+  printable_rows_of Nil h = All-nil IsPrintableRow
+  printable_rows_of (Cons b bs) h = all_append IsPrintableRow (block_rows b) (rows_of bs) (printable_block b h.0) (printable_rows_of bs h.1)

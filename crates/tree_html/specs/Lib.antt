@@ -1,1 +1,4 @@
-pub mod RowPieces
+pub mod Printable
+pub mod Loose
+pub mod Levels
+pub mod Printed

@@ -8,7 +8,7 @@ ghost use Rattle.markdown_definition.specs.Encode.{encode};
 ghost use Rattle.markdown_definition.specs.Tree.{IndentedCode, FencedCode, own_lines};
 ghost use Rattle.markdown_definition.specs.Html.{block_pieces, class_of, code_byte, code_of, fenced_content};
 ghost use Rattle.markdown_definition.specs.Rows.{piece_lines};
-ghost use Rattle.tree_html.specs.RowPieces.{laid};
+ghost use Rattle.tree_html.specs.Printed.{laid};
 
 use crate::encode::push_encoded;
 use crate::page::Page;
@@ -29,21 +29,22 @@ impl<A: Allocator> Page<A> {
         self.html.push_str("</code></pre>")
     }
 
-    /// Prints fenced code (CommonMark 4.5).
+    /// Prints fenced code (CommonMark 4.5), at the top or in a container.
     pub(crate) fn fenced_code(
         &mut self,
         info: &str,
         closed: bool,
+        top: bool,
         lines: &[Piece<'_>],
     ) -> Result<(), AllocError>
         ensures default { self.new.default_ending ≡ self.old.default_ending }
-        ensures printed { OnOk result (string_bytes self.new.html ≡ laid self.old.default_ending (string_bytes self.old.html) (block_pieces true false false (FencedCode info.now closed (piece_lines lines.now)))) }
+        ensures printed { OnOk result (string_bytes self.new.html ≡ laid self.old.default_ending (string_bytes self.old.html) (block_pieces top false false (FencedCode info.now closed (piece_lines lines.now)))) }
     {
         self.fresh()?;
         self.html.push_str("<pre><code")?;
         self.class(info)?;
         self.html.push_str(">")?;
-        self.fenced_content(lines)?;
+        self.fenced_content(closed, top, lines)?;
         self.html.push_str("</code></pre>")?;
         if closed {
             return Ok(());
@@ -64,15 +65,29 @@ impl<A: Allocator> Page<A> {
         self.html.push_str("\"")
     }
 
-    /// Prints lines of fenced code. At the top the last ending is one of its content.
-    fn fenced_content(&mut self, lines: &[Piece<'_>]) -> Result<(), AllocError>
+    /// Prints lines of fenced code. Where it isn't closed, its last ending stands outside in a
+    /// container, and the default one is printed.
+    fn fenced_content(
+        &mut self,
+        closed: bool,
+        top: bool,
+        lines: &[Piece<'_>],
+    ) -> Result<(), AllocError>
         ensures default { self.new.default_ending ≡ self.old.default_ending }
-        ensures printed { OnOk result (string_bytes self.new.html ≡ laid self.old.default_ending (string_bytes self.old.html) (fenced_content true true (piece_lines lines.now))) }
+        ensures printed { OnOk result (string_bytes self.new.html ≡ laid self.old.default_ending (string_bytes self.old.html) (fenced_content top closed (piece_lines lines.now))) }
     {
         self.code(lines)?;
         match lines.last() {
             None => Ok(()),
-            Some(last) => self.end_content(last.ending),
+            Some(last) => {
+                let whole = top || closed;
+                let ending = if whole {
+                    last.ending
+                } else {
+                    Some(self.default_ending)
+                };
+                self.end_content(ending)
+            }
         }
     }
 

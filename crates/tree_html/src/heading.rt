@@ -3,7 +3,7 @@ ghost use Rattle.std.specs.Prelude.{◌≡◌, ◌≤◌, ◌+◌, ◌++◌, ◌
 ghost use Rattle.markdown_definition.specs.Tree.{Heading};
 ghost use Rattle.markdown_definition.specs.Html.{block_pieces};
 ghost use Rattle.markdown_definition.specs.Rows.{piece_line};
-ghost use Rattle.tree_html.specs.RowPieces.{laid};
+ghost use Rattle.tree_html.specs.Printed.{laid};
 
 use crate::page::Page;
 use markdown_definition::Piece;

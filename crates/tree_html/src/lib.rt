@@ -2,9 +2,14 @@
 #![tactic(auto)]
 
 pub mod code;
+pub mod container;
 pub mod encode;
 pub mod heading;
+pub mod level;
+pub mod list;
+pub mod loose;
 pub mod page;
+pub mod printer;
 
 pub use encode::push_encoded;
-pub use page::print_rows;
+pub use printer::print_rows;

@@ -1,16 +1,19 @@
-//! The page, printed row by row.
-ghost use Rattle.std.specs.Prelude.{◌≡◌, ◌≤◌, ◌<◌, ◌^◌, ◌++◌, ◌∷◌, [], List, IfOk, OnOk, string_bytes, length, drop, take, true, false};
+//! The page, printed piece by piece.
+ghost use Rattle.std.specs.Prelude.{◌≡◌, ◌≤◌, ◌++◌, OnOk, string_bytes, length, true, false};
 ghost use Rattle.markdown_options.specs.LineEndings.{ending_bytes};
 ghost use Rattle.markdown_definition.specs.Lines.{ending_text};
 ghost use Rattle.markdown_definition.specs.Columns.{trimmed};
 ghost use Rattle.markdown_definition.specs.Encode.{encode};
-ghost use Rattle.markdown_definition.specs.Tree.{BlockLine, Paragraph, Break, own_lines};
+ghost use Rattle.markdown_definition.specs.Tree.{Paragraph, Break, own_lines};
 ghost use Rattle.markdown_definition.specs.Pieces.{Fresh, is_fresh, print};
-ghost use Rattle.markdown_definition.specs.Html.{text_of, block_pieces, silences};
-ghost use Rattle.markdown_definition.specs.Rows.{all_taken, lines_taken, piece_line, piece_lines, block_shown, shown};
-ghost use Rattle.tree_html.specs.RowPieces.{laid, rows_html, IsPrintable, ArePrintable};
+ghost use Rattle.markdown_definition.specs.Html.{text_of, block_pieces};
+ghost use Rattle.markdown_definition.specs.Rows.{lines_taken, piece_line, piece_lines, row_shown};
+ghost use Rattle.tree_html.specs.Levels.{row_pieces};
+ghost use Rattle.tree_html.specs.Printable.{IsPrintableRow};
+ghost use Rattle.tree_html.specs.Printed.{laid};
 
 use crate::encode::push_encoded;
+use crate::level::Level;
 use markdown_definition::{Piece, Row};
 use markdown_options::LineEnding;
 use std::alloc::{AllocError, Allocator};
@@ -25,33 +28,44 @@ pub(crate) struct Page<A: Allocator> {
 
 impl<A: Allocator> Page<A> {
     /// Prints a block, or the ending of a line. A block takes its lines from the front of these.
-    /// The row before may silence an ending.
-    fn row(&mut self, row: Row, silent: bool, lines: &[Piece<'_>]) -> Result<(), AllocError>
+    /// No other row prints anything here.
+    pub(crate) fn block(
+        &mut self,
+        row: Row,
+        level: Level,
+        lines: &[Piece<'_>],
+    ) -> Result<(), AllocError>
         requires enough { lines_taken row ≤ length lines.now }
-        requires printable { IsPrintable (block_shown row (piece_lines lines.now)) }
+        requires printable { IsPrintableRow (row_shown row (piece_lines lines.now)) }
         ensures default { self.new.default_ending ≡ self.old.default_ending }
-        ensures printed { OnOk result (string_bytes self.new.html ≡ laid self.old.default_ending (string_bytes self.old.html) (block_pieces true false silent (block_shown row (piece_lines lines.now)))) }
+        ensures printed { OnOk result (string_bytes self.new.html ≡ laid self.old.default_ending (string_bytes self.old.html) (row_pieces level (row_shown row (piece_lines lines.now)))) }
     {
+        let top = level.is_document();
         match row {
-            Row::Paragraph(count) => self.paragraph(&lines[..count]),
+            Row::Paragraph(count) => self.paragraph(level.tight, &lines[..count]),
             Row::Heading(rank) => self.heading(rank, &lines[0]),
             Row::Break => self.thematic_break(),
             Row::IndentedCode(count) => self.indented_code(&lines[..count]),
-            Row::FencedCode(count) => self.fenced_code(lines[0].text, true, &lines[1..][..count]),
-            Row::UnclosedCode(count) => {
-                self.fenced_code(lines[0].text, false, &lines[1..][..count])
+            Row::FencedCode(count) => {
+                self.fenced_code(lines[0].text, true, top, &lines[1..][..count])
             }
-            Row::Ending(_) if silent => Ok(()),
+            Row::UnclosedCode(count) => {
+                self.fenced_code(lines[0].text, false, top, &lines[1..][..count])
+            }
+            Row::Ending(_) if level.silent => Ok(()),
             Row::Ending(ending) => self.push_ending(ending),
-            Row::Blank(_) => Ok(()),
+            Row::Blank(_) | Row::EnterQuote | Row::EnterItem { .. } | Row::Exit => Ok(()),
         }
     }
 
-    /// Prints a paragraph (CommonMark 4.8).
-    fn paragraph(&mut self, lines: &[Piece<'_>]) -> Result<(), AllocError>
+    /// Prints a paragraph (CommonMark 4.8). That of a tight item is its text alone.
+    fn paragraph(&mut self, tight: bool, lines: &[Piece<'_>]) -> Result<(), AllocError>
         ensures default { self.new.default_ending ≡ self.old.default_ending }
-        ensures printed { OnOk result (string_bytes self.new.html ≡ laid self.old.default_ending (string_bytes self.old.html) (block_pieces true false false (Paragraph (own_lines (piece_lines lines.now))))) }
+        ensures printed { OnOk result (string_bytes self.new.html ≡ laid self.old.default_ending (string_bytes self.old.html) (block_pieces true tight false (Paragraph (own_lines (piece_lines lines.now))))) }
     {
+        if tight {
+            return self.text(lines);
+        }
         self.fresh()?;
         self.html.push_str("<p>")?;
         self.text(lines)?;
@@ -108,6 +122,14 @@ impl<A: Allocator> Page<A> {
         if is_fresh(self.html.as_bytes()) {
             return Ok(());
         }
+        self.eol()
+    }
+
+    /// Prints the default ending.
+    pub(crate) fn eol(&mut self) -> Result<(), AllocError>
+        ensures default { self.new.default_ending ≡ self.old.default_ending }
+        ensures printed { OnOk result (string_bytes self.new.html ≡ string_bytes self.old.html ++ ending_bytes self.old.default_ending) }
+    {
         self.html.push_str(self.default_ending.as_str())
     }
 }
@@ -120,54 +142,4 @@ fn is_fresh(bytes: &[u8]) -> bool
         None => true,
         Some(byte) => *byte == b'\n' || *byte == b'\r',
     }
-}
-
-/// The HTML of rows, whose blocks take their lines from `pieces`. Room is made for `room` bytes at once.
-pub fn print_rows<A: Allocator>(
-    alloc: A,
-    room: usize,
-    default_ending: LineEnding,
-    rows: &[Row],
-    pieces: &[Piece<'_>],
-) -> Result<String<A>, AllocError>
-    requires enough { all_taken rows.now ≤ length pieces.now }
-    requires printable { ArePrintable (shown rows.now (piece_lines pieces.now)).rows }
-    ensures { IfOk result (λ html. string_bytes html ≡ rows_html (ending_bytes default_ending) (shown rows.now (piece_lines pieces.now)).rows) }
-{
-    let mut page = Page {
-        html: String::with_capacity(alloc, room)?,
-        default_ending,
-    };
-    let mut taken = 0;
-    let mut silent = false;
-    for row in rows {
-        page.row(*row, silent, &pieces[taken..])?;
-        taken += lines_taken(*row);
-        silent = silences_ending(*row);
-    }
-    if let Some(Row::Blank(Some(_))) = rows.last() {
-        page.fresh()?;
-    }
-    let Page { html, .. } = page;
-    Ok(html)
-}
-
-/// How many lines a row takes.
-fn lines_taken(row: Row) -> usize
-    requires { lines_taken row < 2 ^ 64 }
-    ensures { result ≡ lines_taken row }
-{
-    match row {
-        Row::Paragraph(count) | Row::IndentedCode(count) => count,
-        Row::Heading(_) => 1,
-        Row::FencedCode(count) | Row::UnclosedCode(count) => 1 + count,
-        Row::Break | Row::Ending(_) | Row::Blank(_) => 0,
-    }
-}
-
-/// Whether a row silences the ending right after it: fenced code prints the one of its last line.
-fn silences_ending(row: Row) -> bool
-    ensures { (ls : List BlockLine) → result ≡ silences true false (block_shown row ls) }
-{
-    matches!(row, Row::UnclosedCode(_))
 }

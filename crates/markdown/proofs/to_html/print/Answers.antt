@@ -7,15 +7,11 @@ use Rattle.markdown_definition.specs.declared.row.Piece.{Piece}
 use Rattle.markdown_definition.specs.Pieces.{layout}
 use Rattle.markdown_definition.specs.Html.{document_pieces}
 use Rattle.markdown_definition.specs.Tree.{blocks}
-use Rattle.markdown_definition.specs.Rows.{BlockRow, Shown, piece_lines, rows_of, shown}
-use Rattle.tree_html.specs.RowPieces.{ArePrintable, rows_html}
-use Rattle.tree_html.proofs.RowsOf.{printable_rows_of, rows_html_of}
+use Rattle.markdown_definition.specs.Rows.{Shown, piece_lines, rows_of, shown}
+use Rattle.tree_html.specs.Printable.{ArePrintable}
+use Rattle.tree_html.proofs.RowsOf.{printable_rows_of}
 use Rattle.tree_html.proofs.Printable.{blocks_printable}
-use Rattle.markdown.proofs.Built.{built_containers, shown_without_holds}
 use Rattle.markdown.proofs.to_html.print.Goals as goal
-
-pub block_rows-requires-clause-containers : goal.block_rows-requires-clause-containers
-block_rows-requires-clause-containers g c = built_containers c.args.options.now.parse.constructs c.requires.built
 
 pub print_rows-requires-clause-printable : goal.print_rows-requires-clause-printable
 print_rows-requires-clause-printable g c =
@@ -32,17 +28,11 @@ returns g c =
     let on = c.args.options.now.parse.constructs in
     let text = c.args.text.now in
     let bs = blocks on text in
-    let default = ending_bytes c.default_ending-ending.result in
     let ending = c.default_ending-ending.ensures c.args.options.now refl in
-    let blocks_shown = c.in_ok-blocks.ensures.shown in
     let rows = ap (λ (s : Shown). s.rows) (
     ap (λ (rs : List Row). shown rs (piece_lines c.deref-2.result.now)) c.deref.ensures.value
     ∙ ap (λ (ps : List Piece). shown c.in_ok-blocks.blocks.rows.items (piece_lines ps)) c.deref-2.ensures.value
-    ∙ blocks_shown) in
+    ∙ c.in_ok-blocks.ensures.shown) in
     IfOk-weaker c.print_rows.result _ _
-    (λ page printed.
-    printed
-    ∙ ap (rows_html default) rows
-    ∙ rows_html_of default bs (shown_without_holds c.in_ok-blocks.blocks.rows.items (piece_lines c.in_ok-blocks.blocks.pieces.items) bs blocks_shown)
-    ∙ ap (λ (e : LineEnding). layout (ending_bytes e) (document_pieces bs)) ending)
-    c.print_rows.ensures
+    (λ page printed. printed ∙ ap (λ (e : LineEnding). layout (ending_bytes e) (document_pieces bs)) ending)
+    (c.print_rows.ensures bs rows (blocks_printable on text))

@@ -1,21 +1,24 @@
-use Rattle.std.proofs.Common.{◌≡◌, ◌-◌, ◌++◌, ◌∷◌, [], List, sym, ap, ◌∙◌, subst, length, arith, None}
-use Rattle.std.proofs.lemmas.List.{length-map}
-use Rattle.markdown_definition.specs.declared.row.Row.{Row}
-use Rattle.markdown_definition.specs.declared.row.Row.TheVariants as row
-use Rattle.markdown_definition.specs.Tree.{closed, tree, Text, Fenced, Leaf}
-use Rattle.markdown_definition.specs.Rows.{piece_lines, piece_line}
-use Rattle.block_tree.specs.Shows.{Shows, InText}
-use Rattle.block_tree.specs.Leaves.{leaf_state}
-use Rattle.block_tree.proofs.Leaves.{closes_fenced}
-use Rattle.block_tree.proofs.Steps.{enough_lines}
+use Rattle.std.proofs.Common.{◌≡◌, ◌-◌, ◌∷◌, [], Option, false, sym, ap, subst, refl, length, arith}
+use Rattle.std.proofs.lemmas.List.{length-map, take_all}
+use Rattle.std.proofs.lemmas.Result.{on_ok_weaker}
+use Rattle.markdown_options.specs.declared.line_ending.LineEnding.{LineEnding}
+use Rattle.markdown_definition.specs.Tree.{FencedCode, ended, join, Text, Fenced}
+use Rattle.markdown_definition.specs.Rows.{piece_lines, piece_line, Single}
+use Rattle.block_tree.specs.Spine.{spine}
+use Rattle.block_tree.specs.Shows.{leaf_lines}
+use Rattle.block_tree.specs.View.{HasRead}
+use Rattle.block_tree.proofs.Leaves as leaves
 use Rattle.block_tree.proofs.parser.Parser.close_fenced.Goals as goal
 
-pub returns : goal.returns
-returns g c = λ fence opening ls done last h.
+pub returns-clause-read : goal.returns-clause-read
+returns-clause-read g c =
+    on_ok_weaker c.end_leaf.result (λ reads. λ around kids fence opening ls last h.
     let p = c.args.self.now in
+    let pool = piece_lines p.pieces.items in
+    let left = leaves.all_left p.rows.rows.items p.rows.waiting.items p.rows.bare pool around kids (leaf_lines (Fenced fence opening ls)) h.written (leaves.enough_lines p) in
     let long = length-map p.pieces.items piece_line in
     let count = c.len.result - p.taken - 1 in
-    let k = closes_fenced p.rows.items (piece_lines p.pieces.items) (leaf_state p.leaf) done (enough_lines p) fence opening ls count c.args.ending h
-    (omega (arith, long, p.counted, p.pieces.ok.0, c.len.ensures)) last in
-    let rows = sym (c.in_ok-push-2.ensures.items ∙ ap (λ (rs : List Row). rs ++ row.Ending c.args.ending ∷ []) c.in_ok-push.ensures.items) in
-    subst (λ (rs : List Row). Shows rs (piece_lines p.pieces.items) (InText None) (closed (tree done (Leaf (Fenced fence opening ls)))) (Text [])) rows k
+    let all : count ≡ length ls = omega (arith, left, long, p.counted, p.pieces.ok.0, c.len.ensures) in
+    subst (λ (e : Option LineEnding). HasRead c.end_leaf.new.self (spine around (join kids (ended (FencedCode fence.info false ls) e)) (Text []))) last
+    (reads around kids (Fenced fence opening ls) (FencedCode fence.info false ls) h (ap (λ x. Single (FencedCode fence.info false x) ∷ []) (sym (take_all count ls (omega (arith, all))))) refl))
+    c.end_leaf.ensures.read

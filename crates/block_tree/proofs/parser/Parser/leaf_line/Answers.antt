@@ -1,36 +1,107 @@
-use Rattle.std.proofs.Common.{◌≡◌, ◌-◌, ◌+◌, ◌<◌, ◌++◌, ◌∷◌, [], List, None, Some, true, false, not, ◌&&◌, sym, ap, ◌∙◌, subst, refl, length, arith, ltb}
-use Rattle.std.proofs.lemmas.List.{length-map}
+use Rattle.std.proofs.Common.{◌∷◌, [], None, not, ◌&&◌, sym, ap, ◌∙◌, subst}
 use Rattle.std.proofs.lemmas.Result.{on_ok_weaker}
-use Rattle.markdown_definition.specs.declared.row.Row.{Row}
-use Rattle.markdown_definition.specs.declared.row.Row.TheVariants as row
-use Rattle.markdown_definition.specs.Columns.{Rest}
 use Rattle.markdown_definition.specs.Indents.{outdented}
-use Rattle.markdown_definition.specs.CodeFenced.{fence_line}
-use Rattle.markdown_definition.specs.Lines.{text_line}
-use Rattle.markdown_definition.specs.Tree.{BlockLine, block_line, Blocks, Paragraph, Heading, Break, FencedCode, Blank, Tree, tree, nothing, one, ended, join, Opening, OpenLeaf, Text, Indented, Fenced, Leaf, rest_line, closed, after, has_text, with_line, Nil, last_ending, last_ending_or}
-use Rattle.markdown_definition.specs.Rows.{piece_lines, piece_line}
-use Rattle.block_lines.specs.View.{rest_of}
 use Rattle.markdown_definition.specs.CodeIndented.{starts_code_indented}
+use Rattle.markdown_definition.specs.Tree.{block_line, Heading, Break, Blank, Nil, Tree, tree, nothing, one, ended, join, Indented, Fenced, Leaf, rest_line, close}
+use Rattle.block_lines.specs.View.{rest_of}
 use Rattle.block_lines.specs.Fences.{fence_view, fence_if}
 use Rattle.block_lines.specs.Headings.{atx_if}
-use Rattle.block_tree.specs.Shows.{Shows, ShowsTree, InText, InIndented, InFenced}
-use Rattle.block_tree.specs.Leaves.{leaf_state}
-use Rattle.block_tree.specs.View.{HasRead, with_more, leaf_step, closed_tree}
-use Rattle.block_tree.proofs.Leaves as leaves
+use Rattle.block_tree.specs.Spine.{spine_at, grown}
+use Rattle.block_tree.specs.View.{HasRead}
 use Rattle.block_tree.proofs.Steps as steps
-use Rattle.block_tree.proofs.Shown.{piece_pushed, join-nil, join-assoc}
+use Rattle.block_tree.proofs.Closing as closing
+use Rattle.markdown_definition.specs.HeadingAtx.{atx as Atx_of}
 use Rattle.block_tree.proofs.parser.Parser.leaf_line.Goals as goal
+
+pub returns-then-is_blank : goal.returns-then-is_blank
+returns-then-is_blank g c =
+    on_ok_weaker c.blank_line.result (λ adds. λ around kids away deep h.
+    let on = c.args.on.now in
+    let r = rest_of c.args.rest in
+    let e = c.args.ending in
+    let more = tree (one (Blank e)) nothing in
+    let k = c.in_ok-close_to.ensures.read around kids away deep h in
+    subst (λ (x : Tree). HasRead c.blank_line.new.self (grown around kids x)) (sym (steps.blank_leaf on away r e (sym c.is_blank.ensures ∙ c.if-is_blank.true)))
+    (closing.after_added (HasRead c.blank_line.new.self) around kids away more (adds around (join kids (close away)) k)))
+    c.blank_line.ensures
+
+pub returns-then-begins_code : goal.returns-then-begins_code
+returns-then-begins_code g c =
+    on_ok_weaker c.start_indented.result (λ adds. λ around kids away deep h.
+    let on = c.args.on.now in
+    let r = rest_of c.args.rest in
+    let e = c.args.ending in
+    let text_is = c.has_text-paragraph.ensures (spine_at around kids away) h ∙ steps.has_text_at around kids away in
+    let not_code = ap (λ b. starts_code_indented on r && not b) (sym text_is) ∙ sym c.begins_code.ensures in
+    let more = tree Nil (Leaf (Indented (rest_line (outdented 4 r) e ∷ []) [])) in
+    let k = c.in_ok-close_to-2.ensures.read around kids away deep h in
+    subst (λ (x : Tree). HasRead c.start_indented.new.self (grown around kids x)) (sym (steps.indented_leaf on away r e (sym c.is_blank.ensures ∙ c.if-is_blank.false) (not_code ∙ c.if-begins_code.true)))
+    (closing.after_added (HasRead c.start_indented.new.self) around kids away more (adds around (join kids (close away)) k)))
+    c.start_indented.ensures
+
+pub returns-in-Some : goal.returns-in-Some
+returns-in-Some g c =
+    on_ok_weaker c.start_fenced.result (λ adds. λ around kids away deep h.
+    let on = c.args.on.now in
+    let r = rest_of c.args.rest in
+    let e = c.args.ending in
+    let text_is = c.has_text-paragraph.ensures (spine_at around kids away) h ∙ steps.has_text_at around kids away in
+    let not_code = ap (λ b. starts_code_indented on r && not b) (sym text_is) ∙ sym c.begins_code.ensures in
+    let more = tree Nil (Leaf (Fenced (fence_view c.in-Some.fence) e [])) in
+    let k = c.in_ok-close_to-3.ensures.read around kids away deep h in
+    subst (λ (x : Tree). HasRead c.start_fenced.new.self (grown around kids x)) (sym (steps.fenced_leaf on away r e (fence_view c.in-Some.fence) (sym c.is_blank.ensures ∙ c.if-is_blank.false) (not_code ∙ c.if-begins_code.false) (sym c.fence_start.ensures ∙ ap fence_if c.in-Some.is)))
+    (closing.after_added (HasRead c.start_fenced.new.self) around kids away more (adds around (join kids (close away)) k)))
+    c.start_fenced.ensures
+
+pub returns-in-Some-heading_atx : goal.returns-in-Some-heading_atx
+returns-in-Some-heading_atx g c =
+    on_ok_weaker c.heading.result (λ adds. λ around kids away deep h.
+    let on = c.args.on.now in
+    let r = rest_of c.args.rest in
+    let e = c.args.ending in
+    let text_is = c.has_text-paragraph.ensures (spine_at around kids away) h ∙ steps.has_text_at around kids away in
+    let not_code = ap (λ b. starts_code_indented on r && not b) (sym text_is) ∙ sym c.begins_code.ensures in
+    let more = tree (ended (Heading c.in-Some-heading_atx.atx.rank (block_line c.in-Some-heading_atx.atx.content.now None ∷ [])) e) nothing in
+    let k = c.in_ok-close_to-4.ensures.read around kids away deep h in
+    subst (λ (x : Tree). HasRead c.heading.new.self (grown around kids x)) (sym (steps.heading_leaf on away r e (Atx_of c.in-Some-heading_atx.atx.rank c.in-Some-heading_atx.atx.content.now) (sym c.is_blank.ensures ∙ c.if-is_blank.false) (not_code ∙ c.if-begins_code.false) (sym c.fence_start.ensures ∙ ap fence_if c.in_default.is) (sym c.heading_atx.ensures ∙ ap atx_if c.in-Some-heading_atx.is)))
+    (closing.after_added (HasRead c.heading.new.self) around kids away more (adds around (join kids (close away)) k)))
+    c.heading.ensures
+
+pub returns-then-is_break : goal.returns-then-is_break
+returns-then-is_break g c =
+    on_ok_weaker c.thematic_break.result (λ adds. λ around kids away deep h.
+    let on = c.args.on.now in
+    let r = rest_of c.args.rest in
+    let e = c.args.ending in
+    let text_is = c.has_text-paragraph.ensures (spine_at around kids away) h ∙ steps.has_text_at around kids away in
+    let not_code = ap (λ b. starts_code_indented on r && not b) (sym text_is) ∙ sym c.begins_code.ensures in
+    let more = tree (ended Break e) nothing in
+    let k = c.in_ok-close_to-5.ensures.read around kids away deep h in
+    subst (λ (x : Tree). HasRead c.thematic_break.new.self (grown around kids x)) (sym (steps.break_leaf on away r e (sym c.is_blank.ensures ∙ c.if-is_blank.false) (not_code ∙ c.if-begins_code.false) (sym c.fence_start.ensures ∙ ap fence_if c.in_default.is) (sym c.heading_atx.ensures ∙ ap atx_if c.in_default-heading_atx.is) (sym c.is_break.ensures ∙ c.if-is_break.true)))
+    (closing.after_added (HasRead c.thematic_break.new.self) around kids away more (adds around (join kids (close away)) k)))
+    c.thematic_break.ensures
+
+pub returns-then-paragraph : goal.returns-then-paragraph
+returns-then-paragraph g c =
+    on_ok_weaker c.text_line.result (λ more. λ around kids away deep h.
+    let on = c.args.on.now in
+    let r = rest_of c.args.rest in
+    let e = c.args.ending in
+    let text_is = c.has_text-paragraph.ensures (spine_at around kids away) h ∙ steps.has_text_at around kids away in
+    let not_code = ap (λ b. starts_code_indented on r && not b) (sym text_is) ∙ sym c.begins_code.ensures in
+    subst (λ (x : Tree). HasRead c.text_line.new.self (grown around kids x)) (sym (steps.text_leaf on away r e (sym c.is_blank.ensures ∙ c.if-is_blank.false) (not_code ∙ c.if-begins_code.false) (sym c.fence_start.ensures ∙ ap fence_if c.in_default.is) (sym c.heading_atx.ensures ∙ ap atx_if c.in_default-heading_atx.is) (sym c.is_break.ensures ∙ c.if-is_break.false)))
+    (steps.goes_longer (HasRead c.args.self.now) (HasRead c.text_line.new.self) r e more around kids away (sym text_is ∙ c.if-paragraph.true) h))
+    c.text_line.ensures
 
 pub returns : goal.returns
 returns g c =
+    on_ok_weaker c.text_line-2.result (λ more. λ around kids away deep h.
     let on = c.args.on.now in
     let r = rest_of c.args.rest in
-    on_ok_weaker c.text_line.result
-    (λ reads. λ t h.
-    subst (λ (more : Tree). HasRead c.text_line.new.self (with_more t more))
-    (sym (steps.text_leaf on t.now r c.args.ending (sym c.is_blank.ensures ∙ c.if-is_blank.false)
-    (ap (λ b. starts_code_indented on r && not b) (sym (c.has_text-paragraph.ensures t h)) ∙ sym c.begins_code.ensures ∙ c.if-begins_code.false)
-    (sym c.fence_start.ensures ∙ ap fence_if c.in_default.is) (sym c.heading_atx.ensures ∙ ap atx_if c.in_default-heading_atx.is)
-    (sym c.is_break.ensures ∙ c.if-is_break.false)))
-    (reads t h))
-    c.text_line.ensures
+    let e = c.args.ending in
+    let text_is = c.has_text-paragraph.ensures (spine_at around kids away) h ∙ steps.has_text_at around kids away in
+    let not_code = ap (λ b. starts_code_indented on r && not b) (sym text_is) ∙ sym c.begins_code.ensures in
+    let k = c.in_ok-close_to-6.ensures.read around kids away deep h in
+    subst (λ (x : Tree). HasRead c.text_line-2.new.self (grown around kids x)) (sym (steps.text_leaf on away r e (sym c.is_blank.ensures ∙ c.if-is_blank.false) (not_code ∙ c.if-begins_code.false) (sym c.fence_start.ensures ∙ ap fence_if c.in_default.is) (sym c.heading_atx.ensures ∙ ap atx_if c.in_default-heading_atx.is) (sym c.is_break.ensures ∙ c.if-is_break.false)))
+    (steps.starts_text (HasRead c.text_line-2.new.self) r e around kids away (sym text_is ∙ c.if-paragraph.false) (more around (join kids (close away)) [] k)))
+    c.text_line-2.ensures

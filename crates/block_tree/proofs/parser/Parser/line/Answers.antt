@@ -1,33 +1,82 @@
-use Rattle.std.proofs.Common.{◌≡◌, ◌-◌, ◌+◌, ◌<◌, ◌++◌, ◌∷◌, [], List, None, Some, true, false, not, ◌&&◌, sym, ap, ◌∙◌, subst, refl, length, arith, ltb}
-use Rattle.std.proofs.lemmas.List.{length-map}
+use Rattle.std.proofs.Common.{◌≡◌, [], false, ◌==◌, sym, ap, ◌∙◌, subst, length, arith}
 use Rattle.std.proofs.lemmas.Result.{on_ok_weaker}
-use Rattle.markdown_definition.specs.declared.row.Row.{Row}
-use Rattle.markdown_definition.specs.declared.row.Row.TheVariants as row
 use Rattle.markdown_definition.specs.Columns.{Rest}
-use Rattle.markdown_definition.specs.Indents.{outdented}
-use Rattle.markdown_definition.specs.CodeFenced.{fence_line}
-use Rattle.markdown_definition.specs.Lines.{text_line}
-use Rattle.markdown_definition.specs.Tree.{BlockLine, block_line, Blocks, Paragraph, Heading, Break, FencedCode, Blank, Tree, tree, nothing, one, ended, join, Opening, OpenLeaf, Text, Indented, Fenced, Leaf, rest_line, closed, after, has_text, with_line, Nil, last_ending, last_ending_or}
-use Rattle.markdown_definition.specs.Rows.{piece_lines, piece_line}
+use Rattle.markdown_definition.specs.Tree.{new, grow}
 use Rattle.block_lines.specs.View.{rest_of}
 use Rattle.block_lines.specs.Fences.{fence_view}
-use Rattle.block_tree.specs.Shows.{Shows, ShowsTree, InText, InIndented, InFenced}
+use Rattle.block_tree.specs.Spine.{grown}
 use Rattle.block_tree.specs.Leaves.{leaf_state}
-use Rattle.block_tree.specs.View.{HasRead, with_more, leaf_step, closed_tree}
-use Rattle.block_tree.proofs.Leaves as leaves
-use Rattle.block_tree.proofs.Steps as steps
-use Rattle.block_tree.proofs.Shown.{piece_pushed, join-nil, join-assoc}
+use Rattle.block_tree.specs.View.{HasRead}
+use Rattle.block_tree.proofs.Descending as descending
+use Rattle.std.proofs.Common.{vec_len}
+use Rattle.std.proofs.lemmas.Bool.{eq-eqb, ne_eqb}
 use Rattle.block_tree.proofs.parser.Parser.line.Goals as goal
 
-pub returns : goal.returns
-returns g c =
+pub returns-then-depth-len : goal.returns-then-depth-len
+returns-then-depth-len g c =
+    on_ok_weaker c.start_line.result (λ grows. λ t h.
     let p = c.args.self.now in
     let on = c.args.on.now in
-    let line = text_line c.args.line.content.now c.args.line.ending in
-    on_ok_weaker c.rest_of_line.result
-    (λ reads. λ t h.
-    subst (HasRead c.rest_of_line.new.self)
-    (ap (λ (r : Rest). with_more t (leaf_step on line.ending t.now r)) c.new.ensures
-    ∙ steps.line_step on p.rows.items (piece_lines p.pieces.items) (leaf_state p.leaf) line c.requires t h)
-    (reads t h))
-    c.rest_of_line.ensures
+    let e = c.args.line.ending in
+    let d = c.descend-depth.ensures.descent t e h in
+    let depth = c.descend-depth.result.0 in
+    let r = rest_of c.descend-depth.result.1 in
+    let whole_line = ap (λ (x : Rest). grown [] t.done (grow on e t.now x)) c.new.ensures in
+    let here = subst (HasRead p) (sym d.same) h in
+    let outer : (depth == vec_len p.open) ≡ false = ne_eqb depth (vec_len p.open) (λ same. omega (arith, same, c.if-depth-len.true, c.len.ensures)) in
+    subst (HasRead c.start_line.new.self)
+    (ap (λ all. grown d.around d.kids (new (length r) on all d.now e r)) outer
+    ∙ ap (grown d.around d.kids) (sym (d.stuck (omega (arith, c.if-depth-len.true, c.len.ensures))))
+    ∙ sym d.grows ∙ whole_line)
+    (grows d.around d.kids d.now d.deep here))
+    c.start_line.ensures
+
+pub returns-in-Text : goal.returns-in-Text
+returns-in-Text g c =
+    on_ok_weaker c.start_line-in-Text.result (λ grows. λ t h.
+    let p = c.args.self.now in
+    let on = c.args.on.now in
+    let e = c.args.line.ending in
+    let d = c.descend-depth.ensures.descent t e h in
+    let depth = c.descend-depth.result.0 in
+    let r = rest_of c.descend-depth.result.1 in
+    let whole_line = ap (λ (x : Rest). grown [] t.done (grow on e t.now x)) c.new.ensures in
+    let here = subst (HasRead p) (sym d.same) h in
+    let none = descending.no_deeper p.open.items d.around d.kids d.now here.opened (omega (arith, d.deep, c.if-depth-len.false, c.len.ensures, c.descend-depth.ensures.within, p.open.ok.0)) in
+    subst (HasRead c.start_line-in-Text.new.self) (sym d.grows ∙ whole_line)
+    (descending.text_grows (HasRead p) (HasRead c.start_line-in-Text.new.self) on e r c.in-Text.ending d.around d.kids d.now none (sym (ap leaf_state c.in-Text.is) ∙ here.same_state)
+    (subst (λ all. HasRead c.start_line-in-Text.new.self (grown d.around d.kids (new (length r) on all d.now e r))) (eq-eqb depth (vec_len p.open) (omega (arith, c.if-depth-len.false, c.len.ensures, c.descend-depth.ensures.within)))
+    (grows d.around d.kids d.now d.deep here))))
+    c.start_line-in-Text.ensures
+
+pub returns-in-Indented : goal.returns-in-Indented
+returns-in-Indented g c =
+    on_ok_weaker c.indented_line.result (λ grows. λ t h.
+    let p = c.args.self.now in
+    let on = c.args.on.now in
+    let e = c.args.line.ending in
+    let d = c.descend-depth.ensures.descent t e h in
+    let depth = c.descend-depth.result.0 in
+    let r = rest_of c.descend-depth.result.1 in
+    let whole_line = ap (λ (x : Rest). grown [] t.done (grow on e t.now x)) c.new.ensures in
+    let here = subst (HasRead p) (sym d.same) h in
+    let none = descending.no_deeper p.open.items d.around d.kids d.now here.opened (omega (arith, d.deep, c.if-depth-len.false, c.len.ensures, c.descend-depth.ensures.within, p.open.ok.0)) in
+    subst (HasRead c.indented_line.new.self) (sym d.grows ∙ whole_line)
+    (descending.indented_grows (HasRead p) (HasRead c.indented_line.new.self) on e r grows c.in-Indented.count c.in-Indented.ending d.around d.kids d.now none (sym (ap leaf_state c.in-Indented.is) ∙ here.same_state) here))
+    c.indented_line.ensures
+
+pub returns-in-Fenced : goal.returns-in-Fenced
+returns-in-Fenced g c =
+    on_ok_weaker c.fenced_line.result (λ grows. λ t h.
+    let p = c.args.self.now in
+    let on = c.args.on.now in
+    let e = c.args.line.ending in
+    let d = c.descend-depth.ensures.descent t e h in
+    let depth = c.descend-depth.result.0 in
+    let r = rest_of c.descend-depth.result.1 in
+    let whole_line = ap (λ (x : Rest). grown [] t.done (grow on e t.now x)) c.new.ensures in
+    let here = subst (HasRead p) (sym d.same) h in
+    let none = descending.no_deeper p.open.items d.around d.kids d.now here.opened (omega (arith, d.deep, c.if-depth-len.false, c.len.ensures, c.descend-depth.ensures.within, p.open.ok.0)) in
+    subst (HasRead c.fenced_line.new.self) (sym d.grows ∙ whole_line)
+    (descending.fenced_grows (HasRead p) (HasRead c.fenced_line.new.self) on e r (fence_view c.in-Fenced.fence) grows c.in-Fenced.ending d.around d.kids d.now none (sym (ap leaf_state c.in-Fenced.is) ∙ here.same_state) here))
+    c.fenced_line.ensures

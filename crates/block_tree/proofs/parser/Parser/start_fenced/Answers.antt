@@ -1,32 +1,21 @@
-use Rattle.std.proofs.Common.{◌≡◌, ◌-◌, ◌+◌, ◌<◌, ◌++◌, ◌∷◌, [], List, None, Some, true, false, not, ◌&&◌, sym, ap, ◌∙◌, subst, refl, length, arith, ltb}
-use Rattle.std.proofs.lemmas.List.{length-map}
-use Rattle.std.proofs.lemmas.Result.{on_ok_weaker}
-use Rattle.markdown_definition.specs.declared.row.Row.{Row}
-use Rattle.markdown_definition.specs.declared.row.Row.TheVariants as row
-use Rattle.markdown_definition.specs.Columns.{Rest}
-use Rattle.markdown_definition.specs.Indents.{outdented}
-use Rattle.markdown_definition.specs.CodeFenced.{fence_line}
-use Rattle.markdown_definition.specs.Lines.{text_line}
-use Rattle.markdown_definition.specs.Tree.{BlockLine, block_line, Blocks, Paragraph, Heading, Break, FencedCode, Blank, Tree, tree, nothing, one, ended, join, Opening, OpenLeaf, Text, Indented, Fenced, Leaf, rest_line, closed, after, has_text, with_line, Nil, last_ending, last_ending_or}
-use Rattle.markdown_definition.specs.Rows.{piece_lines, piece_line}
-use Rattle.block_lines.specs.View.{rest_of}
+use Rattle.std.proofs.Common.{[], None, sym, subst, refl}
+use Rattle.markdown_definition.specs.Tree.{block_line, Blocks, Text, Fenced}
+use Rattle.markdown_definition.specs.Rows.{piece_lines}
 use Rattle.block_lines.specs.Fences.{fence_view}
-use Rattle.block_tree.specs.Shows.{Shows, ShowsTree, InText, InIndented, InFenced}
+use Rattle.block_tree.specs.Spine.{spine}
+use Rattle.block_tree.specs.Shows.{InFenced, Shows}
 use Rattle.block_tree.specs.Leaves.{leaf_state}
-use Rattle.block_tree.specs.View.{HasRead, with_more, leaf_step, closed_tree}
+use Rattle.block_tree.proofs.Trees.{join-nil}
 use Rattle.block_tree.proofs.Leaves as leaves
-use Rattle.block_tree.proofs.Steps as steps
-use Rattle.block_tree.proofs.Shown.{piece_pushed, join-nil, join-assoc}
 use Rattle.block_tree.proofs.parser.Parser.start_fenced.Goals as goal
 
 pub returns : goal.returns
-returns g c = λ t h.
-    let q = c.close.new.self in
-    let e = c.args.ending in
+returns g c = λ around kids h.
+    let p = c.args.self.now in
+    let pool = piece_lines p.pieces.items in
     let f = fence_view c.args.fence in
     let l = block_line f.info None in
-    let now = Leaf (Fenced f e []) in
-    let pool = piece_pushed q.pieces.items _ c.push.new.self.items l c.in_ok-push.ensures.items refl in
-    let k = leaves.starts_fenced q.rows.items (piece_lines q.pieces.items) (leaf_state q.leaf) (closed t) (steps.enough_lines q) (c.in_ok-close.ensures t h) f e in
-    steps.after_opens q.rows.items (piece_lines c.push.new.self.items) (InFenced f e) t now
-    (subst (λ (ps : List BlockLine). Shows q.rows.items ps (InFenced f e) (closed t) (Fenced f e [])) (sym pool) k)
+    let leaf = Fenced f c.args.ending [] in
+    subst (λ (bs : Blocks). Shows p.rows.rows.items p.rows.waiting.items p.rows.bare p.open.items (piece_lines c.push.new.self.items) (InFenced f c.args.ending) (spine around bs leaf)) (sym (join-nil kids))
+    (leaves.shows_line p.rows.rows.items p.rows.waiting.items p.rows.bare p.open.items pool (piece_lines c.push.new.self.items) (leaf_state p.leaf) (InFenced f c.args.ending) around kids (Text []) leaf l
+    (leaves.enough_lines p) (leaves.piece_pushed p.pieces.items _ c.push.new.self.items l c.in_ok-push.ensures.items refl) refl refl h)

@@ -1,31 +1,24 @@
-use Rattle.std.proofs.Common.{◌≡◌, ◌-◌, ◌+◌, ◌<◌, ◌++◌, ◌∷◌, [], List, None, Some, true, false, not, ◌&&◌, sym, ap, ◌∙◌, subst, refl, length, arith, ltb}
-use Rattle.std.proofs.lemmas.List.{length-map}
-use Rattle.std.proofs.lemmas.Result.{on_ok_weaker}
-use Rattle.markdown_definition.specs.declared.row.Row.{Row}
-use Rattle.markdown_definition.specs.declared.row.Row.TheVariants as row
+use Rattle.std.proofs.Common.{◌∷◌, [], sym, ap, ◌∙◌, subst, refl}
 use Rattle.markdown_definition.specs.Columns.{Rest}
 use Rattle.markdown_definition.specs.Indents.{outdented}
-use Rattle.markdown_definition.specs.CodeFenced.{fence_line}
-use Rattle.markdown_definition.specs.Lines.{text_line}
-use Rattle.markdown_definition.specs.Tree.{BlockLine, block_line, Blocks, Paragraph, Heading, Break, FencedCode, Blank, Tree, tree, nothing, one, ended, join, Opening, OpenLeaf, Text, Indented, Fenced, Leaf, rest_line, closed, after, has_text, with_line, Nil, last_ending, last_ending_or}
-use Rattle.markdown_definition.specs.Rows.{piece_lines, piece_line}
+use Rattle.markdown_definition.specs.Tree.{Blocks, Text, Indented, rest_line}
+use Rattle.markdown_definition.specs.Rows.{piece_lines}
 use Rattle.block_lines.specs.View.{rest_of}
-use Rattle.block_lines.specs.Fences.{fence_view}
-use Rattle.block_tree.specs.Shows.{Shows, ShowsTree, InText, InIndented, InFenced}
+use Rattle.block_tree.specs.Spine.{spine}
+use Rattle.block_tree.specs.Shows.{InIndented, Shows}
 use Rattle.block_tree.specs.Leaves.{leaf_state}
-use Rattle.block_tree.specs.View.{HasRead, with_more, leaf_step, closed_tree}
+use Rattle.block_tree.proofs.Trees.{join-nil}
 use Rattle.block_tree.proofs.Leaves as leaves
-use Rattle.block_tree.proofs.Steps as steps
-use Rattle.block_tree.proofs.Shown.{piece_pushed, join-nil, join-assoc}
 use Rattle.block_tree.proofs.parser.Parser.start_indented.Goals as goal
 
 pub returns : goal.returns
-returns g c = λ t h.
-    let q = c.close.new.self in
-    let e = c.args.ending in
-    let l = rest_line (outdented 4 (rest_of c.args.rest)) e in
-    let now = Leaf (Indented (l ∷ []) []) in
-    let pool = piece_pushed q.pieces.items c.piece.result c.push.new.self.items l c.in_ok-push.ensures.items (c.piece.ensures ∙ ap (λ (x : Rest). rest_line x e) c.outdented.ensures) in
-    let k = leaves.starts_indented q.rows.items (piece_lines q.pieces.items) (leaf_state q.leaf) (closed t) (steps.enough_lines q) (c.in_ok-close.ensures t h) l in
-    steps.after_opens q.rows.items (piece_lines c.push.new.self.items) (InIndented 1 e) t now
-    (subst (λ (ps : List BlockLine). Shows q.rows.items ps (InIndented 1 e) (closed t) (Indented (l ∷ []) [])) (sym pool) k)
+returns g c = λ around kids h.
+    let p = c.args.self.now in
+    let pool = piece_lines p.pieces.items in
+    let r = outdented 4 (rest_of c.args.rest) in
+    let l = rest_line r c.args.ending in
+    let leaf = Indented (l ∷ []) [] in
+    let piece_is = c.piece.ensures ∙ ap (λ (x : Rest). rest_line x c.args.ending) c.outdented.ensures in
+    subst (λ (bs : Blocks). Shows p.rows.rows.items p.rows.waiting.items p.rows.bare p.open.items (piece_lines c.push.new.self.items) (InIndented 1 c.args.ending) (spine around bs leaf)) (sym (join-nil kids))
+    (leaves.shows_line p.rows.rows.items p.rows.waiting.items p.rows.bare p.open.items pool (piece_lines c.push.new.self.items) (leaf_state p.leaf) (InIndented 1 c.args.ending) around kids (Text []) leaf l
+    (leaves.enough_lines p) (leaves.piece_pushed p.pieces.items c.piece.result c.push.new.self.items l c.in_ok-push.ensures.items piece_is) refl refl h)

@@ -1,32 +1,21 @@
-use Rattle.std.proofs.Common.{◌≡◌, ◌-◌, ◌+◌, ◌<◌, ◌++◌, ◌∷◌, [], List, None, Some, true, false, not, ◌&&◌, sym, ap, ◌∙◌, subst, refl, length, arith, ltb}
-use Rattle.std.proofs.lemmas.List.{length-map}
+use Rattle.std.proofs.Common.{[], ◌∙◌, refl}
 use Rattle.std.proofs.lemmas.Result.{on_ok_weaker}
-use Rattle.markdown_definition.specs.declared.row.Row.{Row}
 use Rattle.markdown_definition.specs.declared.row.Row.TheVariants as row
-use Rattle.markdown_definition.specs.Columns.{Rest}
-use Rattle.markdown_definition.specs.Indents.{outdented}
-use Rattle.markdown_definition.specs.CodeFenced.{fence_line}
-use Rattle.markdown_definition.specs.Lines.{text_line}
-use Rattle.markdown_definition.specs.Tree.{BlockLine, block_line, Blocks, Paragraph, Heading, Break, FencedCode, Blank, Tree, tree, nothing, one, ended, join, Opening, OpenLeaf, Text, Indented, Fenced, Leaf, rest_line, closed, after, has_text, with_line, Nil, last_ending, last_ending_or}
-use Rattle.markdown_definition.specs.Rows.{piece_lines, piece_line}
-use Rattle.block_lines.specs.View.{rest_of}
-use Rattle.block_lines.specs.Fences.{fence_view}
-use Rattle.block_tree.specs.Shows.{Shows, ShowsTree, InText, InIndented, InFenced}
-use Rattle.block_tree.specs.Leaves.{leaf_state}
-use Rattle.block_tree.specs.View.{HasRead, with_more, leaf_step, closed_tree}
+use Rattle.markdown_definition.specs.Tree.{Break}
+use Rattle.markdown_definition.specs.Rows.{piece_lines}
 use Rattle.block_tree.proofs.Leaves as leaves
-use Rattle.block_tree.proofs.Steps as steps
-use Rattle.block_tree.proofs.Shown.{piece_pushed, join-nil, join-assoc}
 use Rattle.block_tree.proofs.parser.Parser.thematic_break.Goals as goal
 
 pub returns : goal.returns
-returns g c = λ t h.
-    let q = c.close.new.self in
-    let e = c.args.ending in
-    let pool = piece_lines q.pieces.items in
-    let state = leaf_state q.leaf in
-    let one_row = leaves.with_single q.rows.items pool state (closed t) (steps.enough_lines q) (c.in_ok-close.ensures t h) row.Break Break refl in
-    let two_rows = leaves.with_ended (q.rows.items ++ row.Break ∷ []) pool state (closed t) Break e one_row in
-    let rows = sym (c.in_ok-push-2.ensures.items ∙ ap (λ (rs : List Row). rs ++ row.Ending e ∷ []) c.in_ok-push.ensures.items) in
-    steps.after_shows c.push-2.new.self.items pool state t (ended Break e) nothing
-    (subst (λ (rs : List Row). Shows rs pool state (join (closed t) (ended Break e)) (Text [])) rows two_rows)
+returns g c =
+    on_ok_weaker c.ending.result (λ waits. λ around kids h.
+    let p = c.args.self.now in
+    let pool = piece_lines p.pieces.items in
+    record {
+      written = leaves.written_ended p.rows.rows.items p.rows.waiting.items p.rows.bare pool around kids [] h.written row.Break Break c.args.ending p.rows.none refl refl
+          c.ending.new.self.rows.items c.block.new.self.waiting.items c.ending.new.self.waiting.items c.ending.new.self.bare []
+          (c.ending.ensures.rows ∙ c.in_ok-block.ensures.rows) c.in_ok-block.ensures.waiting waits (c.ending.ensures.bare ∙ c.in_ok-block.ensures.bare) refl;
+      opened = h.opened;
+      same_state = h.same_state;
+    })
+    c.ending.ensures.waiting

@@ -1,0 +1,36 @@
+use Rattle.std.proofs.Common.{◌∷◌, true, false, sym, ap, ◌∙◌, length}
+use Rattle.markdown_definition.specs.Started.{started}
+use Rattle.markdown_definition.specs.Tree.{Nil, nothing}
+use Rattle.block_lines.specs.View.{rest_of, started_if}
+use Rattle.block_tree.specs.Spine.{level, grown}
+use Rattle.block_tree.proofs.Starting as starting
+use Rattle.block_tree.proofs.parser.Parser.enter_all.Goals as goal
+
+pub loop-container-smaller : goal.loop-container-smaller
+loop-container-smaller g c =
+    starting.start-shorter c.args.on.now false (rest_of c.loop-container.inside) (started c.in-Some.container (rest_of c.in-Some.after)) (sym c.starts.ensures ∙ ap started_if c.in-Some.is)
+
+pub loop-container-preserved : goal.loop-container-preserved
+loop-container-preserved g c = λ around kids h.
+    let k = c.loop-container.invariant around kids h in
+    let on = c.args.on.now in
+    let rest = rest_of c.loop-container.inside in
+    let s = started c.in-Some.container (rest_of c.in-Some.after) in
+    record {
+      inner = level c.in-Some.container k.inner_kids ∷ k.inner;
+      inner_kids = Nil;
+      reads = c.in_ok-enter.ensures k.inner k.inner_kids k.reads;
+      grows = λ ending. k.grows ending ∙ starting.inside_more on ending k.inner k.inner_kids rest s (sym c.starts.ensures ∙ ap started_if c.in-Some.is);
+    }
+
+pub returns : goal.returns
+returns g c = λ around kids h.
+    let k = c.loop-container.invariant around kids h in
+    let on = c.args.on.now in
+    let rest = rest_of c.loop-container.inside in
+    record {
+      inner = k.inner;
+      inner_kids = k.inner_kids;
+      reads = k.reads;
+      grows = λ ending. k.grows ending ∙ ap (grown k.inner k.inner_kids) (starting.new_none on ending (length rest) true nothing rest (sym c.starts.ensures ∙ ap started_if c.in_default.is));
+    }

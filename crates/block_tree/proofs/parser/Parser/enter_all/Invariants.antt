@@ -1,0 +1,14 @@
+use Rattle.std.proofs.Common.{[], List, length}
+use Rattle.markdown_definition.specs.Tree.{Blocks, Text}
+use Rattle.block_lines.specs.View.{rest_of}
+use Rattle.block_tree.specs.Spine.{Level, spine}
+use Rattle.block_tree.specs.View.{HasRead, Inner, new_inside}
+use Rattle.block_tree.proofs.parser.Parser.enter_all.Given as goal
+
+-- what the rest so far makes is what is left to read
+abbrev pub invariant-loop-container : goal.invariant-loop-container
+invariant-loop-container g l = (around : List Level) (kids : Blocks) → HasRead l.initial.self (spine around kids (Text []))
+    → Inner l.self around kids (λ ending. new_inside l.on ending (rest_of l.initial.inside)) (λ ending. new_inside l.on ending (rest_of l.inside))
+
+abbrev pub decreases-loop-container : goal.decreases-loop-container
+decreases-loop-container g l = length (rest_of l.inside)

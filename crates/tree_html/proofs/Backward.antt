@@ -1,0 +1,66 @@
+-- The pass from the last row to the first needs no lines.
+use Rattle.std.proofs.Common.{◌≡◌, List, [], ◌∷◌, reverse, refl, sym, ap, ◌∙◌, drop, true, false}
+use Rattle.std.specs.List.{fold, list_any}
+use Rattle.std.proofs.lemmas.Bool.{or_parts}
+use Rattle.std.proofs.lemmas.Grind.{reverse_onto}
+use Rattle.std.proofs.lemmas.List.Sums.{fold_push}
+use Rattle.markdown_definition.specs.declared.row.Row.{Row}
+use Rattle.markdown_definition.specs.declared.row.Row.TheVariants as row
+use Rattle.markdown_definition.specs.Tree.{BlockLine}
+use Rattle.markdown_definition.specs.Rows.{row_shown, shown, shown_as, lines_taken}
+use Rattle.tree_html.specs.Loose.{Passed, nothing_passed, pass_row, pass_rows, places_of, starts_item}
+use Rattle.tree_html.proofs.RowSteps.{shown_after}
+
+-- a row without its lines
+abbrev pub pass_bare : Passed → Row → Passed
+pass_bare p r = pass_row p (row_shown r [])
+
+same_without_lines : (p : Passed) (r : Row) (ls : List BlockLine) → pass_row p (row_shown r ls) ≡ pass_bare p r
+same_without_lines p (row.Paragraph count) ls = refl
+same_without_lines p (row.Heading rank) ls = refl
+same_without_lines p row.Break ls = refl
+same_without_lines p (row.IndentedCode count) ls = refl
+same_without_lines p (row.FencedCode count) ls = refl
+same_without_lines p (row.UnclosedCode count) ls = refl
+same_without_lines p row.EnterQuote ls = refl
+same_without_lines p (row.EnterItem marker number) ls = refl
+same_without_lines p row.Exit ls = refl
+same_without_lines p (row.Ending ending) ls = refl
+same_without_lines p (row.Blank ending) ls = refl
+
+pub passed_backward : (p : Passed) (rows : List Row) (ls : List BlockLine) → fold pass_bare p (reverse rows) ≡ pass_rows p (shown rows ls).rows
+passed_backward p [] ls = refl
+passed_backward p (r ∷ rows) ls =
+    let left = drop (lines_taken r) ls in
+    ap (fold pass_bare p) (reverse_onto rows r [])
+    ∙ fold_push pass_bare p (reverse rows) r
+    ∙ ap (λ q. pass_bare q r) (passed_backward p rows left)
+    ∙ sym (same_without_lines (pass_rows p (shown rows left).rows) r ls)
+    ∙ ap (pass_rows p) (sym (shown_after (shown_as (row_shown r ls ∷ []) left) rows))
+
+-- ---- no place where there is no item
+
+same_places : (p : Passed) (r : Row) (ls : List BlockLine) → starts_item r ≡ false → (pass_row p (row_shown r ls)).places ≡ p.places
+same_places p (row.Paragraph count) ls h = refl
+same_places p (row.Heading rank) ls h = refl
+same_places p row.Break ls h = refl
+same_places p (row.IndentedCode count) ls h = refl
+same_places p (row.FencedCode count) ls h = refl
+same_places p (row.UnclosedCode count) ls h = refl
+same_places p row.EnterQuote ls h = refl
+same_places p (row.EnterItem marker number) ls h = let wrong : true ≡ false = h in cc
+same_places p row.Exit ls h = refl
+same_places p (row.Ending ending) ls h = refl
+same_places p (row.Blank ending) ls h = refl
+
+no_places : (p : Passed) (rows : List Row) (ls : List BlockLine) → list_any starts_item rows ≡ false → (pass_rows p (shown rows ls).rows).places ≡ p.places
+no_places p [] ls h = refl
+no_places p (r ∷ rows) ls h =
+    let left = drop (lines_taken r) ls in
+    let none = or_parts (starts_item r) (list_any starts_item rows) h in
+    ap (λ rs. (pass_rows p rs).places) (shown_after (shown_as (row_shown r ls ∷ []) left) rows)
+    ∙ same_places (pass_rows p (shown rows left).rows) r ls none.0
+    ∙ no_places p rows left none.1
+
+pub no_items : (rows : List Row) (ls : List BlockLine) → list_any starts_item rows ≡ false → places_of (shown rows ls).rows ≡ []
+no_items rows ls h = no_places nothing_passed rows ls h

@@ -1,0 +1,61 @@
+use Rattle.std.proofs.Common.{◌≡◌, ◌+◌, ◌≤◌, ◌-◌, ◌∙◌, ap, Bool, get_or, take, drop, length, string_bytes, sym, subst, List, true, false}
+use Rattle.std.specs.List.{take-map, list_all}
+use Rattle.std.specs.Result.{OnOk}
+use Rattle.markdown_definition.specs.declared.row.Row.{Row}
+use Rattle.markdown_definition.specs.Columns.{is_byte}
+use Rattle.markdown_definition.specs.Tree.{Paragraph, IndentedCode, FencedCode, own_lines, BlockLine}
+use Rattle.markdown_definition.specs.Html.{block_pieces}
+use Rattle.markdown_definition.specs.Rows.{row_shown, lines_taken, first_codes, piece_line, piece_lines}
+use Rattle.tree_html.specs.Levels.{row_pieces, is_document}
+use Rattle.tree_html.specs.Printed.{laid}
+use Rattle.tree_html.specs.Printable.{IsPrintableRow}
+use Rattle.tree_html.proofs.Fenced.{fenced_laid, no_piece}
+use Rattle.tree_html.proofs.page.Page.block.Goals as goal
+
+pub returns-in-Paragraph-clause-printed : goal.returns-in-Paragraph-clause-printed
+returns-in-Paragraph-clause-printed g c =
+    let page = c.args.self.now in
+    let before = string_bytes page.html in
+    let after = string_bytes c.paragraph.new.self.html in
+    let lines = c.args.lines.now in
+    subst (λ (row : Row). OnOk c.paragraph.result (after ≡ laid page.default_ending before (row_pieces c.args.level (row_shown row (piece_lines lines))))) (sym c.in-Paragraph.is)
+    (subst (λ (ls : List BlockLine). OnOk c.paragraph.result (after ≡ laid page.default_ending before (block_pieces true c.args.level.tight false (Paragraph (own_lines ls)))))
+    (sym (take-map piece_line c.in-Paragraph.count lines)) c.paragraph.ensures.printed)
+
+pub returns-in-IndentedCode-clause-printed : goal.returns-in-IndentedCode-clause-printed
+returns-in-IndentedCode-clause-printed g c =
+    let page = c.args.self.now in
+    let before = string_bytes page.html in
+    let after = string_bytes c.indented_code.new.self.html in
+    let lines = c.args.lines.now in
+    subst (λ (row : Row). OnOk c.indented_code.result (after ≡ laid page.default_ending before (row_pieces c.args.level (row_shown row (piece_lines lines))))) (sym c.in-IndentedCode.is)
+    (subst (λ (ls : List BlockLine). OnOk c.indented_code.result (after ≡ laid page.default_ending before (block_pieces true false false (IndentedCode (own_lines ls)))))
+    (sym (take-map piece_line c.in-IndentedCode.count lines)) c.indented_code.ensures.printed)
+
+pub returns-in-FencedCode-clause-printed : goal.returns-in-FencedCode-clause-printed
+returns-in-FencedCode-clause-printed g c =
+    let page = c.args.self.now in
+    let before = string_bytes page.html in
+    let after = string_bytes c.fenced_code.new.self.html in
+    let lines = c.args.lines.now in
+    let l = c.args.level in
+    let count = c.in-FencedCode.count in
+    let enough : 1 + count ≤ length lines = subst (λ (row : Row). lines_taken row ≤ length lines) c.in-FencedCode.is c.requires.enough in
+    let bytes : list_all is_byte (first_codes (piece_lines lines)) ≡ true = subst (λ (row : Row). IsPrintableRow (row_shown row (piece_lines lines))) c.in-FencedCode.is c.requires.printable in
+    subst (λ (row : Row). OnOk c.fenced_code.result (after ≡ laid page.default_ending before (row_pieces c.args.level (row_shown row (piece_lines lines))))) (sym c.in-FencedCode.is)
+    (subst (λ x. OnOk c.fenced_code.result (after ≡ x)) (ap (λ (top : Bool). laid page.default_ending before (block_pieces top false false (FencedCode (get_or lines 0 no_piece).text.now true (piece_lines (take count (take (length lines - 1) (drop 1 lines))))))) c.is_document-top.ensures
+    ∙ fenced_laid page.default_ending before (is_document l.kind) l.tight l.silent true count lines enough bytes) c.fenced_code.ensures.printed)
+
+pub returns-in-UnclosedCode-clause-printed : goal.returns-in-UnclosedCode-clause-printed
+returns-in-UnclosedCode-clause-printed g c =
+    let page = c.args.self.now in
+    let before = string_bytes page.html in
+    let after = string_bytes c.fenced_code-in-UnclosedCode.new.self.html in
+    let lines = c.args.lines.now in
+    let l = c.args.level in
+    let count = c.in-UnclosedCode.count in
+    let enough : 1 + count ≤ length lines = subst (λ (row : Row). lines_taken row ≤ length lines) c.in-UnclosedCode.is c.requires.enough in
+    let bytes : list_all is_byte (first_codes (piece_lines lines)) ≡ true = subst (λ (row : Row). IsPrintableRow (row_shown row (piece_lines lines))) c.in-UnclosedCode.is c.requires.printable in
+    subst (λ (row : Row). OnOk c.fenced_code-in-UnclosedCode.result (after ≡ laid page.default_ending before (row_pieces c.args.level (row_shown row (piece_lines lines))))) (sym c.in-UnclosedCode.is)
+    (subst (λ x. OnOk c.fenced_code-in-UnclosedCode.result (after ≡ x)) (ap (λ (top : Bool). laid page.default_ending before (block_pieces top false false (FencedCode (get_or lines 0 no_piece).text.now false (piece_lines (take count (take (length lines - 1) (drop 1 lines))))))) c.is_document-top.ensures
+    ∙ fenced_laid page.default_ending before (is_document l.kind) l.tight l.silent false count lines enough bytes) c.fenced_code-in-UnclosedCode.ensures.printed)

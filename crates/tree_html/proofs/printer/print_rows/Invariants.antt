@@ -1,0 +1,14 @@
+use Rattle.std.proofs.Common.{◌≡◌, ◌≤◌, ◌+◌, length, take, drop}
+use Rattle.markdown_options.specs.LineEndings.{ending_bytes}
+use Rattle.markdown_definition.specs.Rows.{all_taken, piece_lines, shown}
+use Rattle.tree_html.specs.Printed.{printed, blank_page, printed_of}
+use Rattle.tree_html.proofs.printer.print_rows.Given as goal
+
+-- the rows so far are printed, and the others take their lines from those that are left
+abbrev pub invariant-loop-row : goal.invariant-loop-row
+invariant-loop-row g l = record {
+  same_default : l.printer.page.default_ending ≡ l.fn.default_ending;
+  printed : printed_of l.printer ≡ printed (ending_bytes l.fn.default_ending) (blank_page (shown l.rows (piece_lines l.pieces)).rows) (shown (take l.row-index l.rows) (piece_lines l.pieces)).rows;
+  left : (shown (take l.row-index l.rows) (piece_lines l.pieces)).left ≡ piece_lines (drop l.taken l.pieces);
+  enough : l.taken + all_taken (drop l.row-index l.rows) ≤ length l.pieces;
+}

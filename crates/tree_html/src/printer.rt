@@ -1,0 +1,111 @@
+//! Rows to HTML.
+ghost use Rattle.std.specs.Prelude.{◌≡◌, ◌≤◌, ◌<◌, ◌^◌, ◌+◌, List, IfOk, OnOk, string_bytes, length};
+ghost use Rattle.markdown_options.specs.LineEndings.{ending_bytes};
+ghost use Rattle.markdown_definition.specs.Tree.{BlockLine, Blocks};
+ghost use Rattle.markdown_definition.specs.Pieces.{layout};
+ghost use Rattle.markdown_definition.specs.Html.{document_pieces};
+ghost use Rattle.markdown_definition.specs.Rows.{all_taken, lines_taken, piece_lines, rows_of, row_shown, shown};
+ghost use Rattle.tree_html.specs.Printable.{IsPrintableRow, ArePrintable, CanBePrinted};
+ghost use Rattle.tree_html.specs.Printed.{ends_blank_rows, printed_of, row_printed};
+
+use crate::level::{Kind, Level};
+use crate::loose::{Place, places};
+use crate::page::Page;
+use markdown_definition::{Piece, Row};
+use markdown_options::LineEnding;
+use std::alloc::{AllocError, Allocator};
+
+/// A page that is being printed, and what is open on it.
+#[derive(Drop)]
+pub(crate) struct Printer<A: Allocator> {
+    pub(crate) page: Page<A>,
+    pub(crate) level: Level,
+    /// The levels around it.
+    pub(crate) outer: Vec<Level, A>,
+    /// The places of the items to come, the next one last.
+    pub(crate) places: Vec<Place, A>,
+}
+
+impl<A: Allocator> Printer<A> {
+    /// Prints a row. A block takes its lines from the front of these.
+    fn row(&mut self, row: Row, lines: &[Piece<'_>]) -> Result<(), AllocError>
+        requires enough { lines_taken row ≤ length lines.now }
+        requires printable { IsPrintableRow (row_shown row (piece_lines lines.now)) }
+        ensures default { self.new.page.default_ending ≡ self.old.page.default_ending }
+        ensures printed { OnOk result (printed_of self.new ≡ row_printed (ending_bytes self.old.page.default_ending) (printed_of self.old) (row_shown row (piece_lines lines.now))) }
+    {
+        match row {
+            Row::EnterQuote => self.enter_quote(),
+            Row::EnterItem { number, .. } => self.enter_item(number),
+            Row::Exit => self.exit(),
+            _ => {
+                self.page.block(row, self.level, lines)?;
+                self.level = self.level.after(row);
+                Ok(())
+            }
+        }
+    }
+}
+
+/// The HTML of a block tree by its rows, whose blocks take their lines from `pieces`.
+///
+/// Items are put into lists here (CommonMark 5.3). Other rows print something, too. Room is made
+/// for `room` bytes at once.
+pub fn print_rows<A: Allocator + Clone>(
+    alloc: A,
+    room: usize,
+    default_ending: LineEnding,
+    rows: &[Row],
+    pieces: &[Piece<'_>],
+) -> Result<String<A>, AllocError>
+    requires enough { all_taken rows.now ≤ length pieces.now }
+    requires printable { ArePrintable (shown rows.now (piece_lines pieces.now)).rows }
+    ensures { (bs : Blocks) → (shown rows.now (piece_lines pieces.now)).rows ≡ rows_of bs → CanBePrinted bs →
+        IfOk result (λ html. string_bytes html ≡ layout (ending_bytes default_ending) (document_pieces bs)) }
+{
+    let mut printer = Printer {
+        page: Page {
+            html: String::with_capacity(alloc.clone()?, room)?,
+            default_ending,
+        },
+        level: Level::new(Kind::Document, false),
+        outer: Vec::new(alloc.clone()?),
+        places: places(alloc, rows)?,
+    };
+    let mut taken = 0;
+    for row in rows {
+        printer.row(*row, &pieces[taken..])?;
+        taken += lines_taken(*row);
+    }
+    if ends_blank(rows) {
+        printer.page.fresh()?;
+    }
+    let Printer { page, .. } = printer;
+    let Page { html, .. } = page;
+    Ok(html)
+}
+
+/// How many lines a row takes.
+fn lines_taken(row: Row) -> usize
+    requires { lines_taken row < 2 ^ 64 }
+    ensures { result ≡ lines_taken row }
+{
+    match row {
+        Row::Paragraph(count) | Row::IndentedCode(count) => count,
+        Row::Heading(_) => 1,
+        Row::FencedCode(count) | Row::UnclosedCode(count) => 1 + count,
+        Row::Break
+        | Row::EnterQuote
+        | Row::EnterItem { .. }
+        | Row::Exit
+        | Row::Ending(_)
+        | Row::Blank(_) => 0,
+    }
+}
+
+/// Whether the last row is the ending of a blank line.
+fn ends_blank(rows: &[Row]) -> bool
+    ensures { (ls : List BlockLine) → result ≡ ends_blank_rows (shown rows.now ls).rows }
+{
+    matches!(rows.last(), Some(Row::Blank(Some(_))))
+}
