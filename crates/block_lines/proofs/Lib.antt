@@ -1,3 +1,4 @@
 pub mod White
 pub mod Views
+pub mod Tails
 pub mod Items

@@ -1,16 +1,17 @@
 -- What cursors stand for.
-use Rattle.std.proofs.Common.{◌≡◌, ℕ, ◌+◌, ◌-◌, ◌*◌, ◌<◌, ◌≤◌, suc, zero, List, [], ◌∷◌, ◌++◌, true, false, inl, inr, eqb, leb, refl, sym, ap, ◌∙◌, length, get_or, replicate, take, drop, min, arith}
+use Rattle.std.proofs.Common.{◌≡◌, ℕ, ◌+◌, ◌-◌, ◌*◌, ◌<◌, ◌≤◌, suc, zero, List, [], ◌∷◌, ◌++◌, true, false, inl, inr, eqb, leb, refl, sym, ap, ◌∙◌, length, get_or, replicate, take, drop, arith}
 use Rattle.std.specs.List.{list_all, prefix_len}
-use Rattle.std.proofs.lemmas.List.{length-replicate, take_at, drop-replicate}
-use Rattle.std.proofs.lemmas.Bool.{cases_Bool, cond-true, cond-false, eqb-true, ne_eqb, and_parts, and_left, and_right, leb-true, lt-leb}
-use Rattle.markdown_definition.specs.Columns.{Rest, codes_from, whole, is_white, is_blank, indent, bytes_of, block_codes, is_tab_column, tab_column}
-use Rattle.markdown_definition.specs.Indents.{outdented}
+use Rattle.std.proofs.lemmas.List.{length-replicate, take_at}
+use Rattle.std.proofs.lemmas.List.Sums.{prefix_len-le-length}
+use Rattle.std.proofs.lemmas.Bool.{cases_Bool, cond-true, cond-false, eqb-true, ne_eqb, and_parts, leb-true}
+use Rattle.std.proofs.lemmas.Bool.Decides.{nat_tests}
+use Rattle.markdown_definition.specs.Columns.{Rest, codes_from, is_white, is_blank, indent, bare, bytes_of, block_codes, is_tab_column, tab_column}
 use Rattle.markdown_definition.specs.ListItem.{is_digit}
 use Rattle.text_lines.proofs.Codes.{blank_codes_from, bytes_of_codes}
 use Rattle.block_lines.specs.Marks.{NoMark, is_mark}
 use Rattle.block_lines.specs.declared.cursor.Cursor.{Cursor}
 use Rattle.block_lines.specs.View.{rest_of}
-use Rattle.block_lines.proofs.White.{indent_front, indent_bound, white_columns, count_within, outdented_within, count_front, outdented_front}
+use Rattle.block_lines.proofs.White.{indent_front, drop_front, white_columns, codes_after, white_all, indent_bound}
 
 -- ---- the parts of a view
 
@@ -44,14 +45,19 @@ owed_parts : (owed : ℕ) (rest : Rest) → prefix_len is_tab_column rest ≡ 0 
 owed_parts zero rest h = h
 owed_parts (suc owed) rest h = let e = owed_parts owed rest h in omega (arith, e)
 
+indent_owed : (owed column : ℕ) (bs : List ℕ) → indent (view owed column bs) ≡ owed + indent (codes_from column bs)
+indent_owed owed column bs =
+    indent_front (replicate owed tab_column) (codes_from column bs) (white_columns owed)
+    ∙ ap (λ n. n + indent (codes_from column bs)) (length-replicate owed tab_column)
+
 pub view_none : (owed column : ℕ) (bs : List ℕ) → owed ≤ 0 → view owed column bs ≡ codes_from column bs
 view_none owed column bs none = let e : owed ≡ 0 = omega arith in ap (λ n. view n column bs) e
 
 -- ---- what a cursor holds
 
-pub blank_view : (c : Cursor) → is_blank (rest_of c) ≡ is_blank (whole c.text.now)
+pub blank_view : (c : Cursor) → is_blank (rest_of c) ≡ eqb (prefix_len is_white c.text.now) (length c.text.now)
 unfolding rest_of
-blank_view c = all_white c.owed (codes_from c.column c.text.now) ∙ blank_codes_from c.column c.text.now ∙ sym (blank_codes_from 0 c.text.now)
+blank_view c = all_white c.owed (codes_from c.column c.text.now) ∙ blank_codes_from c.column c.text.now ∙ sym (white_all c.text.now)
 
 pub bytes_view : (c : Cursor) → ((k : ℕ) → get_or c.text.now k 0 < 256) → bytes_of (rest_of c) ≡ c.text.now
 unfolding rest_of
@@ -67,44 +73,53 @@ codes_view c bytes =
     ap (λ n. take n (rest_of c) ++ bytes_of (rest_of c)) (owed_view c bytes)
     ∙ ap (λ front. front ++ bytes_of (rest_of c)) (take_at (replicate c.owed tab_column) (codes_from c.column c.text.now) c.owed (length-replicate c.owed tab_column))
 
-pub bound_view : (c : Cursor) → indent (rest_of c) ≤ c.owed + 4 * length c.text.now
+pub indent_view : (c : Cursor) → indent (rest_of c) ≡ c.owed + indent (codes_from c.column c.text.now)
 unfolding rest_of
-bound_view c =
-    let e = indent_front (replicate c.owed tab_column) (codes_from c.column c.text.now) (white_columns c.owed) in
-    let b = indent_bound c.column c.text.now in
-    let n = length-replicate c.owed tab_column in
+indent_view c = indent_owed c.owed c.column c.text.now
+
+-- the spaces and tabs ahead are in the text, and no tab is wider than four columns
+pub white_view : (c : Cursor) → (c.columns ≤ 4 * c.white) × (c.white ≤ length c.text.now)
+white_view c =
+    let front = c.front in
+    let wide = c.wide in
+    let bound = indent_bound c.column c.text.now in
+    let within = prefix_len-le-length is_white c.text.now in
+    (omega arith, omega arith)
+
+-- ---- columns that are taken
+
+pub bare_view : (owed column : ℕ) (bs : List ℕ)
+    → bare (view owed column bs) ≡ codes_from (column + indent (codes_from column bs)) (drop (prefix_len is_white bs) bs)
+bare_view owed column bs =
+    let codes = codes_from column bs in
+    let n = length-replicate owed tab_column in
+    let e : indent (view owed column bs) ≡ length (replicate owed tab_column) + indent codes = indent_owed owed column bs ∙ omega arith in
+    ap (λ k. drop k (view owed column bs)) e ∙ drop_front (replicate owed tab_column) codes (indent codes) ∙ codes_after column bs
+
+pub column_owed : (owed column : ℕ) (bs : List ℕ) → 0 < owed → view (owed - 1) column bs ≡ drop 1 (view owed column bs)
+column_owed zero column bs some = absurd (omega arith)
+column_owed (suc owed) column bs some = let e : suc owed - 1 ≡ owed = omega arith in ap (λ n. view n column bs) e
+
+-- where no column of a tab is ahead, a column ahead is a space's or a tab's
+pub some_white : (c : Cursor) → c.owed ≤ 0 → 0 < indent (rest_of c) → 0 < prefix_len is_white c.text.now
+some_white c none some =
+    let e = indent_view c in
+    let bound = indent_bound c.column c.text.now in
     omega arith
 
--- ---- columns that are skipped
-
-pub count_owed : (owed column : ℕ) (bs : List ℕ) (most : ℕ) → most < owed → most ≡ min most (indent (view owed column bs))
-count_owed owed column bs most lt =
-    let n = length-replicate owed tab_column in
-    let le : most ≤ length (replicate owed tab_column) = omega arith in
-    sym (count_within most (replicate owed tab_column) (codes_from column bs) (white_columns owed) le)
-
-pub outdented_owed : (owed column : ℕ) (bs : List ℕ) (most : ℕ) → most < owed → view (owed - most) column bs ≡ outdented most (view owed column bs)
-outdented_owed owed column bs most lt =
-    let n = length-replicate owed tab_column in
-    let le : most ≤ length (replicate owed tab_column) = omega arith in
-    sym (outdented_within most (replicate owed tab_column) (codes_from column bs) (white_columns owed) le
-    ∙ ap (λ c. c ++ codes_from column bs) (drop-replicate most owed tab_column))
-
-pub count_past : (owed column : ℕ) (bs : List ℕ) (most count : ℕ) → owed ≤ most → count ≡ min (most - owed) (indent (codes_from column bs))
-    → owed + count ≡ min most (indent (view owed column bs))
-count_past owed column bs most count le e =
-    let n = length-replicate owed tab_column in
-    let fits : length (replicate owed tab_column) ≤ most = omega arith in
-    let f = count_front most (replicate owed tab_column) (codes_from column bs) (white_columns owed) fits in
-    omega (arith, f)
-
-pub outdented_past : (owed column : ℕ) (bs : List ℕ) (most : ℕ) (rest : Rest) → owed ≤ most → rest ≡ outdented (most - owed) (codes_from column bs)
-    → rest ≡ outdented most (view owed column bs)
-outdented_past owed column bs most rest le e =
-    let n = length-replicate owed tab_column in
-    let fits : length (replicate owed tab_column) ≤ most = omega arith in
-    e ∙ sym (outdented_front most (replicate owed tab_column) (codes_from column bs) (white_columns owed) fits
-    ∙ ap (λ k. outdented (most - k) (codes_from column bs)) n)
+-- a front of the columns ahead is taken
+pub indent_dropped : (n : ℕ) (rest : Rest) → n ≤ indent rest → indent (drop n rest) ≡ indent rest - n
+indent_dropped zero rest le = omega arith
+indent_dropped (suc n) [] le = omega arith
+indent_dropped (suc n) (b ∷ bs) le =
+    elim (cases_Bool (is_white b)) [
+      | inl white ↦
+          let e = cond-true (is_white b) (1 + indent bs) 0 white in
+          let less : n ≤ indent bs = omega arith in
+          let more = indent_dropped n bs less in
+          more ∙ omega arith
+      | inr dark ↦ let e = cond-false (is_white b) (1 + indent bs) 0 dark in absurd (omega arith)
+    ]
 
 -- ---- the first byte
 
@@ -123,15 +138,12 @@ pub no_mark_byte : (column : ℕ) (bs : List ℕ) → 0 < length bs → is_mark 
 no_mark_byte column [] some h = absurd (omega arith)
 no_mark_byte column (b ∷ bs) some h = no_mark (codes_from column (b ∷ bs)) (λ code e. ap is_mark (sym e ∙ first_code column b bs) ∙ h)
 
+pub mark_ascii : (b : ℕ) → is_mark b ≡ true → (32 < b) × (b < 128)
+mark_ascii b h = grind (arith, nat_tests)
+
 pub mark_first : (column : ℕ) (bs : List ℕ) → 0 < length bs → 32 < get_or bs 0 0 → codes_from column bs ≡ get_or bs 0 0 ∷ codes_from (column + 1) (drop 1 bs)
 mark_first column [] some high = absurd (omega arith)
 mark_first column (b ∷ bs) some high = cond-false (eqb b 9) _ _ (ne_eqb b 9 (λ e. omega arith))
-
-pub low_is_no_mark : (b : ℕ) → b ≤ 32 → is_mark b ≡ false
-low_is_no_mark b le = and_left (leb 33 b) (leb b 127) (lt-leb 33 b (omega arith))
-
-pub high_is_no_mark : (b : ℕ) → 128 ≤ b → is_mark b ≡ false
-high_is_no_mark b le = and_right (leb 33 b) (leb b 127) (lt-leb b 127 (omega arith))
 
 -- ---- digits
 

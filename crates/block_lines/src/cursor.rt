@@ -1,12 +1,15 @@
 //! The rest of a line, by columns (CommonMark 2.2).
 //!
 //!     rest ::= column_of_a_tab* byte*
-ghost use Rattle.std.specs.Prelude.{◌≡◌, ◌+◌, ◌*◌, ◌/◌, ◌^◌, ◌<◌, ◌≤◌, ◌∷◌, ◌++◌, length, replicate, min, take, drop, slice_index, MatchOption, ℕ};
+ghost use Rattle.std.specs.Prelude.{◌≡◌, ◌+◌, ◌*◌, ◌/◌, ◌^◌, ◌<◌, ◌≤◌, ◌∷◌, ◌++◌, false, length, replicate, take, drop, slice_index, MatchOption, ℕ};
 ghost use Rattle.std.specs.List.{prefix_len};
 ghost use Rattle.markdown_definition.specs.Columns.{whole, codes_from, indent, bare, bytes_of, block_codes, is_blank, is_tab_column, tab_column, is_white};
 ghost use Rattle.markdown_definition.specs.Indents.{outdented};
 ghost use Rattle.markdown_definition.specs.ListItem.{is_digit};
-ghost use Rattle.block_lines.specs.Marks.{NoMark, width};
+ghost use Rattle.markdown_definition.specs.ThematicBreak.{is_break_text};
+ghost use Rattle.block_lines.specs.Marks.{NoMark, BreaksWithin, is_mark, width};
+
+use crate::thematic_break::break_tail;
 
 /// The rest of a line.
 #[derive(Clone, Copy)]
@@ -17,8 +20,17 @@ pub struct Cursor<'a> {
     column: usize,
     /// The bytes after those columns.
     text: &'a str,
-    ghost fits: { owed + column + 4 * length text.now < 2 ^ 63 },
+    /// How many spaces and tabs these bytes begin with.
+    white: usize,
+    /// How many columns those spaces and tabs have.
+    columns: usize,
+    /// No more bytes than this at the end of the line are a thematic break.
+    tail: usize,
+    ghost fits: { column + 4 * length text.now < 2 ^ 63 },
     ghost few: { owed < 4 },
+    ghost front: { white ≡ prefix_len is_white text.now },
+    ghost wide: { columns ≡ indent (codes_from column text.now) },
+    ghost breaks: { BreaksWithin tail text.now },
 }
 
 impl<'a> Cursor<'a> {
@@ -29,10 +41,23 @@ impl<'a> Cursor<'a> {
         requires { length content.now < 2 ^ 61 }
         ensures { rest_of result ≡ whole content.now }
     {
+        Cursor::at(0, content, break_tail(content.as_bytes()))
+    }
+
+    /// A text at a column.
+    fn at(column: usize, text: &'a str, tail: usize) -> Cursor<'a>
+        requires fits { column + 4 * length text.now < 2 ^ 63 }
+        requires breaks { BreaksWithin tail text.now }
+        ensures { rest_of result ≡ codes_from column text.now }
+    {
+        let (white, columns) = white_ahead(column, text.as_bytes());
         Cursor {
             owed: 0,
-            column: 0,
-            text: content,
+            column,
+            text,
+            white,
+            columns,
+            tail,
         }
     }
 
@@ -56,7 +81,14 @@ impl<'a> Cursor<'a> {
     pub fn is_blank(self) -> bool
         ensures { result ≡ is_blank (rest_of self.entry) }
     {
-        text_lines::is_blank(self.text)
+        self.white == self.text.len()
+    }
+
+    /// Whether the bytes that are left are few enough for a thematic break. More are none.
+    pub(crate) fn may_break(self) -> bool
+        ensures { result ≡ false → is_break_text (bytes_of (rest_of self.entry)) ≡ false }
+    {
+        plain(self.text).len() <= self.tail
     }
 
     /// The columns of spaces and tabs ahead.
@@ -64,8 +96,7 @@ impl<'a> Cursor<'a> {
         ensures same { result ≡ indent (rest_of self.entry) }
         ensures fits { result < 2 ^ 63 }
     {
-        let (columns, _) = self.skip(usize::MAX);
-        columns
+        self.owed + self.columns
     }
 
     /// The columns of spaces and tabs ahead, and the rest after them.
@@ -74,74 +105,53 @@ impl<'a> Cursor<'a> {
         ensures rest { rest_of result.1 ≡ bare (rest_of self.entry) }
         ensures fits { result.0 < 2 ^ 63 }
     {
-        self.skip(usize::MAX)
+        (self.indent(), self.bare())
+    }
+
+    /// The rest after its spaces and tabs.
+    fn bare(self) -> Cursor<'a>
+        ensures { rest_of result ≡ bare (rest_of self.entry) }
+    {
+        let text = without_white(self.text, self.white);
+        Cursor::at(self.column + self.columns, text, self.tail)
     }
 
     /// The rest without its first columns of spaces and tabs, at most so many.
     pub fn outdented(self, most: usize) -> Cursor<'a>
         ensures { rest_of result ≡ outdented most (rest_of self.entry) }
     {
-        let (_, rest) = self.skip(most);
+        if most >= self.indent() {
+            return self.bare();
+        }
+        let mut rest = self;
+        for _ in 0..most {
+            rest = rest.without_column();
+        }
         rest
     }
 
-    /// The columns of spaces and tabs ahead, at most so many, and the rest after them.
-    fn skip(self, most: usize) -> (usize, Cursor<'a>)
-        ensures columns { result.0 ≡ min most (indent (rest_of self.entry)) }
-        ensures rest { rest_of result.1 ≡ outdented most (rest_of self.entry) }
-        ensures fits { indent (rest_of self.entry) < 2 ^ 63 }
+    /// The rest without the column of space that it begins with.
+    fn without_column(self) -> Cursor<'a>
+        requires { 0 < indent (rest_of self) }
+        ensures { rest_of result ≡ drop 1 (rest_of self.entry) }
     {
-        if most < self.owed {
-            let rest = Cursor {
-                owed: self.owed - most,
-                column: self.column,
-                text: self.text,
-            };
-            return (most, rest);
+        if self.owed > 0 {
+            let mut rest = self;
+            rest.owed -= 1;
+            return rest;
         }
-        let (columns, rest) = Cursor::after_white(self.column, self.text, most - self.owed);
-        (self.owed + columns, rest)
+        let wide = width(self.column, self.text.as_bytes()[0]);
+        Cursor {
+            owed: wide - 1,
+            column: self.column + wide,
+            text: without_white(self.text, 1),
+            white: self.white - 1,
+            columns: self.columns - wide,
+            tail: self.tail,
+        }
     }
 
-    /// The same for a text at a column.
-    fn after_white(column: usize, text: &'a str, most: usize) -> (usize, Cursor<'a>)
-        requires { column + 4 * length text.now < 2 ^ 63 }
-        ensures columns { result.0 ≡ min most (indent (codes_from column text.now)) }
-        ensures rest { rest_of result.1 ≡ outdented most (codes_from column text.now) }
-    {
-        let bytes = text.as_bytes();
-        let mut left = most;
-        let mut at = column;
-        for i in 0..bytes.len() {
-            if left == 0 || !is_space_or_tab(bytes[i]) {
-                let rest = Cursor {
-                    owed: 0,
-                    column: at,
-                    text: &text[i..],
-                };
-                return (most - left, rest);
-            }
-            let wide = width(at, bytes[i]);
-            if left < wide {
-                let rest = Cursor {
-                    owed: wide - left,
-                    column: at + wide,
-                    text: &text[i + 1..],
-                };
-                return (most, rest);
-            }
-            left -= wide;
-            at += wide;
-        }
-        let rest = Cursor {
-            owed: 0,
-            column: at,
-            text: "",
-        };
-        (most - left, rest)
-    }
-
-    /// The next byte and the rest after it, where it is an ASCII byte above the space.
+    /// The next byte and the rest after it, where it is one of a container's marker, and no digit.
     pub(crate) fn split_first(self) -> Option<(u8, Cursor<'a>)>
         ensures { MatchOption result (NoMark (rest_of self.entry)) (λ s. rest_of self.entry ≡ s.0 ∷ rest_of s.1) }
     {
@@ -149,14 +159,10 @@ impl<'a> Cursor<'a> {
             return None;
         }
         let byte = self.text.as_bytes()[0];
-        if byte <= b' ' || byte >= 128 {
+        if !is_mark(byte) {
             return None;
         }
-        let rest = Cursor {
-            owed: 0,
-            column: self.column + 1,
-            text: &self.text[1..],
-        };
+        let rest = Cursor::at(self.column + 1, &self.text[1..], self.tail);
         Some((byte, rest))
     }
 
@@ -169,11 +175,7 @@ impl<'a> Cursor<'a> {
             return (&[], self);
         }
         let count = digits(self.text.as_bytes());
-        let rest = Cursor {
-            owed: 0,
-            column: self.column + count,
-            text: &self.text[count..],
-        };
+        let rest = Cursor::at(self.column + count, &self.text[count..], self.tail);
         (&self.text.as_bytes()[..count], rest)
     }
 }
@@ -184,6 +186,14 @@ fn plain(text: &str) -> &str
     ensures bytes { (k : ℕ) → slice_index text.now k < 256 }
 {
     text
+}
+
+/// A text without its first spaces and tabs, so many.
+fn without_white(text: &str, count: usize) -> &str
+    requires { count ≤ prefix_len is_white text.now }
+    ensures { result.now ≡ drop count text.now }
+{
+    &text[count..]
 }
 
 /// How many digits a text begins with.
@@ -197,6 +207,29 @@ fn digits(bytes: &[u8]) -> usize
         }
     }
     bytes.len()
+}
+
+/// Whether a byte is one of a container's marker, and no digit.
+fn is_mark(byte: u8) -> bool
+    ensures { result ≡ is_mark byte }
+{
+    matches!(byte, b'>' | b'-' | b'+' | b'*' | b'.' | b')')
+}
+
+/// How many spaces and tabs a text at a column begins with, and how many columns these have.
+fn white_ahead(column: usize, bytes: &[u8]) -> (usize, usize)
+    requires { column + 4 * length bytes.now < 2 ^ 63 }
+    ensures white { result.0 ≡ prefix_len is_white bytes.now }
+    ensures columns { result.1 ≡ indent (codes_from column bytes.now) }
+{
+    let mut at = column;
+    for i in 0..bytes.len() {
+        if !is_space_or_tab(bytes[i]) {
+            return (i, at - column);
+        }
+        at += width(at, bytes[i]);
+    }
+    (bytes.len(), at - column)
 }
 
 /// The columns of a byte that stands at a column.

@@ -8,7 +8,7 @@ pub mod container;
 pub mod cursor;
 pub mod heading_atx;
 pub mod heading_setext;
-mod indent;
+pub mod indent;
 pub mod list_item;
 mod run;
 pub mod thematic_break;

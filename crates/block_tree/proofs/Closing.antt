@@ -1,6 +1,7 @@
 -- Closing what is open, seen from the innermost container.
 use Rattle.std.proofs.Common.{◌≡◌, ℕ, zero, suc, ◌+◌, List, [], ◌∷◌, ◌++◌, refl, sym, ap, ◌∙◌, subst, length, arith}
 use Rattle.std.proofs.lemmas.List.{length-append}
+use Rattle.markdown_options.specs.declared.configuration.Constructs.{Constructs}
 use Rattle.markdown_definition.specs.declared.container.Container.{Container}
 use Rattle.markdown_definition.specs.Tree.{Blocks, join, OpenLeaf, Text, Opening, Leaf, Inside, Tree, close, close_leaf, after}
 use Rattle.block_tree.specs.Spine.{Level, level, Spine, spine, spine_at, grown, containers_of, exited, exited_at}
@@ -27,8 +28,8 @@ abbrev pub exits : ℕ → Spine → Spine
 exits zero s = s
 exits (suc n) s = exited (exits n s)
 
-abbrev pub leaf_closed : Spine → Spine
-leaf_closed s = spine s.around (join s.kids (close_leaf s.leaf)) (Text [])
+abbrev pub leaf_closed : Constructs → Spine → Spine
+leaf_closed on s = spine s.around (join s.kids (close_leaf on s.leaf)) (Text [])
 
 exited-leaf : (around : List Level) (kids : Blocks) (leaf : OpenLeaf) → (exited_at around kids leaf).leaf ≡ leaf
 exited-leaf [] kids leaf = refl
@@ -38,16 +39,16 @@ pub exits-leaf : (n : ℕ) (s : Spine) → (exits n s).leaf ≡ s.leaf
 exits-leaf zero s = refl
 exits-leaf (suc n) s = let x = exits n s in exited-leaf x.around x.kids x.leaf ∙ exits-leaf n s
 
-pub closed-spine : (around : List Level) (kids : Blocks) (away : Opening)
-    → exits (opening_depth away) (leaf_closed (spine_at around kids away)) ≡ spine around (join kids (close away)) (Text [])
-closed-spine around kids (Leaf leaf) = refl
-closed-spine around kids (Inside c inner_kids inner) = ap exited (closed-spine (level c kids ∷ around) inner_kids inner)
+pub closed-spine : (on : Constructs) (around : List Level) (kids : Blocks) (away : Opening)
+    → exits (opening_depth away) (leaf_closed on (spine_at around kids away)) ≡ spine around (join kids (close on away)) (Text [])
+closed-spine on around kids (Leaf leaf) = refl
+closed-spine on around kids (Inside c inner_kids inner) = ap exited (closed-spine on (level c kids ∷ around) inner_kids inner)
 
 -- ---- what is added after that
 
-pub after_added : (P : Spine → Type 0) (around : List Level) (kids : Blocks) (away : Opening) (t : Tree)
-    → P (grown around (join kids (close away)) t) → P (grown around kids (after away t))
-after_added P around kids away t h = subst (λ (x : Blocks). P (spine_at around x t.now)) (join-assoc kids (close away) t.done) h
+pub after_added : (on : Constructs) (P : Spine → Type 0) (around : List Level) (kids : Blocks) (away : Opening) (t : Tree)
+    → P (grown around (join kids (close on away)) t) → P (grown around kids (after on away t))
+after_added on P around kids away t h = subst (λ (x : Blocks). P (spine_at around x t.now)) (join-assoc kids (close on away) t.done) h
 
 -- ---- the last of the containers
 

@@ -1,5 +1,5 @@
 -- A line in the containers that are open.
-use Rattle.std.proofs.Common.{◌≡◌, ℕ, ◌+◌, ◌<◌, Bool, true, false, ◌&&◌, ◌==◌, List, [], ◌∷◌, ◌++◌, Option, None, Some, refl, sym, ap, ◌∙◌, subst, length, get_or, arith}
+use Rattle.std.proofs.Common.{◌≡◌, ℕ, ◌+◌, ◌<◌, Bool, true, false, ◌&&◌, ◌==◌, List, [], ◌∷◌, ◌++◌, Option, None, Some, refl, sym, ap, ◌∙◌, subst, length, get_or, take, arith}
 use Rattle.std.proofs.lemmas.Bool.{ne_eqb, eq-eqb}
 use Rattle.std.proofs.lemmas.List.{append-nil}
 use Rattle.std.specs.Prelude.{map, if◌then◌else◌}
@@ -11,11 +11,13 @@ use Rattle.markdown_definition.specs.declared.row.Row.TheVariants as row
 use Rattle.markdown_definition.specs.Columns.{Rest}
 use Rattle.markdown_definition.specs.Containers.{continues}
 use Rattle.markdown_definition.specs.CodeFenced.{Fence}
-use Rattle.markdown_definition.specs.Tree.{BlockLine, Block, Paragraph, Heading, Break, IndentedCode, FencedCode, Holds, Items, Ending, Blank, Blocks, Nil, Cons, join, all_endings, front, trailing, Text, Indented, Fenced, Opening, Leaf, Inside, Tree, grow, goes_on, new, began_blank, is_nothing, is_one_blank, last_ending_or}
-use Rattle.markdown_definition.specs.Rows.{BlockRow, Single, rows_of}
+use Rattle.markdown_definition.specs.Content.{content_of}
+use Rattle.markdown_definition.specs.LinkDefinition.{Definition as LinkDefinition, definition_at}
+use Rattle.markdown_definition.specs.Tree.{BlockLine, Block, Paragraph, Heading, Break, IndentedCode, FencedCode, Html, Definition, Holds, Items, Ending, Blank, Blocks, Nil, Cons, join, all_endings, front, trailing, Text, Indented, Fenced, OpenHtml, Opening, Leaf, Inside, Tree, grow, goes_on, new, began_blank, is_nothing, is_one_blank, last_ending_or, own_lines}
+use Rattle.markdown_definition.specs.Rows.{definition_shown, BlockRow, Single, rows_of}
 use Rattle.block_tree.specs.Spine.{Level, level, Spine, spine, spine_at, spine_of, grown, containers_of}
 use Rattle.block_tree.specs.Waits.{is_one_blank_row}
-use Rattle.block_tree.specs.Shows.{InText, InIndented, InFenced, state_of, lone, is_nil, Written}
+use Rattle.block_tree.specs.Shows.{InText, InIndented, InFenced, InHtml, state_of, lone, is_nil, Written}
 use Rattle.block_tree.specs.View.{Descent, leaf_grown}
 use Rattle.block_tree.proofs.Trees.{join-nil}
 use Rattle.block_tree.proofs.Closing.{opening_depth, length-around, length-containers}
@@ -107,6 +109,8 @@ blank-rows (Cons (Heading rank ls) Nil) = refl
 blank-rows (Cons Break Nil) = refl
 blank-rows (Cons (IndentedCode ls) Nil) = refl
 blank-rows (Cons (FencedCode info closed ls) Nil) = refl
+blank-rows (Cons (Html ls) Nil) = refl
+blank-rows (Cons (Definition label destination title) Nil) = refl
 blank-rows (Cons (Holds c kids) Nil) = refl
 blank-rows (Cons (Items items) Nil) = refl
 blank-rows (Cons (Ending ending) Nil) = refl
@@ -119,6 +123,8 @@ blank-rows (Cons b (Cons c bs)) = none b ∙ parts b c (all_endings (Cons b (Con
     none Break = refl
     none (IndentedCode ls) = refl
     none (FencedCode info closed ls) = refl
+    none (Html ls) = refl
+    none (Definition label destination title) = refl
     none (Holds c kids) = refl
     none (Items items) = refl
     none (Ending ending) = refl
@@ -138,6 +144,11 @@ and-swap true false = refl
 and-swap false true = refl
 and-swap false false = refl
 
+-- a definition is no ending
+not-blank : (o : Option LinkDefinition) (rows : List BlockRow) → is_blank_rows (Single (definition_shown o) ∷ rows) ≡ false
+not-blank None rows = refl
+not-blank (Some d) rows = refl
+
 one-row : (waiting : List Row) → is_one_blank_row waiting ≡ is_blank_rows (map lone waiting)
 one-row [] = refl
 one-row (row.Paragraph n ∷ []) = refl
@@ -146,6 +157,10 @@ one-row (row.Break ∷ []) = refl
 one-row (row.IndentedCode n ∷ []) = refl
 one-row (row.FencedCode n ∷ []) = refl
 one-row (row.UnclosedCode n ∷ []) = refl
+one-row (row.WholeParagraph n ∷ []) = refl
+one-row (row.SetextHeading rank n ∷ []) = refl
+one-row (row.Html n ∷ []) = refl
+one-row (row.Definition n ∷ []) = sym (not-blank (definition_at (content_of (own_lines (take n [])))) [])
 one-row (row.EnterQuote ∷ []) = refl
 one-row (row.EnterItem marker number ∷ []) = refl
 one-row (row.Exit ∷ []) = refl
@@ -160,6 +175,10 @@ one-row (a ∷ b ∷ rows) = two a
     two (row.IndentedCode n) = refl
     two (row.FencedCode n) = refl
     two (row.UnclosedCode n) = refl
+    two (row.WholeParagraph n) = refl
+    two (row.SetextHeading rank n) = refl
+    two (row.Html n) = refl
+    two (row.Definition n) = sym (not-blank (definition_at (content_of (own_lines (take n [])))) (lone b ∷ map lone rows))
     two row.EnterQuote = refl
     two (row.EnterItem marker number) = refl
     two row.Exit = refl
@@ -196,6 +215,7 @@ module _ (P Q : Spine → Type 0) (on : Constructs) (e : Option LineEnding) (r :
   text_grows last around kids (Leaf (Text ls)) none is h = h
   text_grows last around kids (Leaf (Indented ls pending)) none is h = let wrong : InText last ≡ InIndented _ _ = is in cc
   text_grows last around kids (Leaf (Fenced f opening ls)) none is h = let wrong : InText last ≡ InFenced _ _ = is in cc
+  text_grows last around kids (Leaf (OpenHtml kind ls)) none is h = let wrong : InText last ≡ InHtml _ _ = is in cc
   text_grows last around kids (Inside c inner_kids inner) none is h = absurd (omega (arith, none))
 
   pub indented_grows : ((around : List Level) (kids : Blocks) (ls pending : List BlockLine) → P (spine around kids (Indented ls pending)) → Q (grown around kids (leaf_grown on e r (Leaf (Indented ls pending)))))
@@ -204,6 +224,7 @@ module _ (P Q : Spine → Type 0) (on : Constructs) (e : Option LineEnding) (r :
   indented_grows grows count last around kids (Leaf (Text ls)) none is h = let wrong : InIndented count last ≡ InText _ = is in cc
   indented_grows grows count last around kids (Leaf (Indented ls pending)) none is h = grows around kids ls pending h
   indented_grows grows count last around kids (Leaf (Fenced f opening ls)) none is h = let wrong : InIndented count last ≡ InFenced _ _ = is in cc
+  indented_grows grows count last around kids (Leaf (OpenHtml kind ls)) none is h = let wrong : InIndented count last ≡ InHtml _ _ = is in cc
   indented_grows grows count last around kids (Inside c inner_kids inner) none is h = absurd (omega (arith, none))
 
   pub fenced_grows : (f : Fence) → ((around : List Level) (kids : Blocks) (opening : Option LineEnding) (ls : List BlockLine) → P (spine around kids (Fenced f opening ls)) → Q (grown around kids (leaf_grown on e r (Leaf (Fenced f opening ls)))))
@@ -216,4 +237,18 @@ module _ (P Q : Spine → Type 0) (on : Constructs) (e : Option LineEnding) (r :
       let is_fence : fence ≡ f = cc in
       subst (λ (x : Fence). Q (grown around kids (grow on e (Leaf (Fenced x opening ls)) r))) (sym is_fence)
       (grows around kids opening ls (subst (λ (x : Fence). P (spine around kids (Fenced x opening ls))) is_fence h))
+  fenced_grows f grows last around kids (Leaf (OpenHtml kind ls)) none is h = let wrong : InFenced f last ≡ InHtml _ _ = is in cc
   fenced_grows f grows last around kids (Inside c inner_kids inner) none is h = absurd (omega (arith, none))
+
+  pub html_grows : (kind : ℕ) → ((around : List Level) (kids : Blocks) (ls : List BlockLine) → P (spine around kids (OpenHtml kind ls)) → Q (grown around kids (leaf_grown on e r (Leaf (OpenHtml kind ls)))))
+      → (last : Option LineEnding) (around : List Level) (kids : Blocks) (now : Opening) → opening_depth now ≡ 0 → InHtml kind last ≡ state_of (spine_at around kids now).leaf
+      → P (spine_at around kids now) → Q (grown around kids (grow on e now r))
+  html_grows kind grows last around kids (Leaf (Text ls)) none is h = let wrong : InHtml kind last ≡ InText _ = is in cc
+  html_grows kind grows last around kids (Leaf (Indented ls pending)) none is h = let wrong : InHtml kind last ≡ InIndented _ _ = is in cc
+  html_grows kind grows last around kids (Leaf (Fenced f opening ls)) none is h = let wrong : InHtml kind last ≡ InFenced _ _ = is in cc
+  html_grows kind grows last around kids (Leaf (OpenHtml other ls)) none is h =
+      let same : InHtml kind last ≡ InHtml other (last_ending_or None ls) = is in
+      let is_kind : other ≡ kind = cc in
+      subst (λ (x : ℕ). Q (grown around kids (grow on e (Leaf (OpenHtml x ls)) r))) (sym is_kind)
+      (grows around kids ls (subst (λ (x : ℕ). P (spine around kids (OpenHtml x ls))) is_kind h))
+  html_grows kind grows last around kids (Inside c inner_kids inner) none is h = absurd (omega (arith, none))

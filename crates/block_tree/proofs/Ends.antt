@@ -6,7 +6,7 @@ use Rattle.std.proofs.lemmas.List.{append-nil, take-map, drop-map, length-map}
 use Rattle.markdown_definition.specs.declared.container.Container.{Container}
 use Rattle.markdown_definition.specs.declared.container.Container.TheVariants.{Quote, Item}
 use Rattle.markdown_definition.specs.declared.row.Row.{Row}
-use Rattle.markdown_definition.specs.Tree.{Block, Paragraph, Heading, Break, IndentedCode, FencedCode, Holds, Items, Ending, Blank, Blocks, Nil, Cons, join, one, is_ending, all_endings, front, trailing, without_last, last_of, holds}
+use Rattle.markdown_definition.specs.Tree.{Block, Paragraph, Heading, Break, IndentedCode, FencedCode, Html, Definition, Holds, Items, Ending, Blank, Blocks, Nil, Cons, join, one, is_ending, all_endings, front, trailing, without_last, last_of, holds}
 use Rattle.markdown_definition.specs.Rows.{BlockRow, Single, Exit, entered, block_rows, rows_of}
 use Rattle.block_tree.specs.Waits.{inside, outside}
 use Rattle.block_tree.specs.Shows.{lone}
@@ -21,6 +21,8 @@ ending_rows (Heading rank ls) h = refl
 ending_rows Break h = refl
 ending_rows (IndentedCode ls) h = refl
 ending_rows (FencedCode info closed ls) h = refl
+ending_rows (Html ls) h = refl
+ending_rows (Definition label destination title) h = refl
 ending_rows (Holds c kids) h = let wrong : false ≡ true = h in cc
 ending_rows (Items items) h = let wrong : false ≡ true = h in cc
 ending_rows (Ending ending) h = refl

@@ -1,17 +1,21 @@
 -- What is shown after a leaf goes on, starts or is closed.
-use Rattle.std.proofs.Common.{◌≡◌, ℕ, ◌+◌, ◌-◌, ◌≤◌, ◌<◌, ◌==◌, get_or, List, [], ◌∷◌, ◌++◌, Option, Bool, true, false, refl, sym, ap, ◌∙◌, subst, take, drop, length, append_assoc, arith, ltb}
+use Rattle.std.proofs.Common.{◌≡◌, ℕ, suc, not, ◌+◌, ◌-◌, ◌≤◌, ◌<◌, ◌==◌, get_or, List, [], ◌∷◌, ◌++◌, Option, Bool, true, false, refl, sym, ap, ◌∙◌, subst, take, drop, length, append_assoc, arith, ltb}
 use Rattle.std.specs.Prelude.{map}
-use Rattle.std.proofs.lemmas.Bool.{lt-ltb, le-ltb, eq-eqb, ne_eqb}
-use Rattle.std.proofs.lemmas.List.{append-nil, length-append, length-map, map-append, take_all, drop_all, take-append-le, drop-append-le, take-map, drop-map, drop-drop, take_more, get_or-drop, length-drop, take-append-drop}
+use Rattle.std.proofs.lemmas.Bool.{cond-true, cond-false, lt-ltb, le-ltb, eq-eqb, ne_eqb}
+use Rattle.std.proofs.lemmas.List.{append-nil, length-append, length-map, map-append, take_all, drop_all, take-append-le, drop-append-le, take-map, drop-map, drop-drop, take_more, get_or-drop, length-drop, length-take, take-append-drop}
 use Rattle.std.proofs.lemmas.List.Sums.{sum_by-append}
 use Rattle.markdown_options.specs.declared.line_ending.LineEnding.{LineEnding}
+use Rattle.markdown_options.specs.declared.configuration.Constructs.{Constructs}
+use Rattle.markdown_definition.specs.Lines.{TextLine}
+use Rattle.markdown_definition.specs.Columns.{is_byte, bytes_of}
+use Rattle.markdown_definition.specs.Definitions.{cut_into, cut_most}
 use Rattle.markdown_definition.specs.declared.container.Container.{Container}
 use Rattle.markdown_definition.specs.declared.container.Container.TheVariants.{Quote, Item}
 use Rattle.markdown_definition.specs.declared.row.Row.{Row}
 use Rattle.markdown_definition.specs.declared.row.Row.TheVariants as row
 use Rattle.markdown_definition.specs.declared.row.Piece.{Piece}
-use Rattle.markdown_definition.specs.Tree.{BlockLine, Block, IndentedCode, Ending, Blank, Blocks, Nil, join, one, ended, holds, OpenLeaf, Text, Indented, Leaf, is_nothing, close_leaf, last_ending, last_ending_or, is_some_line, own_lines, blanks, is_ending, front}
-use Rattle.markdown_definition.specs.Rows.{Single, entered, block_rows, row_shown, rows_of, shown, shown_as, lines_taken, all_taken, piece_line, piece_lines}
+use Rattle.markdown_definition.specs.Tree.{BlockLine, Block, IndentedCode, Ending, Blank, Blocks, Nil, join, one, ended, holds, OpenLeaf, Text, Indented, Leaf, is_nothing, close_leaf, paragraph_of, with_paragraph, last_ending, last_ending_or, is_some_line, own_lines, blanks, is_ending, front}
+use Rattle.markdown_definition.specs.Rows.{whole_line, Single, entered, block_rows, row_shown, rows_of, shown, shown_as, lines_taken, all_taken, piece_line, piece_lines}
 use Rattle.block_tree.specs.declared.parser.Parser.{Parser}
 use Rattle.block_tree.specs.Spine.{Level, level, spine, rows_around}
 use Rattle.block_tree.specs.Waits.{enter_row, inside, outside}
@@ -123,13 +127,13 @@ blanks_more waiting0 waiting waiting2 pieces start i d le lt so_far pushed =
     ∙ ap (map blank_row) (sym (take_more rest n d room) ∙ ap (λ k. take k rest) (sym longer)))
 
 -- indented code is closed: its lines, its ending, and the endings of the blank lines after it
-pub written_indented : (rows waiting : List Row) (bare : Bool) (pieces : List Piece) (around : List Level) (kids : Blocks) (ls pending : List BlockLine)
+pub written_indented : (on : Constructs) (rows waiting : List Row) (bare : Bool) (pieces : List Piece) (around : List Level) (kids : Blocks) (ls pending : List BlockLine)
     → Written rows waiting bare (piece_lines pieces) around kids (ls ++ pending) → all_taken rows ≤ length (piece_lines pieces) → all_taken waiting ≡ 0
     → (count n : ℕ) (ending : Option LineEnding) → count ≡ length ls → ending ≡ last_ending ls → n ≡ all_taken rows + count
     → (rows2 waiting2 waiting3 waiting4 : List Row) (bare2 : Bool) → rows2 ≡ (rows ++ waiting) ++ row.IndentedCode count ∷ [] → waiting2 ≡ [] → waiting3 ≡ waiting2 ++ row.Ending ending ∷ []
     → waiting4 ≡ waiting3 ++ map blank_row (drop n pieces) → bare2 ≡ false → all_taken rows2 ≡ n
-    → Written rows2 waiting4 bare2 (piece_lines (take n pieces)) around (join kids (close_leaf (Indented ls pending))) []
-written_indented rows waiting bare pieces around kids ls pending h le none count n ending all last n_is rows2 waiting2 waiting3 waiting4 bare2 rows_are none_wait waits blank is_bare taken =
+    → Written rows2 waiting4 bare2 (piece_lines (take n pieces)) around (join kids (close_leaf on (Indented ls pending))) []
+written_indented on rows waiting bare pieces around kids ls pending h le none count n ending all last n_is rows2 waiting2 waiting3 waiting4 bare2 rows_are none_wait waits blank is_bare taken =
     let pool = piece_lines pieces in
     let c = left_count rows pool _ h.rows_shown le in
     let code = IndentedCode (own_lines ls) in
@@ -140,7 +144,7 @@ written_indented rows waiting bare pieces around kids ls pending h le none count
     let ended_code = written_ended rows waiting bare pool around kids (ls ++ pending) h (row.IndentedCode count) code ending none
     (ap (λ x. Single (IndentedCode (own_lines x)) ∷ []) (sym front_lines)) refl rows2 waiting2 waiting3 bare2 pending rows_are none_wait waits is_bare (sym rest_lines) in
     let with_all = with_blanks rows2 waiting3 bare2 pool around (join kids (ended code ending)) pending (drop n pieces) ended_code in
-    let children : join (join kids (ended code ending)) (blanks (piece_lines (drop n pieces))) ≡ join kids (close_leaf (Indented ls pending)) =
+    let children : join (join kids (ended code ending)) (blanks (piece_lines (drop n pieces))) ≡ join kids (close_leaf on (Indented ls pending)) =
     join-assoc kids (ended code ending) (blanks (piece_lines (drop n pieces)))
     ∙ ap (λ e. join kids (join (ended code e) (blanks (piece_lines (drop n pieces))))) last
     ∙ ap (λ x. join kids (join (ended code (last_ending ls)) (blanks x))) left_over in
@@ -197,3 +201,53 @@ pub blank_as : (rows waiting : List Row) (bare : Bool) (pool : List BlockLine) (
 blank_as rows waiting bare pool around kids h ending rows2 waiting2 bare2 r w b =
     written_as rows rows2 (waiting ++ row.Blank ending ∷ []) waiting2 bare bare2 pool pool around (join kids (one (Blank ending))) [] [] r w b refl refl
     (with_ending rows waiting bare pool around kids [] h (row.Blank ending) (Blank ending) refl refl)
+
+-- ---- a paragraph is closed, where no definitions are cut from it
+
+pub text_closed : (on : Constructs) → on.definition ≡ false → (ls : List BlockLine) → close_leaf on (Text ls) ≡ paragraph_of ls
+text_closed on off ls = ap with_paragraph (cond-false on.definition (cut_most (length ls) ls) (cut_into Nil ls) off)
+
+-- ---- whole lines are kept as one
+
+-- the lines that are left are the last ones
+pub lines_left : (rows waiting : List Row) (bare : Bool) (pool : List BlockLine) (around : List Level) (kids : Blocks) (left : List BlockLine)
+    → Written rows waiting bare pool around kids left → left ≡ drop (all_taken rows) pool
+lines_left rows waiting bare pool around kids left h = left_shown rows pool _ h.rows_shown
+
+-- another line in their place
+pub whole_written : (rows waiting : List Row) (bare : Bool) (pool : List BlockLine) (around : List Level) (kids : Blocks) (left : List BlockLine)
+    → Written rows waiting bare pool around kids left → (l : BlockLine) → all_taken rows ≤ length pool
+    → Written rows waiting bare (take (all_taken rows) pool ++ l ∷ []) around kids (l ∷ [])
+whole_written rows waiting bare pool around kids left h l le =
+    let front = take (all_taken rows) pool in
+    with_line rows waiting bare front around kids [] (without_lines rows waiting bare pool around kids left h le) l (omega (arith, length-take (all_taken rows) pool))
+
+-- one more line of pieces is a whole line
+pub whole_more : (pieces : List Piece) (i : ℕ) (d : Piece) (all : List BlockLine) (l : TextLine) (before after : List TextLine) → i < length pieces
+    → all ≡ map piece_line (take i pieces) ++ map whole_line before → before ≡ l ∷ after → piece_line (get_or pieces i d) ≡ whole_line l
+    → all ≡ map piece_line (take (i + 1) pieces) ++ map whole_line after
+whole_more pieces i d all l before after lt so_far first same =
+    so_far ∙ ap (λ ls. map piece_line (take i pieces) ++ map whole_line ls) first
+    ∙ ap (λ x. map piece_line (take i pieces) ++ x ∷ map whole_line after) (sym same)
+    ∙ sym (append_assoc (map piece_line (take i pieces)) (piece_line (get_or pieces i d) ∷ []) (map whole_line after))
+    ∙ ap (λ x. x ++ map whole_line after) (sym (map-append piece_line (take i pieces) (get_or pieces i d ∷ [])) ∙ ap (map piece_line) (sym (take_more pieces i d lt)))
+
+-- all of them are
+pub whole_all : (pieces : List Piece) (i : ℕ) (all rest : List TextLine) → length pieces ≤ i → map whole_line all ≡ map piece_line (take i pieces) ++ map whole_line rest
+    → piece_lines pieces ≡ map whole_line (take (length pieces) all)
+whole_all pieces i all rest le h =
+    let n = length pieces in
+    let front = piece_lines pieces in
+    let long : length front ≡ n = length-map pieces piece_line in
+    sym (sym (take-map whole_line n all)
+    ∙ ap (take n) (h ∙ ap (λ ps. map piece_line ps ++ map whole_line rest) (take_all i pieces le))
+    ∙ take-append-le n front (map whole_line rest) (omega (arith, long))
+    ∙ take_all n front (omega (arith, long)))
+
+-- bytes are no columns of a tab
+pub only_bytes : (text : List ℕ) → ((k : ℕ) → get_or text k 0 < 256) → bytes_of text ≡ text
+only_bytes [] h = refl
+only_bytes (b ∷ bs) h =
+    let byte : b < 256 = h 0 in
+    let is : is_byte b ≡ true = ap not (ne_eqb b 256 (λ e. omega arith)) in
+    cond-true (is_byte b) (b ∷ bytes_of bs) (bytes_of bs) is ∙ ap (λ xs. b ∷ xs) (only_bytes bs (λ k. h (suc k)))

@@ -7,9 +7,12 @@ use Rattle.std.proofs.lemmas.List.Sums.{fold_push, fold-append, sum_by-cons}
 use Rattle.markdown_definition.specs.declared.row.Row.{Row}
 use Rattle.markdown_definition.specs.declared.row.Row.TheVariants as row
 use Rattle.markdown_definition.specs.declared.row.Piece.{Piece}
-use Rattle.markdown_definition.specs.Tree.{BlockLine, Paragraph, Heading, IndentedCode, FencedCode, own_lines}
+use Rattle.markdown_definition.specs.Columns.{bytes_of}
+use Rattle.markdown_definition.specs.Content.{content_of}
+use Rattle.markdown_definition.specs.LinkDefinition.{definition_at}
+use Rattle.markdown_definition.specs.Tree.{BlockLine, Paragraph, Heading, IndentedCode, FencedCode, Html, own_lines}
 use Rattle.block_tree.specs.Shows.{lone}
-use Rattle.markdown_definition.specs.Rows.{BlockRow, Single, Shown, shown, shown_as, show_row, row_shown, lines_taken, all_taken, piece_line, piece_lines}
+use Rattle.markdown_definition.specs.Rows.{whole_lines, definition_shown, BlockRow, Single, Shown, shown, shown_as, show_row, row_shown, lines_taken, all_taken, piece_line, piece_lines}
 
 -- ---- more lines beside the rows
 
@@ -36,6 +39,18 @@ row_longer (row.UnclosedCode n) out [] more le = absurd (omega arith)
 row_longer (row.UnclosedCode n) out (l ∷ ls) more le =
     ap (λ front. shown_as (out ++ Single (FencedCode l.codes false front) ∷ []) (drop (1 + n) ((l ∷ ls) ++ more))) (take-append-le n ls more (omega arith))
     ∙ ap (shown_as (out ++ Single (FencedCode l.codes false (take n ls)) ∷ [])) (drop-append-le (1 + n) (l ∷ ls) more le)
+row_longer (row.WholeParagraph n) out [] more le = absurd (omega arith)
+row_longer (row.WholeParagraph n) out (l ∷ ls) more le =
+    ap (shown_as (out ++ Single (Paragraph (own_lines (whole_lines n (bytes_of l.codes)))) ∷ [])) (drop-append-le 1 (l ∷ ls) more le)
+row_longer (row.SetextHeading rank n) out ls more le =
+    ap (λ front. shown_as (out ++ Single (Heading rank (own_lines front)) ∷ []) (drop n (ls ++ more))) (take-append-le n ls more le)
+    ∙ ap (shown_as (out ++ Single (Heading rank (own_lines (take n ls))) ∷ [])) (drop-append-le n ls more le)
+row_longer (row.Html n) out ls more le =
+    ap (λ front. shown_as (out ++ Single (Html (own_lines front)) ∷ []) (drop n (ls ++ more))) (take-append-le n ls more le)
+    ∙ ap (shown_as (out ++ Single (Html (own_lines (take n ls))) ∷ [])) (drop-append-le n ls more le)
+row_longer (row.Definition n) out ls more le =
+    ap (λ front. shown_as (out ++ Single (definition_shown (definition_at (content_of (own_lines front)))) ∷ []) (drop n (ls ++ more))) (take-append-le n ls more le)
+    ∙ ap (shown_as (out ++ Single (definition_shown (definition_at (content_of (own_lines (take n ls))))) ∷ [])) (drop-append-le n ls more le)
 row_longer row.EnterQuote out ls more le = refl
 row_longer (row.EnterItem marker number) out ls more le = refl
 row_longer row.Exit out ls more le = refl
@@ -78,6 +93,12 @@ one_row_shown rows pool r s h = fold_push show_row (shown_as [] pool) rows r ∙
 none_taken : (r : Row) (left : List BlockLine) → lines_taken r ≡ 0 → row_shown r left ≡ lone r
 none_taken (row.Paragraph n) left h = ap (λ (k : ℕ). Single (Paragraph (own_lines (take k left)))) h ∙ sym (ap (λ (k : ℕ). Single (Paragraph (own_lines (take k [])))) h)
 none_taken (row.Heading rank) left h = absurd (omega (arith, h))
+none_taken (row.WholeParagraph n) left h = absurd (omega (arith, h))
+none_taken (row.SetextHeading rank n) left h = ap (λ (k : ℕ). Single (Heading rank (own_lines (take k left)))) h ∙ sym (ap (λ (k : ℕ). Single (Heading rank (own_lines (take k [])))) h)
+none_taken (row.Html n) left h = ap (λ (k : ℕ). Single (Html (own_lines (take k left)))) h ∙ sym (ap (λ (k : ℕ). Single (Html (own_lines (take k [])))) h)
+none_taken (row.Definition n) left h =
+    ap (λ (k : ℕ). Single (definition_shown (definition_at (content_of (own_lines (take k left)))))) h
+    ∙ sym (ap (λ (k : ℕ). Single (definition_shown (definition_at (content_of (own_lines (take k [])))))) h)
 none_taken row.Break left h = refl
 none_taken (row.IndentedCode n) left h = ap (λ (k : ℕ). Single (IndentedCode (own_lines (take k left)))) h ∙ sym (ap (λ (k : ℕ). Single (IndentedCode (own_lines (take k [])))) h)
 none_taken (row.FencedCode n) left h = absurd (omega (arith, h))

@@ -1,5 +1,5 @@
 -- Containers that start on a line.
-use Rattle.std.proofs.Common.{◌≡◌, ℕ, zero, suc, ◌+◌, ◌≤◌, ◌<◌, Bool, true, false, ◌&&◌, ◌||◌, ◌==◌, not, leb, List, [], ◌∷◌, Option, None, Some, refl, sym, ap, ◌∙◌, subst, length, drop, take, arith}
+use Rattle.std.proofs.Common.{◌≡◌, ℕ, zero, suc, ◌+◌, ◌≤◌, ◌<◌, Bool, true, false, if◌then◌else◌, ◌&&◌, ◌||◌, ◌==◌, not, leb, List, [], ◌∷◌, Option, None, Some, refl, sym, ap, ◌∙◌, subst, length, drop, take, arith}
 use Rattle.std.proofs.lemmas.List.{length-drop}
 use Rattle.std.specs.Prelude.{min}
 use Rattle.std.specs.List.{prefix_len}
@@ -13,7 +13,8 @@ use Rattle.markdown_definition.specs.ThematicBreak.{is_break}
 use Rattle.markdown_definition.specs.BlockQuote.{after_byte, after_mark, quote_prefix}
 use Rattle.markdown_definition.specs.ListItem.{Marker, marker_of, is_digit, number_of, bullet, delimiter, ordered, marker, gap, is_item, item, item_after, item_start}
 use Rattle.markdown_definition.specs.Containers.{quote_or, starts}
-use Rattle.markdown_definition.specs.Tree.{Blocks, Nil, Opening, Inside, Tree, tree, nothing, after, has_text, leaf_line, start, new}
+use Rattle.markdown_definition.specs.Tree.{Blocks, Nil, join, Opening, Inside, Tree, tree, nothing, after, has_text, leaf_line, start, new, with_paragraph}
+use Rattle.markdown_definition.specs.Definitions.{cut_into, cut_most}
 use Rattle.block_tree.specs.Spine.{Level, level, spine_at, grown}
 use Rattle.block_tree.specs.View.{new_inside}
 use Rattle.block_tree.proofs.Trees.{choose_if, join-nil}
@@ -94,17 +95,17 @@ starts-none on interrupts (Some s) h = absurd (omega (arith, h))
 
 module _ (on : Constructs) (ending : Option LineEnding) where
   start-same : (n : ℕ) (o : Option Started) (away : Opening) (other : Tree) (f g : Rest → Tree) → Shorter n o
-      → ((rest : Rest) → length rest < n → f rest ≡ g rest) → start o away other f ≡ start o away other g
+      → ((rest : Rest) → length rest < n → f rest ≡ g rest) → start on o away other f ≡ start on o away other g
   start-same n None away other f g h same = refl
-  start-same n (Some s) away other f g h same = ap (λ (t : Tree). after away (tree Nil (Inside s.container t.done t.now))) (same s.rest h)
+  start-same n (Some s) away other f g h same = ap (λ (t : Tree). after on away (tree Nil (Inside s.container t.done t.now))) (same s.rest h)
 
   new-same : (m n : ℕ) (all : Bool) (away : Opening) (rest : Rest) → length rest ≤ m → length rest ≤ n → new m on all away ending rest ≡ new n on all away ending rest
   new-same zero zero all away rest h k = refl
   new-same zero (suc n) all away [] h k =
-      sym (ap (λ o. start o away (leaf_line on away [] ending) (new n on true nothing ending)) (starts-none on (all && has_text away) _ (starts-shorter on (all && has_text away) [])))
+      sym (ap (λ o. start on o away (leaf_line on away [] ending) (new n on true nothing ending)) (starts-none on (all && has_text away) _ (starts-shorter on (all && has_text away) [])))
   new-same zero (suc n) all away (code ∷ codes) h k = absurd (omega (arith, h))
   new-same (suc m) zero all away [] h k =
-      ap (λ o. start o away (leaf_line on away [] ending) (new m on true nothing ending)) (starts-none on (all && has_text away) _ (starts-shorter on (all && has_text away) []))
+      ap (λ o. start on o away (leaf_line on away [] ending) (new m on true nothing ending)) (starts-none on (all && has_text away) _ (starts-shorter on (all && has_text away) []))
   new-same (suc m) zero all away (code ∷ codes) h k = absurd (omega (arith, k))
   new-same (suc m) (suc n) all away rest h k =
       start-same (length rest) (starts on (all && has_text away) rest) away (leaf_line on away rest ending) (new m on true nothing ending) (new n on true nothing ending)
@@ -114,27 +115,36 @@ module _ (on : Constructs) (ending : Option LineEnding) where
   -- no container starts
   pub new_none : (n : ℕ) (all : Bool) (away : Opening) (rest : Rest) → starts on (all && has_text away) rest ≡ None → new n on all away ending rest ≡ leaf_line on away rest ending
   new_none zero all away rest h = refl
-  new_none (suc n) all away rest h = ap (λ o. start o away (leaf_line on away rest ending) (new n on true nothing ending)) h
+  new_none (suc n) all away rest h = ap (λ o. start on o away (leaf_line on away rest ending) (new n on true nothing ending)) h
 
   -- a container starts
   new-some : (n : ℕ) (all : Bool) (away : Opening) (rest : Rest) (s : Started) → length rest ≤ n → starts on (all && has_text away) rest ≡ Some s
-      → let t = new_inside on ending s.rest in new n on all away ending rest ≡ after away (tree Nil (Inside s.container t.done t.now))
+      → let t = new_inside on ending s.rest in new n on all away ending rest ≡ after on away (tree Nil (Inside s.container t.done t.now))
   new-some zero all away rest s le h = absurd (omega (arith, le, start-shorter on (all && has_text away) rest s h))
   new-some (suc n) all away rest s le h =
-      ap (λ o. start o away (leaf_line on away rest ending) (new n on true nothing ending)) h
-      ∙ ap (λ (t : Tree). after away (tree Nil (Inside s.container t.done t.now)))
+      ap (λ o. start on o away (leaf_line on away rest ending) (new n on true nothing ending)) h
+      ∙ ap (λ (t : Tree). after on away (tree Nil (Inside s.container t.done t.now)))
       (new-same n (length s.rest) true nothing s.rest (omega (arith, le, start-shorter on (all && has_text away) rest s h)) (omega arith))
 
   pub new_some : (all : Bool) (away : Opening) (rest : Rest) (s : Started) → starts on (all && has_text away) rest ≡ Some s
-      → let t = new_inside on ending s.rest in new (length rest) on all away ending rest ≡ after away (tree Nil (Inside s.container t.done t.now))
+      → let t = new_inside on ending s.rest in new (length rest) on all away ending rest ≡ after on away (tree Nil (Inside s.container t.done t.now))
   new_some all away rest s h = new-some (length rest) all away rest s (omega arith) h
 
   -- what is new is in the container that started
   pub grown-inside : (around : List Level) (kids : Blocks) (c : Container) (t : Tree) → grown around kids (tree Nil (Inside c t.done t.now)) ≡ grown (level c kids ∷ around) Nil t
   grown-inside around kids c t = ap (λ (bs : Blocks). spine_at (level c bs ∷ around) t.done t.now) (join-nil kids)
 
+  -- nothing is closed where nothing is open
+  closed-nothing : (b : Bool) → with_paragraph (if b then cut_most 0 [] else cut_into Nil []) ≡ Nil
+  closed-nothing true = refl
+  closed-nothing false = refl
+
+  after-nothing : (t : Tree) → after on nothing t ≡ t
+  after-nothing t = ap (λ (bs : Blocks). tree (join bs t.done) t.now) (closed-nothing on.definition)
+
   -- one container more
   pub inside_more : (around : List Level) (kids : Blocks) (rest : Rest) (s : Started) → starts on false rest ≡ Some s
       → grown around kids (new_inside on ending rest) ≡ grown (level s.container kids ∷ around) Nil (new_inside on ending s.rest)
   inside_more around kids rest s is =
-      ap (grown around kids) (new_some true nothing rest s is) ∙ grown-inside around kids s.container (new_inside on ending s.rest)
+      let t = new_inside on ending s.rest in
+      ap (grown around kids) (new_some true nothing rest s is ∙ after-nothing (tree Nil (Inside s.container t.done t.now))) ∙ grown-inside around kids s.container (new_inside on ending s.rest)

@@ -1,5 +1,5 @@
 -- The steps of the definition, case by case.
-use Rattle.std.proofs.Common.{◌≡◌, List, [], ◌∷◌, ◌++◌, Option, None, Some, true, false, not, ◌&&◌, refl, sym, ap, ◌∙◌, subst, length}
+use Rattle.std.proofs.Common.{◌≡◌, ℕ, List, [], ◌∷◌, ◌++◌, Option, None, Some, true, false, not, ◌&&◌, ◌==◌, refl, sym, ap, ◌∙◌, subst, length, arith}
 use Rattle.std.proofs.lemmas.Bool.{cond-true, cond-false}
 use Rattle.markdown_options.specs.declared.line_ending.LineEnding.{LineEnding}
 use Rattle.markdown_options.specs.declared.configuration.Constructs.{Constructs}
@@ -7,13 +7,17 @@ use Rattle.markdown_definition.specs.Columns.{Rest, is_blank}
 use Rattle.markdown_definition.specs.Indents.{outdented}
 use Rattle.markdown_definition.specs.CodeIndented.{starts_code_indented}
 use Rattle.markdown_definition.specs.CodeFenced.{Fence, fence_start, is_fence_end, fence_line}
+use Rattle.markdown_definition.specs.HtmlFlow.{html_start, ends_before_blank}
 use Rattle.markdown_definition.specs.HeadingAtx.{Atx, heading_atx}
+use Rattle.markdown_definition.specs.HeadingSetext.{underline}
 use Rattle.markdown_definition.specs.ThematicBreak.{is_break}
-use Rattle.markdown_definition.specs.Tree.{BlockLine, block_line, Heading, Break, FencedCode, Blank, Blocks, Nil, join, one, ended, OpenLeaf, Text, Indented, Fenced, Opening, Leaf, Inside, Tree, tree, nothing, close, after, leaf_text, text_of, is_some_line, has_text, with_line, rest_line, leaf_line, begun, or_fence, or_heading, break_or_text, text_line_of, taken, new}
+use Rattle.markdown_definition.specs.Definitions.{Cut, cut_into, cut_most}
+use Rattle.markdown_definition.specs.Tree.{BlockLine, block_line, Heading, Break, FencedCode, Blank, Blocks, Nil, join, one, ended, OpenLeaf, Text, Indented, Fenced, OpenHtml, Opening, Leaf, Inside, Tree, tree, nothing, close, after, leaf_text, open_text, text_here, is_some_line, has_text, own_lines, with_line, rest_line, leaf_line, begun, or_fence, or_html, or_heading, html_with, break_or_text, text_line_of, taken, turns, underlined, heading_of, new}
 use Rattle.block_tree.specs.Spine.{Level, level, Spine, spine, spine_at, grown}
+use Rattle.block_tree.specs.Turns.{IsText, turned_by}
 use Rattle.block_tree.specs.View.{leaf_grown}
 use Rattle.block_tree.proofs.Trees.{join-nil}
-use Rattle.block_tree.proofs.Closing.{after_added}
+use Rattle.block_tree.proofs.Closing.{after_added, opening_depth}
 
 -- ---- the open leaf takes a line
 
@@ -43,49 +47,113 @@ module _ (on : Constructs) (e : Option LineEnding) (r : Rest) where
       → leaf_grown on e r (Leaf (Fenced f opening ls)) ≡ tree Nil (Leaf (Fenced f opening (ls ++ rest_line (fence_line f r) e ∷ [])))
   fenced_goes_on f opening ls h = ap (λ o. taken o (other_line (Fenced f opening ls))) (cond-false (is_fence_end on f r) _ _ h)
 
+-- ---- an HTML block takes a line
+
+module _ (on : Constructs) (e : Option LineEnding) (r : Rest) (kind : ℕ) (ls : List BlockLine) where
+  pub html_goes_on : (ends_before_blank kind && is_blank r) ≡ false → leaf_grown on e r (Leaf (OpenHtml kind ls)) ≡ html_with kind ls r e
+  html_goes_on h = ap (λ o. taken o (new (length r) on true (Leaf (OpenHtml kind ls)) e r)) (cond-false (ends_before_blank kind && is_blank r) _ _ h)
+
+  pub html_stops : (ends_before_blank kind && is_blank r) ≡ true → leaf_grown on e r (Leaf (OpenHtml kind ls)) ≡ new (length r) on true (Leaf (OpenHtml kind ls)) e r
+  html_stops h = ap (λ o. taken o (new (length r) on true (Leaf (OpenHtml kind ls)) e r)) (cond-true (ends_before_blank kind && is_blank r) _ _ h)
+
 -- ---- a line that the open leaf doesn't take
 
 module _ (on : Constructs) (away : Opening) (r : Rest) (e : Option LineEnding) where
   abbrev rest_of_leaves : Option Tree → Tree
-  rest_of_leaves o = begun o away (break_or_text on away r e)
+  rest_of_leaves o = begun on o away (taken (turns on away r e) (break_or_text on away r e))
 
-  pub blank_leaf : is_blank r ≡ true → leaf_line on away r e ≡ after away (tree (one (Blank e)) nothing)
+  abbrev html_or_heading : Option ℕ → Option Tree
+  html_or_heading o = or_html r e o (or_heading e (heading_atx on r))
+
+  pub blank_leaf : is_blank r ≡ true → leaf_line on away r e ≡ after on away (tree (one (Blank e)) nothing)
   blank_leaf h = cond-true (is_blank r) _ _ h
 
-  pub indented_leaf : is_blank r ≡ false → (starts_code_indented on r && not (has_text away)) ≡ true
-      → leaf_line on away r e ≡ after away (tree Nil (Leaf (Indented (rest_line (outdented 4 r) e ∷ []) [])))
-  indented_leaf h k = cond-false (is_blank r) _ _ h ∙ ap rest_of_leaves (cond-true (starts_code_indented on r && not (has_text away)) _ _ k)
+  module _ (h : is_blank r ≡ false) where
+    pub indented_leaf : (starts_code_indented on r && not (has_text away)) ≡ true
+        → leaf_line on away r e ≡ after on away (tree Nil (Leaf (Indented (rest_line (outdented 4 r) e ∷ []) [])))
+    indented_leaf k = cond-false (is_blank r) _ _ h ∙ ap rest_of_leaves (cond-true (starts_code_indented on r && not (has_text away)) _ _ k)
 
-  -- no indented code begins
-  other_leaf : is_blank r ≡ false → (starts_code_indented on r && not (has_text away)) ≡ false
-      → leaf_line on away r e ≡ rest_of_leaves (or_fence e (fence_start on r) (or_heading e (heading_atx on r)))
-  other_leaf h k = cond-false (is_blank r) _ _ h ∙ ap rest_of_leaves (cond-false (starts_code_indented on r && not (has_text away)) _ _ k)
+    module _ (k : (starts_code_indented on r && not (has_text away)) ≡ false) where
+      -- no indented code begins
+      other_leaf : leaf_line on away r e ≡ rest_of_leaves (or_fence e (fence_start on r) (html_or_heading (html_start on (has_text away) r)))
+      other_leaf = cond-false (is_blank r) _ _ h ∙ ap rest_of_leaves (cond-false (starts_code_indented on r && not (has_text away)) _ _ k)
 
-  pub fenced_leaf : (f : Fence) → is_blank r ≡ false → (starts_code_indented on r && not (has_text away)) ≡ false → fence_start on r ≡ Some f
-      → leaf_line on away r e ≡ after away (tree Nil (Leaf (Fenced f e [])))
-  fenced_leaf f h k fence = other_leaf h k ∙ ap (λ o. rest_of_leaves (or_fence e o (or_heading e (heading_atx on r)))) fence
+      pub fenced_leaf : (f : Fence) → fence_start on r ≡ Some f → leaf_line on away r e ≡ after on away (tree Nil (Leaf (Fenced f e [])))
+      fenced_leaf f fence = other_leaf ∙ ap (λ o. rest_of_leaves (or_fence e o (html_or_heading (html_start on (has_text away) r)))) fence
 
-  pub heading_leaf : (atx : Atx) → is_blank r ≡ false → (starts_code_indented on r && not (has_text away)) ≡ false → fence_start on r ≡ None → heading_atx on r ≡ Some atx
-      → leaf_line on away r e ≡ after away (tree (ended (Heading atx.rank (block_line atx.content None ∷ [])) e) nothing)
-  heading_leaf atx h k fence heading =
-      other_leaf h k ∙ ap (λ o. rest_of_leaves (or_fence e o (or_heading e (heading_atx on r)))) fence ∙ ap (λ o. rest_of_leaves (or_heading e o)) heading
+      module _ (fence : fence_start on r ≡ None) where
+        -- and no fenced code
+        html_leaves : leaf_line on away r e ≡ rest_of_leaves (html_or_heading (html_start on (has_text away) r))
+        html_leaves = other_leaf ∙ ap (λ o. rest_of_leaves (or_fence e o (html_or_heading (html_start on (has_text away) r)))) fence
 
-  plain_leaf : is_blank r ≡ false → (starts_code_indented on r && not (has_text away)) ≡ false → fence_start on r ≡ None → heading_atx on r ≡ None
-      → leaf_line on away r e ≡ break_or_text on away r e
-  plain_leaf h k fence heading =
-      other_leaf h k ∙ ap (λ o. rest_of_leaves (or_fence e o (or_heading e (heading_atx on r)))) fence ∙ ap (λ o. rest_of_leaves (or_heading e o)) heading
+        pub html_leaf : (kind : ℕ) → html_start on (has_text away) r ≡ Some kind → leaf_line on away r e ≡ after on away (html_with kind [] r e)
+        html_leaf kind html = html_leaves ∙ ap (λ o. rest_of_leaves (html_or_heading o)) html
 
-  pub break_leaf : is_blank r ≡ false → (starts_code_indented on r && not (has_text away)) ≡ false → fence_start on r ≡ None → heading_atx on r ≡ None → is_break on r ≡ true
-      → leaf_line on away r e ≡ after away (tree (ended Break e) nothing)
-  break_leaf h k fence heading b = plain_leaf h k fence heading ∙ cond-true (is_break on r) _ _ b
+        module _ (html : html_start on (has_text away) r ≡ None) where
+          -- and no HTML block
+          heading_leaves : leaf_line on away r e ≡ rest_of_leaves (or_heading e (heading_atx on r))
+          heading_leaves = html_leaves ∙ ap (λ o. rest_of_leaves (html_or_heading o)) html
 
-  pub text_leaf : is_blank r ≡ false → (starts_code_indented on r && not (has_text away)) ≡ false → fence_start on r ≡ None → heading_atx on r ≡ None → is_break on r ≡ false
-      → leaf_line on away r e ≡ text_line_of away r e
-  text_leaf h k fence heading b = plain_leaf h k fence heading ∙ cond-false (is_break on r) _ _ b
+          pub heading_leaf : (atx : Atx) → heading_atx on r ≡ Some atx
+              → leaf_line on away r e ≡ after on away (tree (ended (Heading atx.rank (block_line atx.content None ∷ [])) e) nothing)
+          heading_leaf atx heading = heading_leaves ∙ ap (λ o. rest_of_leaves (or_heading e o)) heading
+
+          module _ (heading : heading_atx on r ≡ None) where
+            -- and no heading
+            last_leaves : leaf_line on away r e ≡ taken (turns on away r e) (break_or_text on away r e)
+            last_leaves = heading_leaves ∙ ap (λ o. rest_of_leaves (or_heading e o)) heading
+
+            pub turned_leaf : (t : Tree) → turns on away r e ≡ Some t → leaf_line on away r e ≡ t
+            turned_leaf t turned = last_leaves ∙ ap (λ o. taken o (break_or_text on away r e)) turned
+
+            module _ (unturned : turns on away r e ≡ None) where
+              pub break_leaf : is_break on r ≡ true → leaf_line on away r e ≡ after on away (tree (ended Break e) nothing)
+              break_leaf b = last_leaves ∙ ap (λ o. taken o (break_or_text on away r e)) unturned ∙ cond-true (is_break on r) _ _ b
+
+              pub text_leaf : is_break on r ≡ false → leaf_line on away r e ≡ text_line_of on away r e
+              text_leaf b = last_leaves ∙ ap (λ o. taken o (break_or_text on away r e)) unturned ∙ cond-false (is_break on r) _ _ b
+
+-- ---- an underline
+
+module _ (on : Constructs) (off : on.definition ≡ false) (r : Rest) (e : Option LineEnding) where
+  -- no definitions are cut
+  uncut : (rank : ℕ) (ls : List BlockLine) → underlined on (Some rank) ls e ≡ heading_of rank Nil ls e
+  uncut rank ls = ap (λ (parts : Cut). heading_of rank parts.definitions parts.left e) (cond-false on.definition (cut_most (length ls) ls) (cut_into Nil ls) off)
+
+  none_here : (o : Option ℕ) → underlined on o [] e ≡ None
+  none_here None = refl
+  none_here (Some rank) = uncut rank []
+
+  pub turns_nothing : (away : Opening) → text_here away ≡ [] → turns on away r e ≡ None
+  turns_nothing away none = ap (λ ls. underlined on (underline on r) ls e) none ∙ none_here (underline on r)
+
+  turned : (o : Option ℕ) (l : BlockLine) (ls : List BlockLine) → underlined on o (l ∷ ls) e ≡ turned_by o (Leaf (Text (l ∷ ls))) e
+  turned None l ls = refl
+  turned (Some rank) l ls = uncut rank (l ∷ ls)
+
+  pub turns_text : (l : BlockLine) (ls : List BlockLine) (o : Option ℕ) → underline on r ≡ o → turns on (Leaf (Text (l ∷ ls))) r e ≡ turned_by o (Leaf (Text (l ∷ ls))) e
+  turns_text l ls o is = ap (λ x. underlined on x (l ∷ ls) e) is ∙ turned o l ls
+
+-- whether a paragraph is open where all containers are
+pub here_or_not : (depth count : ℕ) (away : Opening) → (opening_depth away ≡ 0 → (depth == count) ≡ true) → ((depth == count) && has_text away) ≡ false → text_here away ≡ []
+here_or_not depth count (Leaf leaf) last h = no_text (leaf_text leaf) (sym (ap (λ b. b && has_text (Leaf leaf)) (last refl)) ∙ h)
+  where
+    no_text : (ls : List BlockLine) → is_some_line ls ≡ false → ls ≡ []
+    no_text [] k = refl
+    no_text (l ∷ ls) k = let wrong : true ≡ false = k in cc
+here_or_not depth count (Inside c kids inner) last h = refl
+
+pub text_leaf_here : (P : Opening → Type 0) (away : Opening) → opening_depth away ≡ 0 → has_text away ≡ true → ((l : BlockLine) (ls : List BlockLine) → P (Leaf (Text (l ∷ ls)))) → P away
+text_leaf_here P (Leaf (Text [])) none some k = let wrong : false ≡ true = some in cc
+text_leaf_here P (Leaf (Text (l ∷ ls))) none some k = k l ls
+text_leaf_here P (Leaf (Indented ls pending)) none some k = let wrong : false ≡ true = some in cc
+text_leaf_here P (Leaf (Fenced f opening ls)) none some k = let wrong : false ≡ true = some in cc
+text_leaf_here P (Leaf (OpenHtml kind ls)) none some k = let wrong : false ≡ true = some in cc
+text_leaf_here P (Inside c kids inner) none some k = absurd (omega (arith, none))
 
 -- ---- a line of text
 
-pub text_at : (around : List Level) (kids : Blocks) (away : Opening) → leaf_text (spine_at around kids away).leaf ≡ text_of away
+pub text_at : (around : List Level) (kids : Blocks) (away : Opening) → leaf_text (spine_at around kids away).leaf ≡ open_text away
 text_at around kids (Leaf leaf) = refl
 text_at around kids (Inside c inner_kids inner) = text_at (level c kids ∷ around) inner_kids inner
 
@@ -98,19 +166,30 @@ module _ (P Q : Spine → Type 0) (l : BlockLine) (more : (around : List Level) 
   longer_at around kids (Leaf (Text ls)) some h = more around kids ls h
   longer_at around kids (Leaf (Indented ls pending)) some h = let wrong : false ≡ true = some in cc
   longer_at around kids (Leaf (Fenced f opening ls)) some h = let wrong : false ≡ true = some in cc
+  longer_at around kids (Leaf (OpenHtml kind ls)) some h = let wrong : false ≡ true = some in cc
   longer_at around kids (Inside c inner_kids inner) some h = longer_at (level c kids ∷ around) inner_kids inner some h
 
-pub goes_longer : (P Q : Spine → Type 0) (r : Rest) (e : Option LineEnding)
+pub goes_longer : (on : Constructs) (P Q : Spine → Type 0) (r : Rest) (e : Option LineEnding)
     → ((around : List Level) (kids : Blocks) (ls : List BlockLine) → P (spine around kids (Text ls)) → Q (spine around kids (Text (ls ++ rest_line r e ∷ []))))
-    → (around : List Level) (kids : Blocks) (away : Opening) → has_text away ≡ true → P (spine_at around kids away) → Q (grown around kids (text_line_of away r e))
-goes_longer P Q r e more around kids away some h =
+    → (around : List Level) (kids : Blocks) (away : Opening) → has_text away ≡ true → P (spine_at around kids away) → Q (grown around kids (text_line_of on away r e))
+goes_longer on P Q r e more around kids away some h =
     subst (λ (t : Tree). Q (grown around kids t)) (sym (cond-true (has_text away) _ _ some))
     (subst (λ (bs : Blocks). Q (spine_at around bs (with_line (rest_line r e) away))) (sym (join-nil kids)) (longer_at P Q (rest_line r e) more around kids away some h))
 
 -- or it is the first of one
-pub starts_text : (Q : Spine → Type 0) (r : Rest) (e : Option LineEnding) (around : List Level) (kids : Blocks) (away : Opening) → has_text away ≡ false
-    → Q (spine around (join kids (close away)) (Text (rest_line r e ∷ []))) → Q (grown around kids (text_line_of away r e))
-starts_text Q r e around kids away none h =
+pub starts_text : (on : Constructs) (Q : Spine → Type 0) (r : Rest) (e : Option LineEnding) (around : List Level) (kids : Blocks) (away : Opening) → has_text away ≡ false
+    → Q (spine around (join kids (close on away)) (Text (rest_line r e ∷ []))) → Q (grown around kids (text_line_of on away r e))
+starts_text on Q r e around kids away none h =
     let t = tree Nil (Leaf (Text (rest_line r e ∷ []))) in
     subst (λ (more : Tree). Q (grown around kids more)) (sym (cond-false (has_text away) _ _ none))
-    (after_added Q around kids away t (subst (λ (bs : Blocks). Q (spine around bs (Text (rest_line r e ∷ [])))) (sym (join-nil (join kids (close away)))) h))
+    (after_added on Q around kids away t (subst (λ (bs : Blocks). Q (spine around bs (Text (rest_line r e ∷ [])))) (sym (join-nil (join kids (close on away)))) h))
+
+-- a paragraph becomes a heading
+pub turned_here : (P Q : Spine → Type 0) (rank : ℕ) (e : Option LineEnding)
+    → ((around : List Level) (kids : Blocks) (ls : List BlockLine) → P (spine around kids (Text ls)) → Q (spine around (join kids (ended (Heading rank (own_lines ls)) e)) (Text [])))
+    → (around : List Level) (kids : Blocks) (away : Opening) → IsText away → P (spine_at around kids away) → Q (grown around kids (tree (ended (Heading rank (own_lines (text_here away))) e) nothing))
+turned_here P Q rank e reads around kids (Leaf (Text ls)) is h = reads around kids ls h
+turned_here P Q rank e reads around kids (Leaf (Indented ls pending)) is h = absurd is
+turned_here P Q rank e reads around kids (Leaf (Fenced f opening ls)) is h = absurd is
+turned_here P Q rank e reads around kids (Leaf (OpenHtml kind ls)) is h = absurd is
+turned_here P Q rank e reads around kids (Inside c inner_kids inner) is h = absurd is

@@ -4,7 +4,7 @@ use Rattle.markdown_options.specs.declared.line_ending.LineEnding.{LineEnding}
 use Rattle.markdown_definition.specs.declared.container.Container.{Container}
 use Rattle.markdown_definition.specs.declared.row.Row.{Row}
 use Rattle.markdown_definition.specs.CodeFenced.{Fence}
-use Rattle.markdown_definition.specs.Tree.{BlockLine, block_line, Blocks, Nil, Cons, front, trailing, OpenLeaf, Text, Indented, Fenced, last_ending, last_ending_or}
+use Rattle.markdown_definition.specs.Tree.{BlockLine, block_line, Blocks, Nil, Cons, front, trailing, OpenLeaf, Text, Indented, Fenced, OpenHtml, last_ending, last_ending_or}
 use Rattle.markdown_definition.specs.Rows.{BlockRow, rows_of, row_shown, shown, shown_as}
 use Rattle.block_tree.specs.Spine.{Level, Spine, rows_around, containers_of}
 
@@ -13,17 +13,20 @@ pub data LeafState : Type 0 where
   InText : Option LineEnding → LeafState
   InIndented : ℕ → Option LineEnding → LeafState
   InFenced : Fence → Option LineEnding → LeafState
+  InHtml : ℕ → Option LineEnding → LeafState
 
 abbrev pub state_of : OpenLeaf → LeafState
 state_of (Text ls) = InText (last_ending ls)
 state_of (Indented ls pending) = InIndented (length ls) (last_ending ls)
 state_of (Fenced fence opening ls) = InFenced fence (last_ending_or opening ls)
+state_of (OpenHtml kind ls) = InHtml kind (last_ending ls)
 
 -- the lines of an open leaf; fenced code has its info as one before them
 abbrev pub leaf_lines : OpenLeaf → List BlockLine
 leaf_lines (Text ls) = ls
 leaf_lines (Indented ls pending) = ls ++ pending
 leaf_lines (Fenced fence opening ls) = block_line fence.info None ∷ ls
+leaf_lines (OpenHtml kind ls) = ls
 
 -- a row that takes no lines
 abbrev pub lone : Row → BlockRow

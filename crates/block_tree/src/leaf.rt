@@ -1,5 +1,6 @@
 //! Leaf blocks that are open.
 use block_lines::code_fenced::Fence;
+use html_lines::HtmlKind;
 use markdown_options::LineEnding;
 
 /// The leaf that is open. Its lines are those that no row has taken.
@@ -17,6 +18,11 @@ pub enum OpenLeaf<'a> {
     /// Fenced code. Its first line is its info.
     Fenced {
         fence: Fence<'a>,
+        ending: Option<LineEnding>,
+    },
+    /// An HTML block.
+    Html {
+        kind: HtmlKind,
         ending: Option<LineEnding>,
     },
 }

@@ -1,6 +1,7 @@
 //! Lines to blocks.
 #![tactic(auto)]
 
+mod html;
 mod leaf;
 mod parser;
 mod rows;

@@ -1,11 +1,14 @@
 //! Blocks, line by line (CommonMark 4, 5 and appendix, phase 1).
-ghost use Rattle.std.specs.Prelude.{◌≡◌, ◌≤◌, ◌<◌, ◌+◌, ◌-◌, ◌&&◌, not, ◌^◌, ◌++◌, ◌∷◌, [], IfOk, length, vec_len};
-ghost use Rattle.markdown_definition.specs.Tree.{blocks, rest_line};
-ghost use Rattle.markdown_definition.specs.Rows.{all_taken, piece_line, piece_lines, rows_of, shown, shown_as};
+ghost use Rattle.std.specs.Prelude.{◌≡◌, ◌≤◌, ◌<◌, ◌+◌, ◌-◌, ◌&&◌, not, true, false, None, ◌^◌, ◌++◌, ◌∷◌, [], IfOk, length, vec_len};
+ghost use Rattle.markdown_definition.specs.Tree.{block_line, blocks, rest_line};
+ghost use Rattle.markdown_definition.specs.Rows.{all_taken, piece_line, piece_lines, rows_of, shown, shown_as, whole_line, whole_lines};
+ghost use Rattle.markdown_definition.specs.Columns.{bytes_of};
+ghost use Rattle.text_lines.specs.Rest.{view_line};
 ghost use Rattle.markdown_definition.specs.CodeIndented.{starts_code_indented as has_code_indent};
 ghost use Rattle.block_lines.specs.View.{rest_of};
 ghost use Rattle.block_tree.specs.Leaves.{lines_needed};
 
+use crate::html::{html_ends_here, html_start, html_stops};
 use crate::leaf::OpenLeaf;
 use crate::rows::Rows;
 use block_lines::Cursor;
@@ -13,7 +16,9 @@ use block_lines::code_fenced::{Fence, fence_line, fence_start, is_fence_end};
 use block_lines::code_indented::starts_code_indented;
 use block_lines::container::{continues, starts};
 use block_lines::heading_atx::{Atx, heading_atx};
+use block_lines::heading_setext::underline;
 use block_lines::thematic_break::is_break;
+use html_lines::HtmlKind;
 use markdown_definition::{Container, Piece, Row};
 use markdown_options::{Constructs, LineEnding};
 use std::alloc::{AllocError, Allocator};
@@ -36,22 +41,31 @@ struct Parser<'a, A: Allocator> {
     /// The containers that are open, the outermost first.
     open: Vec<Container, A>,
     leaf: OpenLeaf<'a>,
+    /// The text from the line on that is read.
+    rest: &'a str,
+    /// The text from the first line of the open paragraph on.
+    paragraph: &'a str,
     ghost counted: { taken ≡ all_taken rows.rows.items },
     ghost enough: { taken + lines_needed leaf ≤ vec_len pieces },
+    ghost rest_fits: { length rest.now < 2 ^ 61 },
+    ghost paragraph_fits: { length paragraph.now < 2 ^ 61 },
 }
 
 /// No leaf is open.
 const NOTHING: OpenLeaf<'static> = OpenLeaf::Text { ending: None };
 
 impl<'a, A: Allocator> Parser<'a, A> {
-    ghost use Rattle.std.specs.Prelude.{◌≡◌, ◌==◌, ◌&&◌, OnOk, IfOk, List, Option, Bool, true, false};
+    ghost use Rattle.std.specs.Prelude.{◌≡◌, ◌==◌, ◌&&◌, OnOk, IfOk, List, Option, Bool, ℕ, true, false, Some};
+    ghost use Rattle.html_lines.specs.Views.{number_of};
     ghost use Rattle.markdown_options.specs.declared.line_ending.LineEnding.{LineEnding};
     ghost use Rattle.markdown_definition.specs.Lines.{text_line};
     ghost use Rattle.markdown_definition.specs.Columns.{Rest};
     ghost use Rattle.markdown_definition.specs.Indents.{outdented};
     ghost use Rattle.markdown_definition.specs.CodeFenced.{Fence as FenceRecord};
-    ghost use Rattle.markdown_definition.specs.Tree.{Tree, Block, Blocks, BlockLine, tree, nothing, Nil, join, one, ended, step, after, new, close, close_leaf, text_line_of, block_line, last_ending, last_ending_or, is_ending, is_nothing, is_some_line, leaf_text, began_blank, OpenLeaf as OpenLeafOf};
-    ghost use Rattle.markdown_definition.specs.Tree.{Opening, leaf_line as line_of_leaf, has_text as is_text_open, Blank as BlankBlock, Break as BreakBlock, Heading as HeadingBlock, Leaf as OpenedLeaf, Inside, Text as TextLeaf, Indented as IndentedLeaf, Fenced as FencedLeaf};
+    ghost use Rattle.markdown_definition.specs.Tree.{Tree, Block, Blocks, BlockLine, tree, nothing, Nil, join, one, ended, step, after, new, close, close_leaf, text_line_of, block_line, last_ending, last_ending_or, is_ending, is_nothing, is_some_line, leaf_text, began_blank, OpenLeaf as OpenLeafOf, html_with, own_lines, turns};
+    ghost use Rattle.block_tree.specs.Turns.{IsText, turned_by};
+    ghost use Rattle.markdown_definition.specs.Tree.{Opening, leaf_line as line_of_leaf, has_text as is_text_open, Blank as BlankBlock, Paragraph as ParagraphBlock, Break as BreakBlock, Heading as HeadingBlock, Leaf as OpenedLeaf, Inside, Text as TextLeaf, Indented as IndentedLeaf, Fenced as FencedLeaf, OpenHtml as HtmlLeaf};
+    ghost use Rattle.std.specs.Prelude.{drop};
     ghost use Rattle.markdown_definition.specs.Rows.{block_rows, row_shown, lines_taken};
     ghost use Rattle.block_lines.specs.Fences.{fence_view};
     ghost use Rattle.block_tree.specs.Spine.{Level, Spine, level, spine, spine_at, spine_of, grown, exited};
@@ -60,8 +74,10 @@ impl<'a, A: Allocator> Parser<'a, A> {
 
     /// Reads a line: the containers that go on, then the leaf that takes the rest, or what is new.
     fn line(&mut self, on: &Constructs, line: Line<'a>) -> Result<(), AllocError>
+        requires definitions { on.now.definition ≡ false }
         ensures { OnOk result ((t : Tree) → HasRead self.old (spine_of t) → HasRead self.new (spine_of (step on.now t (text_line line.entry.content.now line.entry.ending)))) }
     {
+        self.rest = line.text;
         let (depth, rest) = self.descend(on, Cursor::new(line.content));
         if depth < self.open.len() {
             return self.start_line(on, depth, rest, line.ending);
@@ -70,6 +86,7 @@ impl<'a, A: Allocator> Parser<'a, A> {
             OpenLeaf::Text { .. } => self.start_line(on, depth, rest, line.ending),
             OpenLeaf::Indented { .. } => self.indented_line(on, rest, line.ending),
             OpenLeaf::Fenced { fence, .. } => self.fenced_line(on, fence, rest, line.ending),
+            OpenLeaf::Html { kind, .. } => self.html_line(on, kind, rest, line.ending),
         }
     }
 
@@ -107,6 +124,7 @@ impl<'a, A: Allocator> Parser<'a, A> {
             OpenLeaf::Text { .. } => self.taken == self.pieces.len(),
             OpenLeaf::Indented { .. } => false,
             OpenLeaf::Fenced { .. } => false,
+            OpenLeaf::Html { .. } => false,
         }
     }
 
@@ -118,6 +136,7 @@ impl<'a, A: Allocator> Parser<'a, A> {
             OpenLeaf::Text { .. } => self.taken < self.pieces.len(),
             OpenLeaf::Indented { .. } => false,
             OpenLeaf::Fenced { .. } => false,
+            OpenLeaf::Html { .. } => false,
         }
     }
 
@@ -128,6 +147,20 @@ impl<'a, A: Allocator> Parser<'a, A> {
         depth == self.open.len() && self.has_text()
     }
 
+    /// The rank of the heading that an underline makes of the open paragraph, where the line is in so
+    /// many containers, which are all of them.
+    fn turns(&self, on: &Constructs, depth: usize, rest: Cursor<'a>) -> Option<u8>
+        requires { on.now.definition ≡ false }
+        ensures turned { (around : List Level) (kids : Blocks) (away : Opening) (ending : Option LineEnding) → depth ≡ length around → HasRead self.now (spine_at around kids away) → turns on.now away (rest_of rest.entry) ending ≡ turned_by result away ending }
+        ensures here { (rank : ℕ) (around : List Level) (kids : Blocks) (away : Opening) → depth ≡ length around → HasRead self.now (spine_at around kids away) → result ≡ Some rank → IsText away }
+    {
+        if self.interrupts(depth) {
+            underline(on, rest)
+        } else {
+            None
+        }
+    }
+
     /// Indented code goes on where the rest has its indent, and may go on over a blank one.
     fn indented_line(
         &mut self,
@@ -135,6 +168,7 @@ impl<'a, A: Allocator> Parser<'a, A> {
         rest: Cursor<'a>,
         ending: Option<LineEnding>,
     ) -> Result<(), AllocError>
+        requires definitions { on.now.definition ≡ false }
         ensures { OnOk result ((around : List Level) (kids : Blocks) (ls pending : List BlockLine) → HasRead self.old (spine around kids (IndentedLeaf ls pending)) → HasRead self.new (grown around kids (leaf_grown on.now ending (rest_of rest.entry) (OpenedLeaf (IndentedLeaf ls pending))))) }
     {
         if rest.is_blank() {
@@ -159,7 +193,8 @@ impl<'a, A: Allocator> Parser<'a, A> {
         rest: Cursor<'a>,
         ending: Option<LineEnding>,
     ) -> Result<(), AllocError>
-        requires { self.old.taken + 1 ≤ vec_len self.old.pieces }
+        requires definitions { on.now.definition ≡ false }
+        requires lines { self.old.taken + 1 ≤ vec_len self.old.pieces }
         ensures { OnOk result ((around : List Level) (kids : Blocks) (opening : Option LineEnding) (ls : List BlockLine) → HasRead self.old (spine around kids (FencedLeaf (fence_view fence.entry) opening ls)) → HasRead self.new (grown around kids (leaf_grown on.now ending (rest_of rest.entry) (OpenedLeaf (FencedLeaf (fence_view fence.entry) opening ls))))) }
     {
         if !is_fence_end(on, &fence, rest) {
@@ -171,6 +206,41 @@ impl<'a, A: Allocator> Parser<'a, A> {
         self.end_leaf(Row::FencedCode(count), ending)
     }
 
+    /// An HTML block takes every line up to its end, which may come before a blank one.
+    fn html_line(
+        &mut self,
+        on: &Constructs,
+        kind: HtmlKind,
+        rest: Cursor<'a>,
+        ending: Option<LineEnding>,
+    ) -> Result<(), AllocError>
+        requires definitions { on.now.definition ≡ false }
+        ensures { OnOk result ((around : List Level) (kids : Blocks) (ls : List BlockLine) → HasRead self.old (spine around kids (HtmlLeaf (number_of kind) ls)) → HasRead self.new (grown around kids (leaf_grown on.now ending (rest_of rest.entry) (OpenedLeaf (HtmlLeaf (number_of kind) ls))))) }
+    {
+        if html_stops(kind, rest) {
+            let depth = self.open.len();
+            return self.start_line(on, depth, rest, ending);
+        }
+        self.html_with(kind, rest, ending)
+    }
+
+    /// One more line of an HTML block, which may end it.
+    fn html_with(
+        &mut self,
+        kind: HtmlKind,
+        rest: Cursor<'a>,
+        ending: Option<LineEnding>,
+    ) -> Result<(), AllocError>
+        ensures { OnOk result ((around : List Level) (kids : Blocks) (leaf : OpenLeafOf) (ls : List BlockLine) → leaf_lines leaf ≡ ls → HasRead self.old (spine around kids leaf) → HasRead self.new (grown around kids (html_with (number_of kind) ls (rest_of rest.entry) ending))) }
+    {
+        self.pieces.push(piece(rest, ending))?;
+        self.leaf = OpenLeaf::Html { kind, ending };
+        if html_ends_here(kind, rest) {
+            return self.close_html(ending);
+        }
+        Ok(())
+    }
+
     /// Reads the rest of a line after the containers that it is in, which are so many.
     fn start_line(
         &mut self,
@@ -179,13 +249,14 @@ impl<'a, A: Allocator> Parser<'a, A> {
         rest: Cursor<'a>,
         ending: Option<LineEnding>,
     ) -> Result<(), AllocError>
-        requires { depth ≤ vec_len self.old.open }
+        requires definitions { on.now.definition ≡ false }
+        requires depth { depth ≤ vec_len self.old.open }
         ensures { OnOk result (Grows self.old self.new depth (λ away. new (length (rest_of rest.entry)) on.now (depth == vec_len self.old.open) away ending (rest_of rest.entry))) }
     {
         let Some((container, after)) = starts(on, self.interrupts(depth), rest) else {
             return self.leaf_line(on, depth, rest, ending);
         };
-        self.close_to(depth)?;
+        self.close_to(on, depth)?;
         self.enter(container)?;
         let inside = self.enter_all(on, after)?;
         let depth = self.open.len();
@@ -212,34 +283,42 @@ impl<'a, A: Allocator> Parser<'a, A> {
         rest: Cursor<'a>,
         ending: Option<LineEnding>,
     ) -> Result<(), AllocError>
-        requires { depth ≤ vec_len self.old.open }
+        requires definitions { on.now.definition ≡ false }
+        requires depth { depth ≤ vec_len self.old.open }
         ensures { OnOk result (Grows self.old self.new depth (λ away. line_of_leaf on.now away (rest_of rest.entry) ending)) }
     {
         let paragraph = self.has_text();
         if rest.is_blank() {
-            self.close_to(depth)?;
+            self.close_to(on, depth)?;
             return self.blank_line(ending);
         }
         if begins_code(on, paragraph, rest) {
-            self.close_to(depth)?;
+            self.close_to(on, depth)?;
             return self.start_indented(rest, ending);
         }
         if let Some(fence) = fence_start(on, rest) {
-            self.close_to(depth)?;
+            self.close_to(on, depth)?;
             return self.start_fenced(fence, ending);
         }
+        if let Some(kind) = html_start(on, paragraph, rest) {
+            self.close_to(on, depth)?;
+            return self.html_with(kind, rest, ending);
+        }
         if let Some(atx) = heading_atx(on, rest) {
-            self.close_to(depth)?;
+            self.close_to(on, depth)?;
             return self.heading(atx, ending);
         }
+        if let Some(rank) = self.turns(on, depth, rest) {
+            return self.setext_heading(rank, ending);
+        }
         if is_break(on, rest) {
-            self.close_to(depth)?;
+            self.close_to(on, depth)?;
             return self.thematic_break(ending);
         }
         if paragraph {
             return self.text_line(rest, ending);
         }
-        self.close_to(depth)?;
+        self.close_to(on, depth)?;
         self.text_line(rest, ending)
     }
 
@@ -270,6 +349,14 @@ impl<'a, A: Allocator> Parser<'a, A> {
         self.rows.block(Row::Heading(atx.rank))?;
         self.taken += 1;
         self.rows.ending(ending)
+    }
+
+    /// The open paragraph becomes a heading.
+    fn setext_heading(&mut self, rank: u8, ending: Option<LineEnding>) -> Result<(), AllocError>
+        ensures { OnOk result ((around : List Level) (kids : Blocks) (ls : List BlockLine) → HasRead self.old (spine around kids (TextLeaf ls)) → HasRead self.new (spine around (join kids (ended (HeadingBlock rank (own_lines ls)) ending)) (TextLeaf []))) }
+    {
+        let count = self.pieces.len() - self.taken;
+        self.end_leaf(Row::SetextHeading { rank, count }, ending)
     }
 
     /// Indented code starts, where no leaf is open.
@@ -306,6 +393,9 @@ impl<'a, A: Allocator> Parser<'a, A> {
     fn text_line(&mut self, rest: Cursor<'a>, ending: Option<LineEnding>) -> Result<(), AllocError>
         ensures { OnOk result ((around : List Level) (kids : Blocks) (ls : List BlockLine) → HasRead self.old (spine around kids (TextLeaf ls)) → HasRead self.new (spine around kids (TextLeaf (ls ++ rest_line (rest_of rest.entry) ending ∷ [])))) }
     {
+        if !self.has_text() {
+            self.paragraph = self.rest;
+        }
         self.pieces.push(piece(rest, ending))?;
         self.leaf = OpenLeaf::Text { ending };
         Ok(())
@@ -321,12 +411,13 @@ impl<'a, A: Allocator> Parser<'a, A> {
     }
 
     /// Closes the open leaf, and all containers but so many.
-    fn close_to(&mut self, depth: usize) -> Result<(), AllocError>
-        requires { depth ≤ vec_len self.old.open }
-        ensures read { OnOk result (Grows self.old self.new depth (λ away. tree (close away) nothing)) }
+    fn close_to(&mut self, on: &Constructs, depth: usize) -> Result<(), AllocError>
+        requires definitions { on.now.definition ≡ false }
+        requires depth { depth ≤ vec_len self.old.open }
+        ensures read { OnOk result (Grows self.old self.new depth (λ away. tree (close on.now away) nothing)) }
         ensures count { OnOk result (vec_len self.new.open ≡ depth) }
     {
-        self.close_leaf()?;
+        self.close_leaf(on)?;
         while self.open.len() > depth {
             self.exit()?;
         }
@@ -346,35 +437,69 @@ impl<'a, A: Allocator> Parser<'a, A> {
     }
 
     /// Closes the open leaf, if there is one.
-    fn close_leaf(&mut self) -> Result<(), AllocError>
-        ensures read { OnOk result ((around : List Level) (kids : Blocks) (leaf : OpenLeafOf) → HasRead self.old (spine around kids leaf) → HasRead self.new (spine around (join kids (close_leaf leaf)) (TextLeaf []))) }
+    fn close_leaf(&mut self, on: &Constructs) -> Result<(), AllocError>
+        requires definitions { on.now.definition ≡ false }
+        ensures read { OnOk result ((around : List Level) (kids : Blocks) (leaf : OpenLeafOf) → HasRead self.old (spine around kids leaf) → HasRead self.new (spine around (join kids (close_leaf on.now leaf)) (TextLeaf []))) }
         ensures containers { self.new.open ≡ self.old.open }
     {
         match self.leaf {
-            OpenLeaf::Text { ending } => self.close_text(ending),
+            OpenLeaf::Text { ending } => self.close_text(on, ending),
             OpenLeaf::Indented { count, ending } => self.close_indented(count, ending),
             OpenLeaf::Fenced { ending, .. } => self.close_fenced(ending),
+            OpenLeaf::Html { ending, .. } => self.close_html(ending),
         }
     }
 
-    fn close_text(&mut self, ending: Option<LineEnding>) -> Result<(), AllocError>
-        ensures read { OnOk result ((around : List Level) (kids : Blocks) (ls : List BlockLine) → ending ≡ last_ending ls → HasRead self.old (spine around kids (TextLeaf ls)) → HasRead self.new (spine around (join kids (close_leaf (TextLeaf ls))) (TextLeaf []))) }
+    fn close_text(&mut self, on: &Constructs, ending: Option<LineEnding>) -> Result<(), AllocError>
+        requires definitions { on.now.definition ≡ false }
+        ensures read { OnOk result ((around : List Level) (kids : Blocks) (ls : List BlockLine) → ending ≡ last_ending ls → HasRead self.old (spine around kids (TextLeaf ls)) → HasRead self.new (spine around (join kids (close_leaf on.now (TextLeaf ls))) (TextLeaf []))) }
         ensures containers { self.new.open ≡ self.old.open }
     {
         let count = self.pieces.len() - self.taken;
         if count == 0 {
             return Ok(());
         }
+        if self.has_whole_lines() {
+            return self.close_whole(count, ending);
+        }
         self.end_leaf(Row::Paragraph(count), ending)
+    }
+
+    /// Whether the lines of the open leaf are two or more whole lines of the text, from that of
+    /// `paragraph` on.
+    fn has_whole_lines(&self) -> bool
+        ensures { result ≡ true → drop self.now.taken (piece_lines self.now.pieces.items) ≡ whole_lines (length self.now.pieces.items - self.now.taken) self.now.paragraph.now }
+    {
+        let lines = &self.pieces[self.taken..];
+        lines.len() >= 2 && are_whole(self.paragraph, lines)
+    }
+
+    /// The open paragraph ends. Its lines are kept as one.
+    fn close_whole(&mut self, count: usize, ending: Option<LineEnding>) -> Result<(), AllocError>
+        ensures read { OnOk result ((around : List Level) (kids : Blocks) (ls : List BlockLine) → ls ≡ whole_lines count self.old.paragraph.now → HasRead self.old (spine around kids (TextLeaf ls)) → HasRead self.new (spine around (join kids (ended (ParagraphBlock (own_lines ls)) ending)) (TextLeaf []))) }
+        ensures containers { self.new.open ≡ self.old.open }
+    {
+        self.leaf = NOTHING;
+        self.pieces.truncate(self.taken);
+        self.pieces.push(whole(self.paragraph))?;
+        self.end_leaf(Row::WholeParagraph(count), ending)
     }
 
     fn close_fenced(&mut self, ending: Option<LineEnding>) -> Result<(), AllocError>
         requires { self.old.taken + 1 ≤ vec_len self.old.pieces }
-        ensures read { OnOk result ((around : List Level) (kids : Blocks) (fence : FenceRecord) (opening : Option LineEnding) (ls : List BlockLine) → ending ≡ last_ending_or opening ls → HasRead self.old (spine around kids (FencedLeaf fence opening ls)) → HasRead self.new (spine around (join kids (close_leaf (FencedLeaf fence opening ls))) (TextLeaf []))) }
+        ensures read { OnOk result ((around : List Level) (kids : Blocks) (switches : Constructs) (fence : FenceRecord) (opening : Option LineEnding) (ls : List BlockLine) → ending ≡ last_ending_or opening ls → HasRead self.old (spine around kids (FencedLeaf fence opening ls)) → HasRead self.new (spine around (join kids (close_leaf switches (FencedLeaf fence opening ls))) (TextLeaf []))) }
         ensures containers { self.new.open ≡ self.old.open }
     {
         let count = self.pieces.len() - self.taken - 1;
         self.end_leaf(Row::UnclosedCode(count), ending)
+    }
+
+    fn close_html(&mut self, ending: Option<LineEnding>) -> Result<(), AllocError>
+        ensures read { OnOk result ((around : List Level) (kids : Blocks) (switches : Constructs) (kind : ℕ) (ls : List BlockLine) → ending ≡ last_ending ls → HasRead self.old (spine around kids (HtmlLeaf kind ls)) → HasRead self.new (spine around (join kids (close_leaf switches (HtmlLeaf kind ls))) (TextLeaf []))) }
+        ensures containers { self.new.open ≡ self.old.open }
+    {
+        let count = self.pieces.len() - self.taken;
+        self.end_leaf(Row::Html(count), ending)
     }
 
     /// The open leaf ends: a row takes all lines that are left.
@@ -391,7 +516,7 @@ impl<'a, A: Allocator> Parser<'a, A> {
 
     fn close_indented(&mut self, count: usize, ending: Option<LineEnding>) -> Result<(), AllocError>
         requires { self.old.taken + count ≤ vec_len self.old.pieces }
-        ensures read { OnOk result ((around : List Level) (kids : Blocks) (ls pending : List BlockLine) → count ≡ length ls → ending ≡ last_ending ls → HasRead self.old (spine around kids (IndentedLeaf ls pending)) → HasRead self.new (spine around (join kids (close_leaf (IndentedLeaf ls pending))) (TextLeaf []))) }
+        ensures read { OnOk result ((around : List Level) (kids : Blocks) (switches : Constructs) (ls pending : List BlockLine) → count ≡ length ls → ending ≡ last_ending ls → HasRead self.old (spine around kids (IndentedLeaf ls pending)) → HasRead self.new (spine around (join kids (close_leaf switches (IndentedLeaf ls pending))) (TextLeaf []))) }
         ensures containers { self.new.open ≡ self.old.open }
     {
         self.rows.block(Row::IndentedCode(count))?;
@@ -424,6 +549,42 @@ fn piece<'a>(rest: Cursor<'a>, ending: Option<LineEnding>) -> Piece<'a>
     }
 }
 
+/// The lines of a paragraph that are whole lines of the text.
+fn whole<'a>(text: &'a str) -> Piece<'a>
+    ensures line { piece_line result ≡ block_line text.now None }
+    ensures bytes { bytes_of text.now ≡ text.now }
+{
+    Piece {
+        text,
+        owed: 0,
+        ending: None,
+    }
+}
+
+/// Whether a text begins with these lines.
+fn are_whole(text: &str, pieces: &[Piece<'_>]) -> bool
+    requires { length text.now < 2 ^ 61 }
+    ensures { result ≡ true → piece_lines pieces.now ≡ whole_lines (length pieces.now) text.now }
+{
+    let mut lines = Lines::new(text);
+    for piece in pieces {
+        let Some(line) = lines.next() else {
+            return false;
+        };
+        if !is_line(*piece, line) {
+            return false;
+        }
+    }
+    true
+}
+
+/// Whether a line of a block is this whole line.
+fn is_line(piece: Piece<'_>, line: Line<'_>) -> bool
+    ensures { result ≡ true → piece_line piece.entry ≡ whole_line (view_line line.entry) }
+{
+    piece.owed == 0 && piece.ending == line.ending && piece.text == line.content
+}
+
 /// The blocks of a text without a byte order mark.
 pub fn block_rows<'a, A: Allocator + Clone>(
     alloc: A,
@@ -431,6 +592,7 @@ pub fn block_rows<'a, A: Allocator + Clone>(
     on: &Constructs,
 ) -> Result<BlockRows<'a, A>, AllocError>
     requires fits { length text.now < 2 ^ 61 }
+    requires definitions { on.now.definition ≡ false }
     ensures shown { IfOk result (λ r. shown r.rows.items (piece_lines r.pieces.items) ≡ shown_as (rows_of (blocks on.now text.entry.now)) []) }
     ensures enough { IfOk result (λ r. all_taken r.rows.items ≤ length r.pieces.items) }
 {
@@ -441,11 +603,13 @@ pub fn block_rows<'a, A: Allocator + Clone>(
         taken: 0,
         open: Vec::new(alloc),
         leaf: NOTHING,
+        rest: text,
+        paragraph: text,
     };
     for line in Lines::new(text) {
         parser.line(on, line)?;
     }
-    parser.close_to(0)?;
+    parser.close_to(on, 0)?;
     let Parser { rows, pieces, .. } = parser;
     Ok(BlockRows {
         rows: rows.finish()?,

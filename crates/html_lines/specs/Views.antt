@@ -1,7 +1,7 @@
 -- What the answers on a line stand for.
 use Rattle.std.specs.Prelude.{ℕ, List, Option, None, Some}
 use Rattle.std.proofs.Common.{Bor}
-use Rattle.markdown_definition.specs.HtmlTags as tag
+use Rattle.html_lines.specs.Places as tag
 use Rattle.html_lines.specs.declared.tags.Place.{Place}
 use Rattle.html_lines.specs.declared.tags.Place.TheVariants as at
 use Rattle.html_lines.specs.declared.html_flow.HtmlKind.{HtmlKind}

@@ -1,8 +1,8 @@
 //! Where HTML blocks start and end (CommonMark 4.6). A line is given by its bytes after the spaces
 //! and tabs ahead.
 ghost use Rattle.std.specs.Prelude.{◌≡◌};
-ghost use Rattle.markdown_definition.specs.Letters.{begins_with_letter, somewhere};
-ghost use Rattle.markdown_definition.specs.HtmlFlow.{element_name, after_element_name, ends_name, starts_raw, starts_declaration, without_slash, begins_with_block_name, starts_basic, stands_alone, starts_complete, html_kind, begins_with_raw_end, html_ends};
+ghost use Rattle.markdown_definition.specs.Letters.{begins_with_letter, without_slash, somewhere};
+ghost use Rattle.markdown_definition.specs.HtmlFlow.{element_name, after_element_name, ends_name, starts_raw, starts_declaration, begins_with_block_name, starts_basic, stands_alone, starts_complete, html_kind, begins_with_raw_end, html_ends};
 ghost use Rattle.html_lines.specs.Views.{rest_of, number_of, kind_number};
 
 use crate::bytes::{holds, is_blank, is_space_or_tab};

@@ -107,6 +107,8 @@ fn default_built() -> Constructs
         code_fenced: true,
         code_indented: true,
         heading_atx: true,
+        heading_setext: true,
+        html_flow: true,
         list_item: true,
         thematic_break: true,
         ..Constructs::none()

@@ -54,6 +54,7 @@ fn print<A: Allocator + Clone>(
         alloc,
         room(text.len()),
         ending,
+        &options.compile,
         &blocks.rows,
         &blocks.pieces,
     )

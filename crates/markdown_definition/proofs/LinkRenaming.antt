@@ -1,7 +1,8 @@
 -- No part of a link looks at which space, tab or line ending a code is: where each stands for another of its kind, the parts do so too.
 use Rattle.std.proofs.Common.{◌≡◌, ℕ, ◌+◌, ◌-◌, Bool, true, false, cond, not, ◌&&◌, ◌||◌, eqb, List, [], ◌∷◌, map, take, drop, length, Option, None, Some, refl, sym, ap, ◌∙◌, inl, inr}
 use Rattle.std.proofs.lemmas.Bool.{cases_Bool, cond-true, cond-false, eqb-true, ne_eqb, or_from, true≢false}
-use Rattle.std.proofs.lemmas.List.{length-map, take-map}
+use Rattle.std.proofs.lemmas.List.{length-map, take-map, drop-map}
+use Rattle.std.specs.List.{prefix_len}
 use Rattle.std.specs.Option.{option_map}
 use Rattle.std.specs.Prelude.{nat_le}
 use Rattle.markdown_definition.specs.Columns.{is_white}
@@ -71,10 +72,12 @@ module _ (f : ℕ → ℕ) (renames : Renames f) where
   up_to_renamed content None = refl
   up_to_renamed content (Some rest) = ap (λ text. Some (part text (map f rest))) (before_renamed content rest)
 
+  white_len_same : (cs : List ℕ) → prefix_len is_white (map f cs) ≡ prefix_len is_white cs
+  white_len_same [] = refl
+  white_len_same (c ∷ cs) = cond_same _ _ _ _ _ _ (renames.white c) (ap (λ n. 1 + n) (white_len_same cs)) refl
+
   spaces_renamed : (cs : List ℕ) → after_spaces (map f cs) ≡ map f (after_spaces cs)
-  spaces_renamed [] = refl
-  spaces_renamed (c ∷ cs) =
-      cond_same _ _ _ _ _ _ (renames.white c) (spaces_renamed cs) refl ∙ sym (map_cond (map f) (is_white c) (after_spaces cs) (c ∷ cs))
+  spaces_renamed cs = ap (λ n. drop n (map f cs)) (white_len_same cs) ∙ drop-map f (prefix_len is_white cs) cs
 
   ending_renamed : (cs : List ℕ) → after_ending (map f cs) ≡ map f (after_ending cs)
   ending_renamed [] = refl

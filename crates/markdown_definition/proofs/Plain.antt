@@ -11,7 +11,7 @@ paragraph ls = Leaf (Text ls)
 
 -- a blank line closes the open paragraph
 abbrev pub blank_tree : List BlockLine → Option LineEnding → Tree
-blank_tree ls ending = tree (join (close_leaf (Text ls)) (one (Blank ending))) nothing
+blank_tree ls ending = tree (join (close_leaf no_constructs (Text ls)) (one (Blank ending))) nothing
 
 -- any other line goes on it, or starts one
 abbrev pub text_tree : List BlockLine → Rest → Option LineEnding → Tree
@@ -22,7 +22,7 @@ abbrev pub plain_tree : List BlockLine → Rest → Option LineEnding → Tree
 plain_tree ls rest ending = cond (is_blank rest) (blank_tree ls ending) (text_tree ls rest ending)
 
 -- a line of text
-plain_text : (ls : List BlockLine) (rest : Rest) (ending : Option LineEnding) → text_line_of (paragraph ls) rest ending ≡ text_tree ls rest ending
+plain_text : (ls : List BlockLine) (rest : Rest) (ending : Option LineEnding) → text_line_of no_constructs (paragraph ls) rest ending ≡ text_tree ls rest ending
 plain_text [] rest ending = refl
 plain_text (line ∷ others) rest ending = refl
 

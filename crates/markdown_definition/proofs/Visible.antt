@@ -8,6 +8,7 @@ use Rattle.std.proofs.lemmas.List.Sums.{fold-append}
 use Rattle.std.proofs.lemmas.List.Concat.{flat_map-append}
 use Rattle.markdown_options.specs.declared.line_ending.LineEnding.{LineEnding}
 use Rattle.markdown_options.specs.declared.line_ending.LineEnding.TheVariants.{CarriageReturnLineFeed, CarriageReturn, LineFeed}
+use Rattle.markdown_options.specs.declared.configuration.CompileOptions.{CompileOptions}
 use Rattle.markdown_options.specs.declared.configuration.Options.{Options}
 use Rattle.markdown_options.specs.LineEndings.{ending_bytes}
 use Rattle.markdown_options.specs.Defaults.{no_constructs}
@@ -277,9 +278,9 @@ no_lists Nil p = refl
 no_lists (Cons b bs) p = no_item b (grouped bs) p.0 ∙ ap (Cons b) (no_lists bs p.1)
 
 -- blocks show what they say
-paragraph_shows : (default : List ℕ) (silent : Bool) (ls : List BlockLine) → Shows default [] → LinesEndNowhere ls
-    → PiecesShow default (block_pieces true false silent (Paragraph ls)) (said_in_lines ls)
-paragraph_shows default silent ls d p =
+paragraph_shows : (options : CompileOptions) (default : List ℕ) (silent : Bool) (ls : List BlockLine) → Shows default [] → LinesEndNowhere ls
+    → PiecesShow default (block_pieces options true false silent (Paragraph ls)) (said_in_lines ls)
+paragraph_shows options default silent ls d p =
     let start = codes "<p>" in
     let end = codes "</p>" in
     let said = said_in_lines ls in
@@ -288,28 +289,28 @@ paragraph_shows default silent ls d p =
     (pieces_bytes default (text_of ls) said (lines_show ls p)) (pieces_bytes default end [] shows_end_of_p) in
     let more = pieces-append default (Bytes start ∷ []) (Bytes (text_of ls) ∷ Bytes end ∷ []) [] (said ++ []) (pieces_bytes default start [] shows_p) last in
     let all = pieces-append default (Fresh ∷ []) (Bytes start ∷ Bytes (text_of ls) ∷ Bytes end ∷ []) [] (said ++ []) (pieces_fresh default d) more in
-    subst (PiecesShow default (block_pieces true false silent (Paragraph ls))) (append-nil said) all
+    subst (PiecesShow default (block_pieces options true false silent (Paragraph ls))) (append-nil said) all
 
-ending_shows : (default : List ℕ) (silent : Bool) (ending : Option LineEnding) → PiecesShow default (block_pieces true false silent (Ending ending)) []
-ending_shows default silent ending =
+ending_shows : (options : CompileOptions) (default : List ℕ) (silent : Bool) (ending : Option LineEnding) → PiecesShow default (block_pieces options true false silent (Ending ending)) []
+ending_shows options default silent ending =
     cond_both silent [] (Bytes (ending_text ending) ∷ []) (λ ps. PiecesShow default ps [])
     (λ _. pieces_none default)
     (λ _. pieces_bytes default (ending_text ending) [] (shows_ending_text ending))
 
-block_shows : (default : List ℕ) (silent : Bool) (b : Block) → Shows default [] → BlockEndsNowhere b
-    → PiecesShow default (block_pieces true false silent b) (said_in_block b)
-block_shows default silent (Paragraph ls) d p = paragraph_shows default silent ls d p
-block_shows default silent (Ending ending) d p = ending_shows default silent ending
-block_shows default silent (Blank ending) d p = pieces_none default
-block_shows default silent b d p = absurd p
+block_shows : (options : CompileOptions) (default : List ℕ) (silent : Bool) (b : Block) → Shows default [] → BlockEndsNowhere b
+    → PiecesShow default (block_pieces options true false silent b) (said_in_block b)
+block_shows options default silent (Paragraph ls) d p = paragraph_shows options default silent ls d p
+block_shows options default silent (Ending ending) d p = ending_shows options default silent ending
+block_shows options default silent (Blank ending) d p = pieces_none default
+block_shows options default silent b d p = absurd p
 
-blocks_show : (default : List ℕ) (silent : Bool) (bs : Blocks) → Shows default [] → BlocksEndNowhere bs
-    → PiecesShow default (children_pieces true false silent bs) (said_in_blocks bs)
-blocks_show default silent Nil d p = pieces_none default
-blocks_show default silent (Cons b bs) d p =
+blocks_show : (options : CompileOptions) (default : List ℕ) (silent : Bool) (bs : Blocks) → Shows default [] → BlocksEndNowhere bs
+    → PiecesShow default (children_pieces options true false silent bs) (said_in_blocks bs)
+blocks_show options default silent Nil d p = pieces_none default
+blocks_show options default silent (Cons b bs) d p =
     let next = silences true false b in
-    pieces-append default (block_pieces true false silent b) (children_pieces true false next bs) (said_in_block b) (said_in_blocks bs)
-    (block_shows default silent b d p.0) (blocks_show default next bs d p.1)
+    pieces-append default (block_pieces options true false silent b) (children_pieces options true false next bs) (said_in_block b) (said_in_blocks bs)
+    (block_shows options default silent b d p.0) (blocks_show options default next bs d p.1)
 
 -- blocks joined
 nowhere-join : (bs cs : Blocks) → BlocksEndNowhere bs → BlocksEndNowhere cs → BlocksEndNowhere (join bs cs)
@@ -345,18 +346,18 @@ record TreeSays (t : Tree) (said : List ℕ) : Type 0 where
   says : said_in_blocks t.done ++ said_in_open t.now ≡ said
 
 -- closing keeps what is said
-nowhere_closed : (ls : List BlockLine) → LinesEndNowhere ls → BlocksEndNowhere (close_leaf (Text ls))
+nowhere_closed : (ls : List BlockLine) → LinesEndNowhere ls → BlocksEndNowhere (close_leaf no_constructs (Text ls))
 nowhere_closed [] p = tt
 nowhere_closed (line ∷ others) p = (nowhere_in_own (line ∷ others) p, (tt, tt))
 
-said_closed : (ls : List BlockLine) → said_in_blocks (close_leaf (Text ls)) ≡ said_in_lines ls
+said_closed : (ls : List BlockLine) → said_in_blocks (close_leaf no_constructs (Text ls)) ≡ said_in_lines ls
 said_closed [] = refl
 said_closed (line ∷ others) = append-nil (said_in_lines (own_lines (line ∷ others))) ∙ said_in_own (line ∷ others)
 
 -- a blank line says nothing
 blank_says : (ls : List BlockLine) (ending : Option LineEnding) → LinesEndNowhere ls → TreeSays (blank_tree ls ending) (said_in_lines ls)
 blank_says ls ending p =
-    let done = close_leaf (Text ls) in
+    let done = close_leaf no_constructs (Text ls) in
     record {
       done = nowhere-join done (one (Blank ending)) (nowhere_closed ls p) (tt, tt);
       now = tt;
@@ -454,44 +455,44 @@ steps_say (line ∷ ls) t said p q =
 tree_says : (text : List ℕ) → TreeSays (fold (step no_constructs) empty_tree (lines text)) (all_said_by (lines text))
 tree_says text = steps_say (lines text) empty_tree [] (record { done = tt; now = tt; says = refl }) (nowhere_in_lines text)
 
-said_at_end : (t : Tree) (said : List ℕ) → TreeSays t said → said_in_blocks (closed t) ≡ said
+said_at_end : (t : Tree) (said : List ℕ) → TreeSays t said → said_in_blocks (closed no_constructs t) ≡ said
 said_at_end t said p =
-    let kept = at_paragraph (λ o. said_in_blocks (close o) ≡ said_in_open o) t.now p.now (λ ls r. said_closed ls) in
-    said-join t.done (close t.now) ∙ ap (λ s. said_in_blocks t.done ++ s) kept ∙ p.says
+    let kept = at_paragraph (λ o. said_in_blocks (close no_constructs o) ≡ said_in_open o) t.now p.now (λ ls r. said_closed ls) in
+    said-join t.done (close no_constructs t.now) ∙ ap (λ s. said_in_blocks t.done ++ s) kept ∙ p.says
 
-nowhere_at_end : (t : Tree) (said : List ℕ) → TreeSays t said → BlocksEndNowhere (closed t)
+nowhere_at_end : (t : Tree) (said : List ℕ) → TreeSays t said → BlocksEndNowhere (closed no_constructs t)
 nowhere_at_end t said p =
-    nowhere-join t.done (close t.now) p.done (at_paragraph (λ o. BlocksEndNowhere (close o)) t.now p.now nowhere_closed)
+    nowhere-join t.done (close no_constructs t.now) p.done (at_paragraph (λ o. BlocksEndNowhere (close no_constructs o)) t.now p.now nowhere_closed)
 
 -- a page shows what its blocks say
-document_shows : (default : List ℕ) (bs : Blocks) → Shows default [] → BlocksEndNowhere bs
-    → Shows (layout default (document_pieces bs)) (said_in_blocks bs)
-document_shows default bs d p =
+document_shows : (options : CompileOptions) (default : List ℕ) (bs : Blocks) → Shows default [] → BlocksEndNowhere bs
+    → Shows (layout default (document_pieces options bs)) (said_in_blocks bs)
+document_shows options default bs d p =
     let last = last_piece (ends_blank false bs) in
-    let shown = blocks_show default false bs d p in
-    let all = pieces-append default (children_pieces true false false bs) last (said_in_blocks bs) [] shown (pieces_last default (ends_blank false bs) d) in
-    subst (λ cs. Shows (layout default (children_pieces true false false cs ++ last)) (said_in_blocks bs)) (sym (no_lists bs p))
-    (subst (Shows (layout default (children_pieces true false false bs ++ last))) (append-nil (said_in_blocks bs)) (all [] [] (λ y. refl)))
+    let shown = blocks_show options default false bs d p in
+    let all = pieces-append default (children_pieces options true false false bs) last (said_in_blocks bs) [] shown (pieces_last default (ends_blank false bs) d) in
+    subst (λ cs. Shows (layout default (children_pieces options true false false cs ++ last)) (said_in_blocks bs)) (sym (no_lists bs p))
+    (subst (Shows (layout default (children_pieces options true false false bs ++ last))) (append-nil (said_in_blocks bs)) (all [] [] (λ y. refl)))
 
 -- what bytes show where nothing follows
 shows_alone : (x t : List ℕ) → Shows x t → visible false x ≡ t
 shows_alone x t p = ap (visible false) (sym (append-nil x)) ∙ p [] ∙ append-nil t
 
-page_shows : (text : List ℕ) (ending : LineEnding)
-    → visible false (layout (ending_bytes ending) (document_pieces (blocks no_constructs text))) ≡ all_said_by (lines text)
-page_shows text ending =
+page_shows : (options : CompileOptions) (text : List ℕ) (ending : LineEnding)
+    → visible false (layout (ending_bytes ending) (document_pieces options (blocks no_constructs text))) ≡ all_said_by (lines text)
+page_shows options text ending =
     let t = fold (step no_constructs) empty_tree (lines text) in
     let said = all_said_by (lines text) in
     let p : TreeSays t said = tree_says text in
-    shows_alone (layout (ending_bytes ending) (document_pieces (closed t))) (said_in_blocks (closed t))
-    (document_shows (ending_bytes ending) (closed t) (shows_ending ending) (nowhere_at_end t said p))
+    shows_alone (layout (ending_bytes ending) (document_pieces options (closed no_constructs t))) (said_in_blocks (closed no_constructs t))
+    (document_shows options (ending_bytes ending) (closed no_constructs t) (shows_ending ending) (nowhere_at_end t said p))
     ∙ said_at_end t said p
 
 marked_page_shows : (text : List ℕ) (options : Options) → options.parse.constructs ≡ no_constructs
     → visible false (marked_html text options) ≡ all_said_by (lines text)
 marked_page_shows text options off =
     let ending = default_ending options text in
-    ap (λ on. visible false (layout (ending_bytes ending) (document_pieces (blocks on text)))) off ∙ page_shows text ending
+    ap (λ on. visible false (layout (ending_bytes ending) (document_pieces options.compile (blocks on text)))) off ∙ page_shows options.compile text ending
 
 pub visible_law : VisibleLaw
 visible_law text options off = marked_page_shows (without_mark text) options off

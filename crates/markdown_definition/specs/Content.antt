@@ -4,7 +4,7 @@ use Rattle.std.specs.List.{flat_map}
 use Rattle.markdown_options.specs.declared.line_ending.LineEnding.{LineEnding}
 use Rattle.markdown_options.specs.declared.line_ending.LineEnding.TheVariants.{CarriageReturnLineFeed, CarriageReturn, LineFeed}
 use Rattle.markdown_definition.specs.Columns.{is_white}
-use Rattle.markdown_definition.specs.Tree.{BlockLine}
+use Rattle.markdown_definition.specs.Blocks.{BlockLine}
 
 -- A code of a content is a byte, 256 for a column that is left of a tab, or the one code of a line ending.
 

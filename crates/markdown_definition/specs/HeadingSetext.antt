@@ -5,6 +5,7 @@ use Rattle.markdown_definition.specs.Columns.{Rest, bare, bytes_of}
 use Rattle.markdown_definition.specs.Indents.{small_indent}
 use Rattle.markdown_definition.specs.Runs.{is_run}
 
+-- a run of `=` or of `-`, and then only spaces and tabs
 abbrev pub underline_of : List ℕ → Option ℕ
 underline_of text = if is_run 1 61 text then Some 1 else (if is_run 1 45 text then Some 2 else None)
 

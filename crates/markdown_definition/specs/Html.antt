@@ -3,14 +3,16 @@ use Rattle.std.specs.Prelude.{ℕ, ◌+◌, Bool, true, false, if◌then◌else�
 use Rattle.std.specs.List.{flat_map}
 use Rattle.std.specs.Fmt.{decimal}
 use Rattle.markdown_options.specs.declared.line_ending.LineEnding.{LineEnding}
+use Rattle.markdown_options.specs.declared.configuration.CompileOptions.{CompileOptions}
 use Rattle.markdown_options.specs.declared.configuration.Options.{Options}
 use Rattle.markdown_options.specs.LineEndings.{ending_bytes}
 use Rattle.markdown_definition.specs.declared.container.Container.{Container}
 use Rattle.markdown_definition.specs.declared.container.Container.TheVariants.{Quote, Item}
 use Rattle.markdown_definition.specs.Lines.{ending_text, first_line, without_mark}
-use Rattle.markdown_definition.specs.Columns.{trimmed, is_tab_column}
-use Rattle.markdown_definition.specs.Encode.{encode}
-use Rattle.markdown_definition.specs.Tree.{BlockLine, Block, Paragraph, Heading, Break, IndentedCode, FencedCode, Holds, Items, Ending, Blank, Blocks, Nil, Cons, own_lines, is_ending, blocks}
+use Rattle.markdown_definition.specs.Columns.{trimmed, is_tab_column, bytes_of}
+use Rattle.markdown_definition.specs.Encode.{encode, plain}
+use Rattle.markdown_definition.specs.TagFilter.{tags_filtered}
+use Rattle.markdown_definition.specs.Tree.{BlockLine, Block, Paragraph, Heading, Break, IndentedCode, FencedCode, Html, Definition, Holds, Items, Ending, Blank, Blocks, Nil, Cons, own_lines, is_ending, blocks}
 use Rattle.markdown_definition.specs.Lists.{grouped, is_loose}
 use Rattle.markdown_definition.specs.Pieces.{Piece, Bytes, Eol, Fresh, layout}
 
@@ -34,6 +36,20 @@ code_line line = encode (map code_byte line.codes) ++ ending_text line.ending
 
 abbrev pub code_of : List BlockLine → List ℕ
 code_of ls = flat_map code_line ls
+
+-- raw HTML is printed as it is where that is allowed, and may be filtered; otherwise as text (CommonMark 4.6, GFM 6.11)
+abbrev pub filtered : CompileOptions → List ℕ → List ℕ
+filtered options bytes = if options.gfm_tagfilter then tags_filtered bytes else bytes
+
+abbrev pub raw_html : CompileOptions → List ℕ → List ℕ
+raw_html options bytes = if options.allow_dangerous_html then plain (filtered options bytes) else encode bytes
+
+-- lines of HTML with their endings; the columns that are left of a tab aren't printed
+abbrev pub html_line : CompileOptions → BlockLine → List ℕ
+html_line options line = raw_html options (bytes_of line.codes) ++ ending_text line.ending
+
+abbrev pub html_of : CompileOptions → List BlockLine → List ℕ
+html_of options ls = flat_map (html_line options) ls
 
 -- ---- tags, where 48 is the digit 0
 
@@ -83,44 +99,48 @@ fenced_content top closed (line ∷ others) = fenced_lines top closed (line ∷ 
 abbrev pub fresh_unless : Bool → List Piece
 fresh_unless said = if said then [] else Fresh ∷ []
 
--- whether the ending after this child prints nothing: after a tight paragraph, and after fenced code at the top that isn't closed
+-- whether the ending after this child prints nothing: after a tight paragraph, after fenced code at the top that isn't closed, and after a definition
 abbrev pub silences : Bool → Bool → Block → Bool
 silences top tight (Paragraph ls) = tight
 silences top tight (FencedCode info closed ls) = top && not closed
+silences top tight (Definition label destination title) = true
 silences top tight b = false
 
--- whether the last block of an item, if it has any, is a tight paragraph; `before` says it of the blocks before
+-- whether the last block of an item that prints anything, if it has one, is a tight paragraph; `before` says it of the blocks before
 abbrev pub ends_tight : Bool → Bool → Blocks → Bool
 ends_tight tight before Nil = before
 ends_tight tight before (Cons (Paragraph ls) bs) = ends_tight tight tight bs
+ends_tight tight before (Cons (Definition label destination title) bs) = ends_tight tight before bs
 ends_tight tight before (Cons b bs) = ends_tight tight (before && is_ending b) bs
 
 abbrev mutual
   -- a child, at the top or not, of a tight item or not, after a child that silences an ending or not
-  pub block_pieces : Bool → Bool → Bool → Block → List Piece
-  block_pieces top tight silent (Paragraph ls) =
+  pub block_pieces : CompileOptions → Bool → Bool → Bool → Block → List Piece
+  block_pieces options top tight silent (Paragraph ls) =
       if tight then Bytes (text_of ls) ∷ [] else Fresh ∷ Bytes (codes "<p>") ∷ Bytes (text_of ls) ∷ Bytes (codes "</p>") ∷ []
-  block_pieces top tight silent (Heading rank ls) =
+  block_pieces options top tight silent (Heading rank ls) =
       Fresh ∷ Bytes (heading_tag rank) ∷ Bytes (text_of ls) ∷ Bytes (heading_end rank) ∷ []
-  block_pieces top tight silent Break = Fresh ∷ Bytes (codes "<hr />") ∷ []
-  block_pieces top tight silent (IndentedCode ls) =
+  block_pieces options top tight silent Break = Fresh ∷ Bytes (codes "<hr />") ∷ []
+  block_pieces options top tight silent (IndentedCode ls) =
       Fresh ∷ Bytes (codes "<pre><code>") ∷ Bytes (code_of ls) ∷ Fresh ∷ Bytes (codes "</code></pre>") ∷ []
-  block_pieces top tight silent (FencedCode info closed ls) =
+  block_pieces options top tight silent (FencedCode info closed ls) =
       Fresh ∷ Bytes (codes "<pre><code" ++ class_of info ++ codes ">") ∷ fenced_content top closed ls
       ++ Bytes (codes "</code></pre>") ∷ fresh_unless closed
-  block_pieces top tight silent (Holds Quote kids) =
-      Fresh ∷ Bytes (codes "<blockquote>") ∷ children_pieces false false false kids ++ Fresh ∷ Bytes (codes "</blockquote>") ∷ []
-  block_pieces top tight silent (Holds (Item item) kids) =
-      Fresh ∷ Bytes (codes "<li>") ∷ children_pieces false tight false kids ++ fresh_unless (ends_tight tight true kids) ++ Bytes (codes "</li>") ∷ []
-  block_pieces top tight silent (Items items) =
-      Fresh ∷ Bytes (number_tag (list_number items)) ∷ children_pieces false (not (is_loose items)) false items
+  block_pieces options top tight silent (Html ls) = Fresh ∷ Bytes (html_of options ls) ∷ []
+  block_pieces options top tight silent (Definition label destination title) = []
+  block_pieces options top tight silent (Holds Quote kids) =
+      Fresh ∷ Bytes (codes "<blockquote>") ∷ children_pieces options false false false kids ++ Fresh ∷ Bytes (codes "</blockquote>") ∷ []
+  block_pieces options top tight silent (Holds (Item item) kids) =
+      Fresh ∷ Bytes (codes "<li>") ∷ children_pieces options false tight false kids ++ fresh_unless (ends_tight tight true kids) ++ Bytes (codes "</li>") ∷ []
+  block_pieces options top tight silent (Items items) =
+      Fresh ∷ Bytes (number_tag (list_number items)) ∷ children_pieces options false (not (is_loose items)) false items
       ++ Eol ∷ Bytes (number_end (list_number items)) ∷ []
-  block_pieces top tight silent (Ending ending) = if silent then [] else Bytes (ending_text ending) ∷ []
-  block_pieces top tight silent (Blank ending) = []
+  block_pieces options top tight silent (Ending ending) = if silent then [] else Bytes (ending_text ending) ∷ []
+  block_pieces options top tight silent (Blank ending) = []
 
-  pub children_pieces : Bool → Bool → Bool → Blocks → List Piece
-  children_pieces top tight silent Nil = []
-  children_pieces top tight silent (Cons b bs) = block_pieces top tight silent b ++ children_pieces top tight (silences top tight b) bs
+  pub children_pieces : CompileOptions → Bool → Bool → Bool → Blocks → List Piece
+  children_pieces options top tight silent Nil = []
+  children_pieces options top tight silent (Cons b bs) = block_pieces options top tight silent b ++ children_pieces options top tight (silences top tight b) bs
 
 -- whether this is the ending of a blank line
 abbrev pub is_blank_ending : Block → Bool
@@ -136,8 +156,8 @@ ends_blank before (Cons b bs) = ends_blank (is_blank_ending b) bs
 abbrev pub last_piece : Bool → List Piece
 last_piece blank = if blank then Fresh ∷ [] else []
 
-abbrev pub document_pieces : Blocks → List Piece
-document_pieces bs = children_pieces true false false (grouped bs) ++ last_piece (ends_blank false bs)
+abbrev pub document_pieces : CompileOptions → Blocks → List Piece
+document_pieces options bs = children_pieces options true false false (grouped bs) ++ last_piece (ends_blank false bs)
 
 -- ---- the whole
 
@@ -147,7 +167,7 @@ default_ending options text = unwrap_or (first_line text).ending options.compile
 
 -- the HTML of a text without a byte order mark
 abbrev pub marked_html : List ℕ → Options → List ℕ
-marked_html text options = layout (ending_bytes (default_ending options text)) (document_pieces (blocks options.parse.constructs text))
+marked_html text options = layout (ending_bytes (default_ending options text)) (document_pieces options.compile (blocks options.parse.constructs text))
 
 -- the HTML of a text: its blocks, laid out
 abbrev pub html : List ℕ → Options → List ℕ

@@ -1,7 +1,10 @@
 -- Where HTML blocks start and end (CommonMark 4.6). A line is given by its bytes after the spaces and tabs ahead.
-use Rattle.std.specs.Prelude.{ℕ, Bool, true, false, not, if◌then◌else◌, ◌==◌, ◌&&◌, ◌||◌, List, [], ◌∷◌, Option, None, Some, drop, codes}
-use Rattle.std.specs.List.{take_while, prefix_len, list_all}
-use Rattle.markdown_definition.specs.Letters.{is_letter_or_digit, is_space_or_tab, begins_with, begins_with_letter, somewhere, holds}
+use Rattle.std.specs.Prelude.{ℕ, Bool, true, false, not, if◌then◌else◌, ◌==◌, ◌&&◌, ◌||◌, leb, List, [], ◌∷◌, Option, None, Some, drop, codes}
+use Rattle.std.specs.List.{take_while, list_all}
+use Rattle.markdown_options.specs.declared.configuration.Constructs.{Constructs}
+use Rattle.markdown_definition.specs.Columns.{Rest, bare, bytes_of}
+use Rattle.markdown_definition.specs.Indents.{small_indent}
+use Rattle.markdown_definition.specs.Letters.{is_letter_or_digit, is_space_or_tab, begins_with, begins_with_letter, after_all, without_slash, somewhere, holds}
 use Rattle.markdown_definition.specs.HtmlNames.{is_raw_name, is_block_name}
 use Rattle.markdown_definition.specs.HtmlTags.{tag_name, open_tag, closing_tag}
 
@@ -11,7 +14,7 @@ element_name bytes = take_while is_letter_or_digit bytes
 
 -- what follows those letters and digits
 abbrev pub after_element_name : List ℕ → List ℕ
-after_element_name bytes = drop (prefix_len is_letter_or_digit bytes) bytes
+after_element_name bytes = after_all is_letter_or_digit bytes
 
 -- a space, a tab, `>` or the end of the line
 abbrev pub ends_name : List ℕ → Bool
@@ -27,10 +30,6 @@ starts_raw line =
 -- kind 4: `<!` and a letter
 abbrev pub starts_declaration : List ℕ → Bool
 starts_declaration line = begins_with (codes "<!") line && begins_with_letter (drop 2 line)
-
--- bytes without a `/` ahead
-abbrev pub without_slash : List ℕ → List ℕ
-without_slash bytes = if begins_with (codes "/") bytes then drop 1 bytes else bytes
 
 -- a block name, and what ends a name or `/>`
 abbrev pub begins_with_block_name : List ℕ → Bool
@@ -78,3 +77,15 @@ html_ends kind line =
     else (if kind == 4 then holds (codes ">") line
     else (if kind == 5 then holds (codes "]]>") line
     else false))))
+
+-- the kind of the HTML block that starts here (CommonMark 4.6)
+abbrev pub html_start : Constructs → Bool → Rest → Option ℕ
+html_start on paragraph_open rest = if on.html_flow && small_indent on rest then html_kind paragraph_open (bytes_of (bare rest)) else None
+
+-- whether a block of this kind ends on this line (CommonMark 4.6)
+abbrev pub html_ends_here : ℕ → Rest → Bool
+html_ends_here kind rest = html_ends kind (bytes_of (bare rest))
+
+-- whether a block of this kind ends before a blank line (CommonMark 4.6)
+abbrev pub ends_before_blank : ℕ → Bool
+ends_before_blank kind = leb 6 kind

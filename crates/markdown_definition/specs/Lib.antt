@@ -12,6 +12,8 @@ pub mod CodeFenced
 pub mod HeadingAtx
 pub mod HeadingSetext
 pub mod Encode
+pub mod Blocks
+pub mod Definitions
 pub mod Tree
 pub mod Lists
 pub mod Pieces
@@ -22,6 +24,7 @@ pub mod Letters
 pub mod HtmlNames
 pub mod HtmlTags
 pub mod HtmlFlow
+pub mod TagFilter
 pub mod Content
 pub mod LinkSpace
 pub mod LinkLabel

@@ -1,5 +1,6 @@
 -- Link labels (CommonMark 6.3).
 use Rattle.std.specs.Prelude.{ℕ, ◌+◌, Bool, false, if◌then◌else◌, not, ◌==◌, ◌&&◌, ◌||◌, nat_le, List, [], ◌∷◌, Option, None, Some}
+use Rattle.std.specs.List.{list_any}
 use Rattle.markdown_definition.specs.Content.{Part, is_space, at_line_start, may_escape, closed_by}
 
 -- a bracket that no backslash escapes (CommonMark 6.3)
@@ -15,8 +16,7 @@ label_end escaped (c ∷ cs) =
 
 -- something other than spaces, tabs and line endings (CommonMark 6.3)
 abbrev pub has_text : List ℕ → Bool
-has_text [] = false
-has_text (c ∷ cs) = not (is_space c) || has_text cs
+has_text text = list_any (λ c. not (is_space c)) text
 
 -- how many bytes a label's text has, but for line endings and the spaces and tabs directly after one; whether such a space or tab may come first is given
 abbrev pub label_size : Bool → List ℕ → ℕ

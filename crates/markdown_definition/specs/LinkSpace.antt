@@ -1,12 +1,12 @@
 -- Optional white space between the parts of a link or a link reference definition (CommonMark 4.7 and 6.3).
-use Rattle.std.specs.Prelude.{ℕ, Bool, false, if◌then◌else◌, List, [], ◌∷◌}
+use Rattle.std.specs.Prelude.{ℕ, Bool, false, if◌then◌else◌, List, [], ◌∷◌, drop}
+use Rattle.std.specs.List.{prefix_len}
 use Rattle.markdown_definition.specs.Columns.{is_white}
 use Rattle.markdown_definition.specs.Content.{is_eol, is_space}
 
 -- the rest after spaces and tabs (CommonMark 4.7)
 abbrev pub after_spaces : List ℕ → List ℕ
-after_spaces [] = []
-after_spaces (c ∷ cs) = if is_white c then after_spaces cs else c ∷ cs
+after_spaces content = drop (prefix_len is_white content) content
 
 -- the rest after a line ending, if there is one, and the spaces and tabs after it
 abbrev pub after_ending : List ℕ → List ℕ

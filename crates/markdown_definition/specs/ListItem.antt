@@ -1,5 +1,6 @@
 -- List items (CommonMark 5.2).
 use Rattle.std.specs.Prelude.{ℕ, ◌+◌, ◌-◌, ◌*◌, Bool, true, not, if◌then◌else◌, ◌==◌, ◌&&◌, ◌||◌, leb, List, [], ◌∷◌, Option, None, Some, take, drop}
+use Rattle.std.specs.Char.{is_ascii_digit}
 use Rattle.std.specs.List.{prefix_len, fold}
 use Rattle.markdown_options.specs.declared.configuration.Constructs.{Constructs}
 use Rattle.markdown_definition.specs.declared.container.Container.TheVariants as container
@@ -19,7 +20,7 @@ abbrev pub marker_of : ℕ → Option ℕ → ℕ → Rest → Marker
 marker_of byte number size rest = record { byte = byte; number = number; size = size; rest = rest }
 
 abbrev pub is_digit : ℕ → Bool
-is_digit code = leb 48 code && leb code 57
+is_digit code = is_ascii_digit code
 
 -- the number that digits stand for
 abbrev pub number_of : List ℕ → ℕ

@@ -2,7 +2,7 @@
 use Rattle.std.specs.Prelude.{ℕ, suc, Bool, false, if◌then◌else◌, ◌==◌, ◌&&◌, ◌||◌, not, leb}
 use Rattle.markdown_definition.specs.declared.container.Container.{Container}
 use Rattle.markdown_definition.specs.declared.container.Container.TheVariants.{Quote, Item}
-use Rattle.markdown_definition.specs.Tree.{Block, Paragraph, Heading, Break, IndentedCode, FencedCode, Holds, Items, Ending, Blank, Blocks, Nil, Cons, join, one, is_ending}
+use Rattle.markdown_definition.specs.Tree.{Block, Paragraph, Heading, Break, IndentedCode, FencedCode, Html, Definition, Holds, Items, Ending, Blank, Blocks, Nil, Cons, join, one, is_ending}
 
 -- ---- neighbours
 
@@ -82,6 +82,8 @@ abbrev mutual
   grouped_block Break = Break
   grouped_block (IndentedCode ls) = IndentedCode ls
   grouped_block (FencedCode info closed ls) = FencedCode info closed ls
+  grouped_block (Html ls) = Html ls
+  grouped_block (Definition label destination title) = Definition label destination title
   grouped_block (Holds c kids) = Holds c (grouped kids)
   grouped_block (Items kids) = Items kids
   grouped_block (Ending ending) = Ending ending

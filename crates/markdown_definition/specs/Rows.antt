@@ -1,13 +1,16 @@
 -- The rows of a block tree: what the block parser hands to the printer.
-use Rattle.std.specs.Prelude.{ℕ, ◌+◌, true, false, Option, List, [], ◌∷◌, ◌++◌, map, take, drop, replicate}
+use Rattle.std.specs.Prelude.{ℕ, ◌+◌, true, false, Option, None, Some, List, [], ◌∷◌, ◌++◌, map, take, drop, replicate}
 use Rattle.std.specs.List.{fold, sum_by}
 use Rattle.markdown_definition.specs.declared.container.Container.{Container}
 use Rattle.markdown_definition.specs.declared.container.Container.TheVariants.{Quote, Item}
 use Rattle.markdown_definition.specs.declared.row.Row.{Row}
 use Rattle.markdown_definition.specs.declared.row.Row.TheVariants as row
 use Rattle.markdown_definition.specs.declared.row.Piece.{Piece}
-use Rattle.markdown_definition.specs.Columns.{tab_column}
-use Rattle.markdown_definition.specs.Tree.{BlockLine, block_line, Block, Paragraph, Heading, Break, IndentedCode, FencedCode, Holds, Items, Ending, Blank, Blocks, Nil, Cons, own_lines}
+use Rattle.markdown_definition.specs.Lines.{TextLine, lines}
+use Rattle.markdown_definition.specs.Columns.{bytes_of, tab_column}
+use Rattle.markdown_definition.specs.Tree.{BlockLine, block_line, Block, Paragraph, Heading, Break, IndentedCode, FencedCode, Html, Definition, Holds, Items, Ending, Blank, Blocks, Nil, Cons, own_lines}
+use Rattle.markdown_definition.specs.Content.{content_of}
+use Rattle.markdown_definition.specs.LinkDefinition.{Definition as LinkDefinition, definition_at}
 
 -- a block that holds no other, or an ending; the start of a quote; the start of an item, with the byte of its marker and its number; the end of the innermost container
 pub data BlockRow : Type 0 where
@@ -28,6 +31,8 @@ abbrev mutual
   block_rows Break = Single Break ∷ []
   block_rows (IndentedCode ls) = Single (IndentedCode ls) ∷ []
   block_rows (FencedCode info closed ls) = Single (FencedCode info closed ls) ∷ []
+  block_rows (Html ls) = Single (Html ls) ∷ []
+  block_rows (Definition label destination title) = Single (Definition label destination title) ∷ []
   block_rows (Holds c kids) = entered c ∷ (rows_of kids ++ Exit ∷ [])
   block_rows (Items items) = rows_of items
   block_rows (Ending ending) = Single (Ending ending) ∷ []
@@ -48,11 +53,15 @@ shown_as rows left = record { rows = rows; left = left }
 -- how many lines a row takes: fenced code takes its info as one before its lines
 abbrev pub lines_taken : Row → ℕ
 lines_taken (row.Paragraph count) = count
+lines_taken (row.WholeParagraph count) = 1
 lines_taken (row.Heading rank) = 1
+lines_taken (row.SetextHeading rank count) = count
 lines_taken row.Break = 0
 lines_taken (row.IndentedCode count) = count
 lines_taken (row.FencedCode count) = 1 + count
 lines_taken (row.UnclosedCode count) = 1 + count
+lines_taken (row.Html count) = count
+lines_taken (row.Definition count) = count
 lines_taken row.EnterQuote = 0
 lines_taken (row.EnterItem marker number) = 0
 lines_taken row.Exit = 0
@@ -67,14 +76,30 @@ abbrev pub first_codes : List BlockLine → List ℕ
 first_codes [] = []
 first_codes (line ∷ others) = line.codes
 
+-- the first lines of a text, so many, as lines of a block
+abbrev pub whole_line : TextLine → BlockLine
+whole_line line = block_line line.content line.ending
+
+abbrev pub whole_lines : ℕ → List ℕ → List BlockLine
+whole_lines count text = map whole_line (take count (lines text))
+
+-- a definition as it was read off its lines
+abbrev pub definition_shown : Option LinkDefinition → Block
+definition_shown None = Definition [] [] None
+definition_shown (Some d) = Definition d.label d.destination d.title
+
 -- what a row stands for: it takes its lines from the front of those that are left
 abbrev pub row_shown : Row → List BlockLine → BlockRow
 row_shown (row.Paragraph count) left = Single (Paragraph (own_lines (take count left)))
+row_shown (row.WholeParagraph count) left = Single (Paragraph (own_lines (whole_lines count (bytes_of (first_codes left)))))
 row_shown (row.Heading rank) left = Single (Heading rank (take 1 left))
+row_shown (row.SetextHeading rank count) left = Single (Heading rank (own_lines (take count left)))
 row_shown row.Break left = Single Break
 row_shown (row.IndentedCode count) left = Single (IndentedCode (own_lines (take count left)))
 row_shown (row.FencedCode count) left = Single (FencedCode (first_codes left) true (take count (drop 1 left)))
 row_shown (row.UnclosedCode count) left = Single (FencedCode (first_codes left) false (take count (drop 1 left)))
+row_shown (row.Html count) left = Single (Html (own_lines (take count left)))
+row_shown (row.Definition count) left = Single (definition_shown (definition_at (content_of (own_lines (take count left)))))
 row_shown row.EnterQuote left = EnterQuote
 row_shown (row.EnterItem marker number) left = EnterItem marker number
 row_shown row.Exit left = Exit

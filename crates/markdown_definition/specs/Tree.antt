@@ -6,60 +6,27 @@ use Rattle.markdown_options.specs.declared.configuration.Constructs.{Constructs}
 use Rattle.markdown_definition.specs.declared.container.Container.{Container}
 use Rattle.markdown_definition.specs.declared.container.Container.TheVariants.{Quote, Item}
 use Rattle.markdown_definition.specs.Lines.{TextLine, lines}
+pub use Rattle.markdown_definition.specs.Blocks.{BlockLine, block_line, Block, Paragraph, Heading, Break, IndentedCode, FencedCode, Html, Definition, Holds, Items, Ending, Blank, Blocks, Nil, Cons, join, one, ended, last_ending_or, last_ending, own_lines}
 use Rattle.markdown_definition.specs.Columns.{Rest, whole, is_blank, block_codes}
 use Rattle.markdown_definition.specs.Indents.{outdented}
 use Rattle.markdown_definition.specs.Started.{Started}
 use Rattle.markdown_definition.specs.Containers.{continues, starts}
 use Rattle.markdown_definition.specs.CodeIndented.{starts_code_indented}
 use Rattle.markdown_definition.specs.CodeFenced.{Fence, fence_start, is_fence_end, fence_line}
+use Rattle.markdown_definition.specs.HtmlFlow.{html_start, html_ends_here, ends_before_blank}
 use Rattle.markdown_definition.specs.HeadingAtx.{Atx, heading_atx}
+use Rattle.markdown_definition.specs.HeadingSetext.{underline}
 use Rattle.markdown_definition.specs.ThematicBreak.{is_break}
-
--- ---- blocks
-
--- a line of a block: what it holds after the prefixes of containers, and its ending
-pub record BlockLine : Type 0 where
-  pub codes : List ℕ
-  pub ending : Option LineEnding
-
-abbrev pub block_line : List ℕ → Option LineEnding → BlockLine
-block_line codes ending = record { codes = codes; ending = ending }
-
--- A child of a container: a paragraph; a heading of a rank; a thematic break; indented code; fenced code with its info, and whether it was closed; a container with its children; a list with its items and the endings between them, which is made after the lines are read; the ending of a block's last line; the ending of a blank line.
-mutual
-  pub data Block : Type 0 where
-    Paragraph : List BlockLine → Block
-    Heading : ℕ → List BlockLine → Block
-    Break : Block
-    IndentedCode : List BlockLine → Block
-    FencedCode : List ℕ → Bool → List BlockLine → Block
-    Holds : Container → Blocks → Block
-    Items : Blocks → Block
-    Ending : Option LineEnding → Block
-    Blank : Option LineEnding → Block
-
-  pub data Blocks : Type 0 where
-    Nil : Blocks
-    Cons : Block → Blocks → Blocks
-
-abbrev pub join : Blocks → Blocks → Blocks
-join Nil others = others
-join (Cons b bs) others = Cons b (join bs others)
-
-abbrev pub one : Block → Blocks
-one b = Cons b Nil
-
--- a block, and the ending of its last line
-abbrev pub ended : Block → Option LineEnding → Blocks
-ended b ending = Cons b (one (Ending ending))
+use Rattle.markdown_definition.specs.Definitions.{Cut, cut}
 
 -- ---- what is open
 
--- A leaf block that is open: a paragraph with its lines, none where no leaf is open; indented code with its lines, and the blank lines after them, which may turn out to be no part of it; fenced code with its fence, the ending of the fence's line, and its lines.
+-- A leaf block that is open: a paragraph with its lines, none where no leaf is open; indented code with its lines, and the blank lines after them, which may turn out to be no part of it; fenced code with its fence, the ending of the fence's line, and its lines; an HTML block with its kind and its lines.
 pub data OpenLeaf : Type 0 where
   Text : List BlockLine → OpenLeaf
   Indented : List BlockLine → List BlockLine → OpenLeaf
   Fenced : Fence → Option LineEnding → List BlockLine → OpenLeaf
+  OpenHtml : ℕ → List BlockLine → OpenLeaf
 
 -- what is open: a leaf, or a container with the children that it has so far, and what is open in it
 pub data Opening : Type 0 where
@@ -82,31 +49,26 @@ empty_tree = tree Nil nothing
 
 -- ---- closing
 
--- the ending of the last line, or this one where there is none
-abbrev pub last_ending_or : Option LineEnding → List BlockLine → Option LineEnding
-last_ending_or ending [] = ending
-last_ending_or ending (line ∷ others) = last_ending_or line.ending others
-
-abbrev pub last_ending : List BlockLine → Option LineEnding
-last_ending ls = last_ending_or None ls
-
--- the lines of a block: the ending of its last line stands outside
-abbrev pub own_lines : List BlockLine → List BlockLine
-own_lines [] = []
-own_lines (line ∷ []) = block_line line.codes None ∷ []
-own_lines (line ∷ next ∷ others) = line ∷ own_lines (next ∷ others)
-
 -- the endings of blank lines
 abbrev pub blanks : List BlockLine → Blocks
 blanks [] = Nil
 blanks (line ∷ others) = Cons (Blank line.ending) (blanks others)
 
+-- a paragraph of these lines, if there are any
+abbrev pub paragraph_of : List BlockLine → Blocks
+paragraph_of [] = Nil
+paragraph_of (line ∷ others) = ended (Paragraph (own_lines (line ∷ others))) (last_ending (line ∷ others))
+
+-- a paragraph after the definitions at its front, which are none of its lines (CommonMark 4.7)
+abbrev pub with_paragraph : Cut → Blocks
+with_paragraph parts = join parts.definitions (paragraph_of parts.left)
+
 -- the children that are finished where this leaf is closed
-abbrev pub close_leaf : OpenLeaf → Blocks
-close_leaf (Text []) = Nil
-close_leaf (Text (line ∷ others)) = ended (Paragraph (own_lines (line ∷ others))) (last_ending (line ∷ others))
-close_leaf (Indented ls pending) = join (ended (IndentedCode (own_lines ls)) (last_ending ls)) (blanks pending)
-close_leaf (Fenced fence ending ls) = ended (FencedCode fence.info false ls) (last_ending_or ending ls)
+abbrev pub close_leaf : Constructs → OpenLeaf → Blocks
+close_leaf on (Text ls) = with_paragraph (cut on ls)
+close_leaf on (Indented ls pending) = join (ended (IndentedCode (own_lines ls)) (last_ending ls)) (blanks pending)
+close_leaf on (Fenced fence ending ls) = ended (FencedCode fence.info false ls) (last_ending_or ending ls)
+close_leaf on (OpenHtml kind ls) = ended (Html (own_lines ls)) (last_ending ls)
 
 abbrev pub is_ending : Block → Bool
 is_ending (Ending ending) = true
@@ -143,9 +105,9 @@ holds Quote kids = Cons (Holds Quote (without_last kids)) (last_of kids)
 holds (Item item) kids = Cons (Holds (Item item) (front kids)) (trailing kids)
 
 -- the children that are finished where this is closed
-abbrev pub close : Opening → Blocks
-close (Leaf leaf) = close_leaf leaf
-close (Inside c kids inner) = holds c (join kids (close inner))
+abbrev pub close : Constructs → Opening → Blocks
+close on (Leaf leaf) = close_leaf on leaf
+close on (Inside c kids inner) = holds c (join kids (close on inner))
 
 -- ---- a line
 
@@ -154,10 +116,11 @@ abbrev pub leaf_text : OpenLeaf → List BlockLine
 leaf_text (Text ls) = ls
 leaf_text (Indented ls pending) = []
 leaf_text (Fenced fence ending ls) = []
+leaf_text (OpenHtml kind ls) = []
 
-abbrev pub text_of : Opening → List BlockLine
-text_of (Leaf leaf) = leaf_text leaf
-text_of (Inside c kids inner) = text_of inner
+abbrev pub open_text : Opening → List BlockLine
+open_text (Leaf leaf) = leaf_text leaf
+open_text (Inside c kids inner) = open_text inner
 
 abbrev pub is_some_line : List BlockLine → Bool
 is_some_line [] = false
@@ -165,13 +128,14 @@ is_some_line (line ∷ others) = true
 
 -- whether a paragraph is open
 abbrev pub has_text : Opening → Bool
-has_text now = is_some_line (text_of now)
+has_text now = is_some_line (open_text now)
 
 -- one more line of the open paragraph
 abbrev pub leaf_with_line : BlockLine → OpenLeaf → OpenLeaf
 leaf_with_line line (Text ls) = Text (ls ++ line ∷ [])
 leaf_with_line line (Indented ls pending) = Indented ls pending
 leaf_with_line line (Fenced fence ending ls) = Fenced fence ending ls
+leaf_with_line line (OpenHtml kind ls) = OpenHtml kind ls
 
 abbrev pub with_line : BlockLine → Opening → Opening
 with_line line (Leaf leaf) = Leaf (leaf_with_line line leaf)
@@ -194,11 +158,22 @@ fenced_takes on fence opening ls rest ending =
     if is_fence_end on fence rest then Some (tree (ended (FencedCode fence.info true ls) ending) nothing)
     else Some (tree Nil (Leaf (Fenced fence opening (ls ++ rest_line (fence_line fence rest) ending ∷ []))))
 
+-- an HTML block with one more line, which may end it (CommonMark 4.6)
+abbrev pub html_with : ℕ → List BlockLine → Rest → Option LineEnding → Tree
+html_with kind ls rest ending =
+    let more = ls ++ rest_line rest ending ∷ [] in
+    if html_ends_here kind rest then tree (ended (Html (own_lines more)) ending) nothing else tree Nil (Leaf (OpenHtml kind more))
+
+-- an HTML block takes every line up to its end, which may come before a blank one (CommonMark 4.6)
+abbrev pub html_takes : ℕ → List BlockLine → Rest → Option LineEnding → Option Tree
+html_takes kind ls rest ending = if ends_before_blank kind && is_blank rest then None else Some (html_with kind ls rest ending)
+
 -- what an open leaf makes of a rest, where it takes it before anything else may start
 abbrev pub takes : Constructs → OpenLeaf → Rest → Option LineEnding → Option Tree
 takes on (Text ls) rest ending = None
 takes on (Indented ls pending) rest ending = indented_takes on ls pending rest ending
 takes on (Fenced fence opening ls) rest ending = fenced_takes on fence opening ls rest ending
+takes on (OpenHtml kind ls) rest ending = html_takes kind ls rest ending
 
 abbrev pub or_heading : Option LineEnding → Option Atx → Option Tree
 or_heading ending None = None
@@ -208,47 +183,77 @@ abbrev pub or_fence : Option LineEnding → Option Fence → Option Tree → Opt
 or_fence ending None other = other
 or_fence ending (Some fence) other = Some (tree Nil (Leaf (Fenced fence ending [])))
 
--- the leaf that a rest begins, other than a paragraph or a break: indented code, which can't interrupt a paragraph, fenced code, or an ATX heading, in this order
+-- an HTML block of a kind, which may end on its first line (CommonMark 4.6)
+abbrev pub or_html : Rest → Option LineEnding → Option ℕ → Option Tree → Option Tree
+or_html rest ending None other = other
+or_html rest ending (Some kind) other = Some (html_with kind [] rest ending)
+
+-- the leaf that a rest begins, other than a paragraph or a break: indented code, which can't interrupt a paragraph, fenced code, an HTML block, or an ATX heading, in this order
 abbrev pub begins : Constructs → Bool → Rest → Option LineEnding → Option Tree
 begins on paragraph rest ending =
     if starts_code_indented on rest && not paragraph then Some (tree Nil (Leaf (Indented (rest_line (outdented 4 rest) ending ∷ []) [])))
-    else or_fence ending (fence_start on rest) (or_heading ending (heading_atx on rest))
+    else or_fence ending (fence_start on rest) (or_html rest ending (html_start on paragraph rest) (or_heading ending (heading_atx on rest)))
 
 -- what a line leaves where something new starts on it, after what it isn't in is closed
-abbrev pub after : Opening → Tree → Tree
-after away t = tree (join (close away) t.done) t.now
+abbrev pub after : Constructs → Opening → Tree → Tree
+after on away t = tree (join (close on away) t.done) t.now
 
 -- a line of text goes on the open paragraph, also where it isn't in all of its containers, or starts one (CommonMark 4.8)
-abbrev pub text_line_of : Opening → Rest → Option LineEnding → Tree
-text_line_of away rest ending =
+abbrev pub text_line_of : Constructs → Opening → Rest → Option LineEnding → Tree
+text_line_of on away rest ending =
     if has_text away then tree Nil (with_line (rest_line rest ending) away)
-    else after away (tree Nil (Leaf (Text (rest_line rest ending ∷ []))))
+    else after on away (tree Nil (Leaf (Text (rest_line rest ending ∷ []))))
 
 -- a rest in which no other leaf begins: a break, or text
 abbrev pub break_or_text : Constructs → Opening → Rest → Option LineEnding → Tree
 break_or_text on away rest ending =
-    if is_break on rest then after away (tree (ended Break ending) nothing) else text_line_of away rest ending
+    if is_break on rest then after on away (tree (ended Break ending) nothing) else text_line_of on away rest ending
 
-abbrev pub begun : Option Tree → Opening → Tree → Tree
-begun None away other = other
-begun (Some t) away other = after away t
+-- the lines of the open paragraph, where this line is in all of its containers
+abbrev pub text_here : Opening → List BlockLine
+text_here (Leaf leaf) = leaf_text leaf
+text_here (Inside c kids inner) = []
+
+-- a heading of what is left of a paragraph, if anything is, after the definitions at its front
+abbrev pub heading_of : ℕ → Blocks → List BlockLine → Option LineEnding → Option Tree
+heading_of rank definitions [] ending = None
+heading_of rank definitions (line ∷ others) ending =
+    Some (tree (join definitions (ended (Heading rank (own_lines (line ∷ others))) ending)) nothing)
+
+-- the same for an underline of a rank, where there is one
+abbrev pub underlined : Constructs → Option ℕ → List BlockLine → Option LineEnding → Option Tree
+underlined on None ls ending = None
+underlined on (Some rank) ls ending = let parts = cut on ls in heading_of rank parts.definitions parts.left ending
+
+-- what an underline makes of the open paragraph: a heading (CommonMark 4.3)
+abbrev pub turns : Constructs → Opening → Rest → Option LineEnding → Option Tree
+turns on away rest ending = underlined on (underline on rest) (text_here away) ending
+
+abbrev pub begun : Constructs → Option Tree → Opening → Tree → Tree
+begun on None away other = other
+begun on (Some t) away other = after on away t
+
+-- what takes the line, or something other
+abbrev pub taken : Option Tree → Tree → Tree
+taken None other = other
+taken (Some t) other = t
 
 -- the rest of a line that starts no container, where `away` is what the line isn't in: a blank one closes it (CommonMark 4.9)
 abbrev pub leaf_line : Constructs → Opening → Rest → Option LineEnding → Tree
 leaf_line on away rest ending =
-    if is_blank rest then after away (tree (one (Blank ending)) nothing)
-    else begun (begins on (has_text away) rest ending) away (break_or_text on away rest ending)
+    if is_blank rest then after on away (tree (one (Blank ending)) nothing)
+    else begun on (begins on (has_text away) rest ending) away (taken (turns on away rest ending) (break_or_text on away rest ending))
 
 -- a container starts, or none
-abbrev pub start : Option Started → Opening → Tree → (Rest → Tree) → Tree
-start None away other more = other
-start (Some s) away other more = let t = more s.rest in after away (tree Nil (Inside s.container t.done t.now))
+abbrev pub start : Constructs → Option Started → Opening → Tree → (Rest → Tree) → Tree
+start on None away other more = other
+start on (Some s) away other more = let t = more s.rest in after on away (tree Nil (Inside s.container t.done t.now))
 
 -- the rest of a line after the containers that it is in; at most so many containers start
 abbrev pub new : ℕ → Constructs → Bool → Opening → Option LineEnding → Rest → Tree
 new zero on all away ending rest = leaf_line on away rest ending
 new (suc most) on all away ending rest =
-    start (starts on (all && has_text away) rest) away (leaf_line on away rest ending) (new most on true nothing ending)
+    start on (starts on (all && has_text away) rest) away (leaf_line on away rest ending) (new most on true nothing ending)
 
 abbrev pub in_container : Container → Blocks → Tree → Tree
 in_container c kids t = tree Nil (Inside c (join kids t.done) t.now)
@@ -270,10 +275,6 @@ abbrev pub goes_on : Option Rest → Constructs → Container → Blocks → Ope
 goes_on None on c kids inner ending rest more = new (length rest) on false (Inside c kids inner) ending rest
 goes_on (Some after) on c kids inner ending rest more = in_container c kids (more after)
 
-abbrev pub taken : Option Tree → Tree → Tree
-taken None other = other
-taken (Some t) other = t
-
 -- a line: the containers that go on, then the leaf that takes it, or what is new
 abbrev pub grow : Constructs → Option LineEnding → Opening → Rest → Tree
 grow on ending (Leaf leaf) rest = taken (takes on leaf rest ending) (new (length rest) on true (Leaf leaf) ending rest)
@@ -285,9 +286,9 @@ abbrev pub step : Constructs → Tree → TextLine → Tree
 step on t line = let more = grow on line.ending t.now (whole line.content) in tree (join t.done more.done) more.now
 
 -- the end of the text closes what is open
-abbrev pub closed : Tree → Blocks
-closed t = join t.done (close t.now)
+abbrev pub closed : Constructs → Tree → Blocks
+closed on t = join t.done (close on t.now)
 
 -- the children of the document, of a text without a byte order mark
 abbrev pub blocks : Constructs → List ℕ → Blocks
-blocks on text = closed (fold (step on) empty_tree (lines text))
+blocks on text = closed on (fold (step on) empty_tree (lines text))

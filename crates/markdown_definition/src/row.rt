@@ -20,8 +20,13 @@ pub struct Piece<'a> {
 pub enum Row {
     /// A paragraph of so many lines, at least one (CommonMark 4.8).
     Paragraph(usize),
+    /// A paragraph of so many whole lines that stand right after another in the text. Its one line
+    /// is the text from the first of them on, up to the end.
+    WholeParagraph(usize),
     /// An ATX heading of a rank, from 1 to 6. Its one line is its content (CommonMark 4.2).
     Heading(u8),
+    /// A setext heading of a rank, 1 or 2, and of so many lines, at least one (CommonMark 4.3).
+    SetextHeading { rank: u8, count: usize },
     /// A thematic break (CommonMark 4.1).
     Break,
     /// Indented code of so many lines, at least one (CommonMark 4.4).
@@ -30,6 +35,11 @@ pub enum Row {
     FencedCode(usize),
     /// The same where no fence closes it.
     UnclosedCode(usize),
+    /// An HTML block of so many lines, at least one (CommonMark 4.6).
+    Html(usize),
+    /// A link reference definition of so many lines, at least one: its label, destination and
+    /// title are read off them again (CommonMark 4.7).
+    Definition(usize),
     /// A block quote starts (CommonMark 5.1).
     EnterQuote,
     /// A list item starts, with the byte of its marker and its number (CommonMark 5.2).

@@ -4,7 +4,7 @@ use Rattle.markdown_options.specs.declared.configuration.Constructs.{Constructs}
 
 -- some of the blocks of CommonMark that can't be read so far are on
 abbrev pub has_blocks : Constructs → Bool
-has_blocks on = on.definition || on.heading_setext || on.html_flow
+has_blocks on = on.definition
 
 -- some of the inline constructs of CommonMark are on
 abbrev pub has_texts : Constructs → Bool

@@ -161,7 +161,7 @@ impl Constructs {
     fn has_blocks(&self) -> bool
         ensures { result ≡ has_blocks self.now }
     {
-        self.definition || self.heading_setext || self.html_flow
+        self.definition
     }
 
     /// Whether some of the inline constructs of CommonMark are on.

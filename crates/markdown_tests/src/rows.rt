@@ -154,12 +154,18 @@ fn with(constructs: Constructs) -> Options
     }
 }
 
-#[test]
-fn prints_leaf_rows(rt: HostRuntime) -> Result<(), RunError> {
-    for (text, want) in LEAVES {
+/// Prints each text, and compares.
+pub fn prints(
+    rt: HostRuntime,
+    rows: &[(&str, &str)],
+    options: &Options,
+) -> Result<(), RunError>
+    requires { is_built options.now.parse.constructs ≡ true }
+{
+    for (text, want) in rows {
         let mut reader = Watched::new(text.as_bytes());
         let mut writer = Watched::new(Vec::new(rt.alloc()));
-        run_with_options(rt.alloc(), &mut reader, &mut writer, &leaves())?;
+        run_with_options(rt.alloc(), &mut reader, &mut writer, options)?;
         let out = writer.into_inner();
         assert_eq!(rt; out.as_slice(), want.as_bytes(), "at {text:?}");
     }
@@ -167,15 +173,13 @@ fn prints_leaf_rows(rt: HostRuntime) -> Result<(), RunError> {
 }
 
 #[test]
+fn prints_leaf_rows(rt: HostRuntime) -> Result<(), RunError> {
+    prints(rt, &LEAVES, &leaves())
+}
+
+#[test]
 fn prints_plain_rows(rt: HostRuntime) -> Result<(), RunError> {
-    for (text, want) in PLAIN {
-        let mut reader = Watched::new(text.as_bytes());
-        let mut writer = Watched::new(Vec::new(rt.alloc()));
-        run_with_options(rt.alloc(), &mut reader, &mut writer, &plain())?;
-        let out = writer.into_inner();
-        assert_eq!(rt; out.as_slice(), want.as_bytes(), "at {text:?}");
-    }
-    Ok(())
+    prints(rt, &PLAIN, &plain())
 }
 
 #[test]

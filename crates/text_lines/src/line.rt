@@ -2,7 +2,7 @@
 //!
 //!     line   ::= content ending?
 //!     ending ::= CR LF | CR | LF
-ghost use Rattle.std.specs.Prelude.{◌≡◌, ◌<◌, ◌≤◌, ◌^◌, ◌∷◌, length, drop, take, Some, None};
+ghost use Rattle.std.specs.Prelude.{◌≡◌, ◌<◌, ◌≤◌, ◌+◌, ◌^◌, ◌∷◌, length, drop, take, Some, None};
 ghost use Rattle.std.specs.List.{position_or_len};
 ghost use Rattle.markdown_definition.specs.Lines.{ends_line, lines, first_line, text_line};
 ghost use Rattle.text_lines.specs.Endings.{BeginsWithEnding};
@@ -14,7 +14,10 @@ use markdown_options::LineEnding;
 pub struct Line<'a> {
     pub content: &'a str,
     pub ending: Option<LineEnding>,
+    /// The text from this line on.
+    pub text: &'a str,
     pub ghost fits: { length content.now < 2 ^ 61 },
+    pub ghost text_fits: { length text.now < 2 ^ 61 },
 }
 
 /// The lines of what is left of a text.
@@ -73,9 +76,25 @@ fn split_first(text: &str) -> (Line<'_>, &str)
     ensures shorter { length result.1.now ≤ length text.now }
     ensures rest { 0 < length text.now → lines text.now ≡ text_line result.0.content.now result.0.ending ∷ lines result.1.now }
 {
+    let (content, ending, rest) = next_line(text);
+    let line = Line {
+        content,
+        ending,
+        text,
+    };
+    (line, rest)
+}
+
+/// The content of the first line, its ending, and what follows it. The empty text begins with an
+/// empty line.
+pub fn next_line(text: &str) -> (&str, Option<LineEnding>, &str)
+    ensures first { text_line result.0.now result.1 ≡ first_line text.now }
+    ensures shorter { length result.0.now + length result.2.now ≤ length text.now }
+    ensures rest { 0 < length text.now → lines text.now ≡ text_line result.0.now result.1 ∷ lines result.2.now }
+{
     let (content, after) = split_content(text);
     let (ending, rest) = split_ending(after);
-    (Line { content, ending }, rest)
+    (content, ending, rest)
 }
 
 /// The bytes before the first CR or LF, and what follows them.

@@ -1,27 +1,43 @@
 -- The pass from the last row to the first needs no lines.
-use Rattle.std.proofs.Common.{◌≡◌, List, [], ◌∷◌, reverse, refl, sym, ap, ◌∙◌, drop, true, false}
+use Rattle.std.proofs.Common.{◌≡◌, ℕ, List, [], ◌∷◌, Option, None, Some, reverse, refl, sym, ap, ◌∙◌, take, drop, true, false}
 use Rattle.std.specs.List.{fold, list_any}
 use Rattle.std.proofs.lemmas.Bool.{or_parts}
 use Rattle.std.proofs.lemmas.Grind.{reverse_onto}
 use Rattle.std.proofs.lemmas.List.Sums.{fold_push}
 use Rattle.markdown_definition.specs.declared.row.Row.{Row}
 use Rattle.markdown_definition.specs.declared.row.Row.TheVariants as row
-use Rattle.markdown_definition.specs.Tree.{BlockLine}
-use Rattle.markdown_definition.specs.Rows.{row_shown, shown, shown_as, lines_taken}
-use Rattle.tree_html.specs.Loose.{Passed, nothing_passed, pass_row, pass_rows, places_of, starts_item}
+use Rattle.markdown_definition.specs.Tree.{BlockLine, own_lines, is_ending}
+use Rattle.markdown_definition.specs.Content.{content_of}
+use Rattle.markdown_definition.specs.LinkDefinition.{Definition, definition_at}
+use Rattle.markdown_definition.specs.Rows.{definition_shown, row_shown, shown, shown_as, lines_taken}
+use Rattle.tree_html.specs.Loose.{Passed, passed_at, nothing_passed, before_if, pass_row, pass_rows, places_of, starts_item}
 use Rattle.tree_html.proofs.RowSteps.{shown_after}
 
 -- a row without its lines
 abbrev pub pass_bare : Passed → Row → Passed
 pass_bare p r = pass_row p (row_shown r [])
 
+-- a definition is no ending, whatever was read off its lines
+no_ending : (o : Option Definition) → is_ending (definition_shown o) ≡ false
+no_ending None = refl
+no_ending (Some d) = refl
+
+-- the definition on the first lines
+abbrev read_off : ℕ → List BlockLine → Option Definition
+read_off count ls = definition_at (content_of (own_lines (take count ls)))
+
 same_without_lines : (p : Passed) (r : Row) (ls : List BlockLine) → pass_row p (row_shown r ls) ≡ pass_bare p r
 same_without_lines p (row.Paragraph count) ls = refl
 same_without_lines p (row.Heading rank) ls = refl
+same_without_lines p (row.WholeParagraph count) ls = refl
+same_without_lines p (row.SetextHeading rank count) ls = refl
 same_without_lines p row.Break ls = refl
 same_without_lines p (row.IndentedCode count) ls = refl
 same_without_lines p (row.FencedCode count) ls = refl
 same_without_lines p (row.UnclosedCode count) ls = refl
+same_without_lines p (row.Html count) ls = refl
+same_without_lines p (row.Definition count) ls =
+    ap (λ ending. passed_at (before_if ending p.ahead) p.outer p.places) (no_ending (read_off count ls) ∙ sym (no_ending (read_off count [])))
 same_without_lines p row.EnterQuote ls = refl
 same_without_lines p (row.EnterItem marker number) ls = refl
 same_without_lines p row.Exit ls = refl
@@ -43,10 +59,14 @@ passed_backward p (r ∷ rows) ls =
 same_places : (p : Passed) (r : Row) (ls : List BlockLine) → starts_item r ≡ false → (pass_row p (row_shown r ls)).places ≡ p.places
 same_places p (row.Paragraph count) ls h = refl
 same_places p (row.Heading rank) ls h = refl
+same_places p (row.WholeParagraph count) ls h = refl
+same_places p (row.SetextHeading rank count) ls h = refl
 same_places p row.Break ls h = refl
 same_places p (row.IndentedCode count) ls h = refl
 same_places p (row.FencedCode count) ls h = refl
 same_places p (row.UnclosedCode count) ls h = refl
+same_places p (row.Html count) ls h = refl
+same_places p (row.Definition count) ls h = refl
 same_places p row.EnterQuote ls h = refl
 same_places p (row.EnterItem marker number) ls h = let wrong : true ≡ false = h in cc
 same_places p row.Exit ls h = refl

@@ -4,6 +4,7 @@ use Rattle.std.specs.Prelude.{map, if◌then◌else◌, ◌||◌}
 use Rattle.std.specs.List.{list_all}
 use Rattle.std.proofs.lemmas.List.{take-map, drop-map, take_rest}
 use Rattle.markdown_options.specs.declared.line_ending.LineEnding.{LineEnding}
+use Rattle.markdown_options.specs.declared.configuration.CompileOptions.{CompileOptions}
 use Rattle.markdown_options.specs.LineEndings.{ending_bytes}
 use Rattle.markdown_definition.specs.declared.row.Piece.{Piece}
 use Rattle.markdown_definition.specs.Lines.{ending_text}
@@ -67,12 +68,12 @@ content_is count pieces =
     ∙ sym (take-map piece_line count (drop 1 pieces))
     ∙ ap (take count) (sym (drop-map piece_line 1 pieces))
 
-pub fenced_laid : (e : LineEnding) (out : List ℕ) (top tight silent closed : Bool) (count : ℕ) (pieces : List Piece)
+pub fenced_laid : (options : CompileOptions) (e : LineEnding) (out : List ℕ) (top tight silent closed : Bool) (count : ℕ) (pieces : List Piece)
     → 1 + count ≤ length pieces → list_all is_byte (first_codes (piece_lines pieces)) ≡ true
-    → laid e out (block_pieces top false false (FencedCode (get_or pieces 0 no_piece).text.now closed (piece_lines (take count (take (length pieces - 1) (drop 1 pieces))))))
-    ≡ laid e out (block_pieces top tight silent (FencedCode (first_codes (piece_lines pieces)) closed (take count (drop 1 (piece_lines pieces)))))
-fenced_laid e out top tight silent closed count pieces enough h =
+    → laid e out (block_pieces options top false false (FencedCode (get_or pieces 0 no_piece).text.now closed (piece_lines (take count (take (length pieces - 1) (drop 1 pieces))))))
+    ≡ laid e out (block_pieces options top tight silent (FencedCode (first_codes (piece_lines pieces)) closed (take count (drop 1 (piece_lines pieces)))))
+fenced_laid options e out top tight silent closed count pieces enough h =
     let info = (get_or pieces 0 no_piece).text.now in
-    ap (λ ls. laid e out (block_pieces top tight silent (FencedCode info closed ls))) (content_is count pieces)
-    ∙ ap (λ x. laid e out (block_pieces top tight silent (FencedCode x closed (take count (drop 1 (piece_lines pieces))))))
+    ap (λ ls. laid e out (block_pieces options top tight silent (FencedCode info closed ls))) (content_is count pieces)
+    ∙ ap (λ x. laid e out (block_pieces options top tight silent (FencedCode x closed (take count (drop 1 (piece_lines pieces))))))
     (sym (info_is pieces (omega arith) h))

@@ -1,4 +1,4 @@
-pub mod Encoding
+pub mod Replaced
 pub mod Owed
 pub mod Lines
 pub mod Fenced
@@ -9,6 +9,9 @@ pub mod Children
 pub mod RowsOf
 pub mod RowSteps
 pub mod Backward
+pub mod Raw
+pub mod LastRow
 pub mod Choose
 pub mod Markers
 pub mod Printable
+pub mod Whole

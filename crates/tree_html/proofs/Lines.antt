@@ -1,9 +1,11 @@
 -- One more line of text or code.
-use Rattle.std.proofs.Common.{◌≡◌, List, [], ◌∷◌, ◌++◌, ℕ, Option, None, refl, sym, ap, ◌∙◌, append_assoc}
+use Rattle.std.proofs.Common.{◌≡◌, ◌≤◌, arith, length, take, get_or, List, [], ◌∷◌, ◌++◌, ℕ, Option, None, refl, sym, ap, ◌∙◌, append_assoc}
 use Rattle.std.specs.List.{flat_map}
 use Rattle.std.proofs.lemmas.List.{append-nil}
 use Rattle.markdown_options.specs.declared.line_ending.LineEnding.{LineEnding}
+use Rattle.markdown_definition.specs.declared.row.Piece.{Piece}
 use Rattle.markdown_definition.specs.Lines.{ending_text}
+use Rattle.markdown_definition.specs.Rows.{first_codes, piece_line, piece_lines}
 use Rattle.markdown_definition.specs.Tree.{BlockLine, own_lines, last_ending, last_ending_or}
 
 last_ending_or-more : (e : Option LineEnding) (ls : List BlockLine) (l : BlockLine) → last_ending_or e (ls ++ l ∷ []) ≡ l.ending
@@ -12,6 +14,15 @@ last_ending_or-more e (a ∷ ls) l = last_ending_or-more a.ending ls l
 
 pub last_ending_more : (ls : List BlockLine) (l : BlockLine) → last_ending (ls ++ l ∷ []) ≡ l.ending
 last_ending_more ls l = last_ending_or-more None ls l
+
+-- the first line
+pub first_line : (pieces : List Piece) (d : Piece) → 1 ≤ length pieces → take 1 (piece_lines pieces) ≡ piece_line (get_or pieces 0 d) ∷ []
+first_line [] d some = absurd (omega (arith, some))
+first_line (a ∷ others) d some = refl
+
+pub first_codes_of : (pieces : List Piece) (d : Piece) → 1 ≤ length pieces → first_codes (piece_lines pieces) ≡ (piece_line (get_or pieces 0 d)).codes
+first_codes_of [] d some = absurd (omega (arith, some))
+first_codes_of (a ∷ others) d some = refl
 
 -- lines of which each is printed by what its codes are printed as
 module _ (body : List ℕ → List ℕ) where

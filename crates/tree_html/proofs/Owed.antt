@@ -1,9 +1,9 @@
 -- Columns that are left of a tab, before the bytes of a line.
-use Rattle.std.proofs.Common.{◌≡◌, ℕ, ◌+◌, ◌-◌, ◌<◌, zero, suc, List, [], ◌∷◌, ◌++◌, true, false, refl, ap, ◌∙◌, take, drop, length, get_or, arith}
+use Rattle.std.proofs.Common.{◌≡◌, ℕ, ◌+◌, ◌-◌, ◌<◌, zero, suc, List, [], ◌∷◌, ◌++◌, true, false, not, refl, ap, ◌∙◌, take, drop, length, get_or, arith}
 use Rattle.std.specs.Prelude.{map, replicate}
 use Rattle.std.specs.List.{prefix_len, suffix_len, list_all}
-use Rattle.std.proofs.lemmas.Bool.{ne_eqb, cond-false}
-use Rattle.markdown_definition.specs.Columns.{tab_column, is_tab_column, is_byte, is_white, trimmed}
+use Rattle.std.proofs.lemmas.Bool.{ne_eqb, cond-true, cond-false}
+use Rattle.markdown_definition.specs.Columns.{tab_column, is_tab_column, is_byte, bytes_of, is_white, trimmed}
 use Rattle.markdown_definition.specs.Encode.{encode}
 use Rattle.markdown_definition.specs.Html.{code_byte}
 
@@ -33,6 +33,19 @@ pub code_owed : (n : ℕ) (text : List ℕ) → ((k : ℕ) → get_or text k 0 <
     → encode (map code_byte (replicate n tab_column ++ text)) ≡ replicate n 32 ++ encode text
 code_owed zero text h = ap encode (code_bytes text h)
 code_owed (suc n) text h = ap (λ x. 32 ∷ x) (code_owed n text h)
+
+-- ---- in HTML they are left out
+
+only_bytes : (text : List ℕ) → ((k : ℕ) → get_or text k 0 < 256) → bytes_of text ≡ text
+only_bytes [] h = refl
+only_bytes (b ∷ bs) h =
+    let byte : b < 256 = h 0 in
+    let is : is_byte b ≡ true = ap not (ne_eqb b 256 (λ e. omega arith)) in
+    cond-true (is_byte b) (b ∷ bytes_of bs) (bytes_of bs) is ∙ ap (λ xs. b ∷ xs) (only_bytes bs (λ k. h (suc k)))
+
+pub bytes_owed : (n : ℕ) (text : List ℕ) → ((k : ℕ) → get_or text k 0 < 256) → bytes_of (replicate n tab_column ++ text) ≡ text
+bytes_owed zero text h = only_bytes text h
+bytes_owed (suc n) text h = bytes_owed n text h
 
 -- ---- an info has none
 

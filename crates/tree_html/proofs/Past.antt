@@ -1,6 +1,6 @@
 -- A level after blocks in it.
 use Rattle.std.proofs.Common.{◌≡◌, Bool, true, false, ◌&&◌, refl, ap, ◌∙◌}
-use Rattle.markdown_definition.specs.Tree.{Block, Paragraph, Heading, Break, IndentedCode, FencedCode, Holds, Items, Ending, Blank, Blocks, Nil, Cons}
+use Rattle.markdown_definition.specs.Tree.{Block, Paragraph, Heading, Break, IndentedCode, FencedCode, Html, Definition, Holds, Items, Ending, Blank, Blocks, Nil, Cons}
 use Rattle.markdown_definition.specs.Html.{ends_tight}
 use Rattle.markdown_definition.specs.Rows.{Single}
 use Rattle.tree_html.specs.declared.level.Level.{Level}
@@ -29,6 +29,8 @@ ends_tight_more tight before (Heading rank ls) bs = ap (λ x. ends_tight tight x
 ends_tight_more tight before Break bs = ap (λ x. ends_tight tight x bs) (and_false before)
 ends_tight_more tight before (IndentedCode ls) bs = ap (λ x. ends_tight tight x bs) (and_false before)
 ends_tight_more tight before (FencedCode info closed ls) bs = ap (λ x. ends_tight tight x bs) (and_false before)
+ends_tight_more tight before (Html ls) bs = ap (λ x. ends_tight tight x bs) (and_false before)
+ends_tight_more tight before (Definition label destination title) bs = refl
 ends_tight_more tight before (Holds c kids) bs = ap (λ x. ends_tight tight x bs) (and_false before)
 ends_tight_more tight before (Items items) bs = ap (λ x. ends_tight tight x bs) (and_false before)
 ends_tight_more tight before (Ending ending) bs = ap (λ x. ends_tight tight x bs) (and_true before)

@@ -2,7 +2,7 @@
 use Rattle.std.proofs.Common.{◌≡◌, List, [], ◌∷◌, ◌++◌, refl, sym, ap, ◌∙◌, append_assoc}
 use Rattle.markdown_definition.specs.declared.container.Container.{Container}
 use Rattle.markdown_definition.specs.declared.container.Container.TheVariants.{Quote, Item}
-use Rattle.markdown_definition.specs.Tree.{Block, Paragraph, Heading, Break, IndentedCode, FencedCode, Holds, Items, Ending, Blank, Blocks, Nil, Cons}
+use Rattle.markdown_definition.specs.Tree.{Block, Paragraph, Heading, Break, IndentedCode, FencedCode, Html, Definition, Holds, Items, Ending, Blank, Blocks, Nil, Cons}
 use Rattle.markdown_definition.specs.Lists.{has_gap, before, grouped, grouped_block}
 use Rattle.markdown_definition.specs.Rows.{BlockRow, Exit, entered, rows_of, block_rows}
 use Rattle.tree_html.specs.declared.loose.Place.{Place}
@@ -25,6 +25,8 @@ abbrev mutual
   places_in Break gs = []
   places_in (IndentedCode ls) gs = []
   places_in (FencedCode info closed ls) gs = []
+  places_in (Html ls) gs = []
+  places_in (Definition label destination title) gs = []
   places_in (Holds c kids) gs = own_place c kids gs ++ places_within kids
   places_in (Items items) gs = []
   places_in (Ending ending) gs = []
@@ -73,6 +75,8 @@ mutual
   block_passed Break h gs outer places = refl
   block_passed (IndentedCode ls) h gs outer places = refl
   block_passed (FencedCode info closed ls) h gs outer places = refl
+  block_passed (Html ls) h gs outer places = refl
+  block_passed (Definition label destination title) h gs outer places = refl
   block_passed (Holds c kids) h gs outer places = holds_passed c kids h.0 (blocks_passed kids h.1) gs outer places
   block_passed (Items items) h gs outer places = absurd h
   block_passed (Ending e) h gs outer places = ap (λ (a : Ahead). passed_at a outer places) (sym (ahead_of_ending e gs))

@@ -1,5 +1,6 @@
 -- The blocks of a text can be printed: the ranks of headings are from 1 to 6, infos are bytes, and items have markers.
-use Rattle.std.proofs.Common.{◌≡◌, ℕ, zero, suc, ◌-◌, ◌≤◌, List, [], ◌∷◌, Option, None, Some, Bool, true, false, ◌&&◌, ◌==◌, not, leb, refl, sym, subst, ap, take, drop, length}
+use Rattle.std.proofs.Common.{◌≡◌, ℕ, zero, suc, ◌-◌, ◌≤◌, lit≤, List, [], ◌∷◌, ◌++◌, Option, None, Some, Bool, true, false, ◌&&◌, ◌==◌, not, leb, refl, sym, subst, ap, take, drop, length}
+use Rattle.std.specs.Prelude.{if◌then◌else◌}
 use Rattle.std.specs.Option.{IfSome}
 use Rattle.std.specs.List.{fold, list_all, prefix_len, suffix_len, position_or_len}
 use Rattle.std.proofs.lemmas.Bool.{and_parts, and_from, leb-true}
@@ -9,7 +10,7 @@ use Rattle.markdown_definition.specs.declared.container.Container.{Container}
 use Rattle.markdown_definition.specs.declared.container.Container.TheVariants.{Quote, Item}
 use Rattle.markdown_definition.specs.Lines.{TextLine, lines}
 use Rattle.markdown_definition.specs.Columns.{Rest, whole, bare, bytes_of, indent, is_byte, is_white, is_blank, trimmed}
-use Rattle.markdown_definition.specs.Runs.{run, after_run}
+use Rattle.markdown_definition.specs.Runs.{run, after_run, is_run}
 use Rattle.markdown_definition.specs.Started.{Started}
 use Rattle.markdown_definition.specs.Containers.{continues, starts}
 use Rattle.markdown_definition.specs.CodeFenced.{Fence, first_word, fence_of, fence_start, is_fence_end}
@@ -17,7 +18,12 @@ use Rattle.markdown_definition.specs.Indents.{small_indent}
 use Rattle.markdown_definition.specs.CodeIndented.{starts_code_indented}
 use Rattle.markdown_definition.specs.ThematicBreak.{is_break}
 use Rattle.markdown_definition.specs.HeadingAtx.{Atx, atx_of, begins_apart, heading_atx}
-use Rattle.markdown_definition.specs.Tree.{BlockLine, block_line, in_container, Block, Paragraph, Heading, Break, IndentedCode, FencedCode, Holds, Items, Ending, Blank, Blocks, Nil, Cons, join, one, ended, OpenLeaf, Text, Indented, Fenced, Opening, Leaf, Inside, Tree, tree, nothing, empty_tree, close_leaf, close, blanks, is_ending, all_endings, front, trailing, without_last, last_of, holds, has_text, with_line, rest_line, takes, taken, or_heading, or_fence, begins, after, text_line_of, break_or_text, begun, leaf_line, start, new, began_blank, goes_on, grow, step, closed, blocks}
+use Rattle.markdown_definition.specs.HeadingSetext.{underline_of, underline}
+use Rattle.markdown_definition.specs.HtmlFlow.{html_start, html_ends_here, ends_before_blank}
+use Rattle.markdown_definition.specs.Content.{content_of}
+use Rattle.markdown_definition.specs.LinkDefinition.{Definition as LinkDefinition, definition_at}
+use Rattle.markdown_definition.specs.Definitions.{Cut, cut_into, cut_after, cut_most, cut, defined, lines_before}
+use Rattle.markdown_definition.specs.Tree.{BlockLine, block_line, in_container, Block, Paragraph, Heading, Break, IndentedCode, FencedCode, Html, Definition, Holds, Items, Ending, Blank, Blocks, Nil, Cons, join, one, ended, own_lines, OpenLeaf, Text, Indented, Fenced, OpenHtml, Opening, Leaf, Inside, Tree, tree, nothing, empty_tree, paragraph_of, close_leaf, close, blanks, is_ending, all_endings, front, trailing, without_last, last_of, holds, has_text, with_line, rest_line, html_with, takes, taken, or_heading, or_fence, or_html, begins, text_here, heading_of, underlined, turns, after, text_line_of, break_or_text, begun, leaf_line, start, new, began_blank, goes_on, grow, step, closed, blocks}
 use Rattle.markdown_definition.specs.Rows.{Shown, shown, shown_as, rows_of}
 use Rattle.markdown_definition.specs.declared.row.Row.{Row}
 use Rattle.tree_html.specs.Printable.{IsPrintableContainer, IsPrintable, ArePrintable, CanBePrinted}
@@ -82,6 +88,18 @@ atx_of_fits text =
 heading_fits : (on : Constructs) (rest : Rest) → AtxFits (heading_atx on rest)
 heading_fits on rest = choose AtxFits (on.heading_atx && small_indent on rest) _ _ (atx_of_fits (bytes_of (bare rest))) record { rank = tt }
 
+record RankFits (o : Option ℕ) : Type 0 where
+  rank : IfSome o (λ rank. (1 ≤ rank) × (rank ≤ 6))
+
+underline_of_fits : (text : List ℕ) → RankFits (underline_of text)
+underline_of_fits text =
+    choose RankFits (is_run 1 61 text) (Some 1) (if is_run 1 45 text then Some 2 else None) record { rank = (lit≤ tt, lit≤ tt) }
+    (choose RankFits (is_run 1 45 text) (Some 2) None record { rank = (lit≤ tt, lit≤ tt) } record { rank = tt })
+
+underline_fits : (on : Constructs) (rest : Rest) → RankFits (underline on rest)
+underline_fits on rest =
+    choose RankFits (on.heading_setext && small_indent on rest) (underline_of (bytes_of (bare rest))) None (underline_of_fits (bytes_of (bare rest))) record { rank = tt }
+
 -- ---- blocks
 
 joined : (bs others : Blocks) → CanBePrinted bs → CanBePrinted others → CanBePrinted (join bs others)
@@ -94,6 +112,8 @@ ending_printable (Heading rank ls) h = let wrong : false ≡ true = h in cc
 ending_printable Break h = tt
 ending_printable (IndentedCode ls) h = tt
 ending_printable (FencedCode info closed ls) h = let wrong : false ≡ true = h in cc
+ending_printable (Html ls) h = let wrong : false ≡ true = h in cc
+ending_printable (Definition label destination title) h = let wrong : false ≡ true = h in cc
 ending_printable (Holds c kids) h = let wrong : false ≡ true = h in cc
 ending_printable (Items items) h = let wrong : false ≡ true = h in cc
 ending_printable (Ending ending) h = tt
@@ -132,12 +152,33 @@ blanks_printable : (ls : List BlockLine) → CanBePrinted (blanks ls)
 blanks_printable [] = tt
 blanks_printable (l ∷ ls) = (tt, blanks_printable ls)
 
+-- ---- definitions at the front of a paragraph
+
+cut_after_printable : (o : Option LinkDefinition) (ls : List BlockLine) (more : List BlockLine → Cut)
+    → ((left : List BlockLine) → CanBePrinted (more left).definitions) → CanBePrinted (cut_after o ls more).definitions
+cut_after_printable None ls more h = tt
+cut_after_printable (Some d) ls more h =
+    let count = lines_before d.rest ls in
+    joined (defined d (take count ls)) (more (drop count ls)).definitions (tt, (tt, tt)) (h (drop count ls))
+
+cut_most_printable : (most : ℕ) (ls : List BlockLine) → CanBePrinted (cut_most most ls).definitions
+cut_most_printable zero ls = tt
+cut_most_printable (suc most) ls = cut_after_printable (definition_at (content_of (own_lines ls))) ls (cut_most most) (cut_most_printable most)
+
+cut_printable : (on : Constructs) (ls : List BlockLine) → CanBePrinted (cut on ls).definitions
+cut_printable on ls = choose (λ (c : Cut). CanBePrinted c.definitions) on.definition (cut_most (length ls) ls) (cut_into Nil ls) (cut_most_printable (length ls) ls) tt
+
+paragraph_printable : (ls : List BlockLine) → CanBePrinted (paragraph_of ls)
+paragraph_printable [] = tt
+paragraph_printable (l ∷ ls) = (tt, (tt, tt))
+
 -- ---- what is open
 
 abbrev LeafFits : OpenLeaf → Type 0
 LeafFits (Text ls) = Unit {0}
 LeafFits (Indented ls pending) = Unit {0}
 LeafFits (Fenced fence opening ls) = AreBytes fence.info
+LeafFits (OpenHtml kind ls) = Unit {0}
 
 abbrev Fits : Opening → Type 0
 Fits (Leaf leaf) = LeafFits leaf
@@ -156,32 +197,45 @@ record OptionFits (o : Option Tree) : Type 0 where
 some_fits : (t : Tree) → CanBePrinted t.done → Fits t.now → OptionFits (Some t)
 some_fits t h k = record { tree = fits t h k }
 
-leaf_closed : (leaf : OpenLeaf) → LeafFits leaf → CanBePrinted (close_leaf leaf)
-leaf_closed (Text []) h = tt
-leaf_closed (Text (l ∷ ls)) h = (tt, (tt, tt))
-leaf_closed (Indented ls pending) h = (tt, (tt, blanks_printable pending))
-leaf_closed (Fenced fence opening ls) h = (h, (tt, tt))
+leaf_closed : (on : Constructs) (leaf : OpenLeaf) → LeafFits leaf → CanBePrinted (close_leaf on leaf)
+leaf_closed on (Text ls) h = joined (cut on ls).definitions (paragraph_of (cut on ls).left) (cut_printable on ls) (paragraph_printable (cut on ls).left)
+leaf_closed on (Indented ls pending) h = (tt, (tt, blanks_printable pending))
+leaf_closed on (Fenced fence opening ls) h = (h, (tt, tt))
+leaf_closed on (OpenHtml kind ls) h = (tt, (tt, tt))
 
-close_printable : (now : Opening) → Fits now → CanBePrinted (close now)
-close_printable (Leaf leaf) h = leaf_closed leaf h
-close_printable (Inside c kids inner) h = holds_printable c (join kids (close inner)) h.0 (joined kids (close inner) h.1 (close_printable inner h.2))
+close_printable : (on : Constructs) (now : Opening) → Fits now → CanBePrinted (close on now)
+close_printable on (Leaf leaf) h = leaf_closed on leaf h
+close_printable on (Inside c kids inner) h = holds_printable c (join kids (close on inner)) h.0 (joined kids (close on inner) h.1 (close_printable on inner h.2))
 
-after_fits : (away : Opening) (t : Tree) → Fits away → TreeFits t → TreeFits (after away t)
-after_fits away t h k = record { done = joined (close away) t.done (close_printable away h) k.done; now = k.now }
+after_fits : (on : Constructs) (away : Opening) (t : Tree) → Fits away → TreeFits t → TreeFits (after on away t)
+after_fits on away t h k = record { done = joined (close on away) t.done (close_printable on away h) k.done; now = k.now }
 
 with_line_fits : (line : BlockLine) (now : Opening) → Fits now → Fits (with_line line now)
 with_line_fits line (Leaf (Text ls)) h = tt
 with_line_fits line (Leaf (Indented ls pending)) h = tt
 with_line_fits line (Leaf (Fenced fence opening ls)) h = h
+with_line_fits line (Leaf (OpenHtml kind ls)) h = tt
 with_line_fits line (Inside c kids inner) h = (h.0, h.1, with_line_fits line inner h.2)
+
+taken_fits : (o : Option Tree) (other : Tree) → OptionFits o → TreeFits other → TreeFits (taken o other)
+taken_fits None other h k = k
+taken_fits (Some t) other h k = h.tree
 
 -- ---- a line
 
 module _ (on : Constructs) (e : Option LineEnding) (r : Rest) where
+  html_with_fits : (kind : ℕ) (ls : List BlockLine) → TreeFits (html_with kind ls r e)
+  html_with_fits kind ls =
+      let more = ls ++ rest_line r e ∷ [] in
+      choose TreeFits (html_ends_here kind r) (tree (ended (Html (own_lines more)) e) nothing) (tree Nil (Leaf (OpenHtml kind more)))
+      (fits (tree (ended (Html (own_lines more)) e) nothing) (tt, (tt, tt)) tt) (fits (tree Nil (Leaf (OpenHtml kind more))) tt tt)
+
   takes_fits : (leaf : OpenLeaf) → LeafFits leaf → OptionFits (takes on leaf r e)
   takes_fits (Text ls) h = record { tree = tt }
   takes_fits (Indented ls pending) h = choose OptionFits (is_blank r) _ _ (some_fits _ tt tt) (choose OptionFits (starts_code_indented on r) _ _ (some_fits _ tt tt) record { tree = tt })
   takes_fits (Fenced fence opening ls) h = choose OptionFits (is_fence_end on fence r) _ _ (some_fits _ (h, (tt, tt)) tt) (some_fits _ tt h)
+  takes_fits (OpenHtml kind ls) h =
+      choose OptionFits (ends_before_blank kind && is_blank r) None (Some (html_with kind ls r e)) record { tree = tt } record { tree = html_with_fits kind ls }
 
   or_heading_fits : (o : Option Atx) → AtxFits o → OptionFits (or_heading e o)
   or_heading_fits None h = record { tree = tt }
@@ -191,45 +245,60 @@ module _ (on : Constructs) (e : Option LineEnding) (r : Rest) where
   or_fence_fits None other h k = k
   or_fence_fits (Some fence) other h k = some_fits (tree Nil (Leaf (Fenced fence e []))) tt h.info
 
+  or_html_fits : (o : Option ℕ) (other : Option Tree) → OptionFits other → OptionFits (or_html r e o other)
+  or_html_fits None other h = h
+  or_html_fits (Some kind) other h = record { tree = html_with_fits kind [] }
+
   begins_fits : (paragraph : Bool) → OptionFits (begins on paragraph r e)
   begins_fits paragraph =
       choose OptionFits (starts_code_indented on r && not paragraph) _ _ (some_fits _ tt tt)
-      (or_fence_fits (fence_start on r) (or_heading e (heading_atx on r)) (fence_start_fits on r) (or_heading_fits (heading_atx on r) (heading_fits on r)))
+      (or_fence_fits (fence_start on r) (or_html r e (html_start on paragraph r) (or_heading e (heading_atx on r))) (fence_start_fits on r)
+      (or_html_fits (html_start on paragraph r) (or_heading e (heading_atx on r)) (or_heading_fits (heading_atx on r) (heading_fits on r))))
 
-  text_fits : (away : Opening) → Fits away → TreeFits (text_line_of away r e)
+  heading_of_fits : (rank : ℕ) (definitions : Blocks) (ls : List BlockLine) → (1 ≤ rank) × (rank ≤ 6) → CanBePrinted definitions → OptionFits (heading_of rank definitions ls e)
+  heading_of_fits rank definitions [] h k = record { tree = tt }
+  heading_of_fits rank definitions (l ∷ ls) h k =
+      let heading = ended (Heading rank (own_lines (l ∷ ls))) e in
+      some_fits (tree (join definitions heading) nothing) (joined definitions heading k (h, (tt, tt))) tt
+
+  underlined_fits : (o : Option ℕ) (ls : List BlockLine) → RankFits o → OptionFits (underlined on o ls e)
+  underlined_fits None ls h = record { tree = tt }
+  underlined_fits (Some rank) ls h = heading_of_fits rank (cut on ls).definitions (cut on ls).left h.rank (cut_printable on ls)
+
+  turns_fits : (away : Opening) → OptionFits (turns on away r e)
+  turns_fits away = underlined_fits (underline on r) (text_here away) (underline_fits on r)
+
+  text_fits : (away : Opening) → Fits away → TreeFits (text_line_of on away r e)
   text_fits away h =
       let line = rest_line r e in
       choose TreeFits (has_text away) _ _ (fits (tree Nil (with_line line away)) tt (with_line_fits line away h))
-      (after_fits away (tree Nil (Leaf (Text (line ∷ [])))) h (fits (tree Nil (Leaf (Text (line ∷ [])))) tt tt))
+      (after_fits on away (tree Nil (Leaf (Text (line ∷ [])))) h (fits (tree Nil (Leaf (Text (line ∷ [])))) tt tt))
 
   break_fits : (away : Opening) → Fits away → TreeFits (break_or_text on away r e)
   break_fits away h =
       let t = tree (ended Break e) nothing in
-      choose TreeFits (is_break on r) _ _ (after_fits away t h (fits t (tt, (tt, tt)) tt)) (text_fits away h)
+      choose TreeFits (is_break on r) _ _ (after_fits on away t h (fits t (tt, (tt, tt)) tt)) (text_fits away h)
 
-  begun_fits : (o : Option Tree) (away : Opening) (other : Tree) → Fits away → OptionFits o → TreeFits other → TreeFits (begun o away other)
+  begun_fits : (o : Option Tree) (away : Opening) (other : Tree) → Fits away → OptionFits o → TreeFits other → TreeFits (begun on o away other)
   begun_fits None away other h k l = l
-  begun_fits (Some t) away other h k l = after_fits away t h k.tree
+  begun_fits (Some t) away other h k l = after_fits on away t h k.tree
 
   leaf_line_fits : (away : Opening) → Fits away → TreeFits (leaf_line on away r e)
   leaf_line_fits away h =
       let t = tree (one (Blank e)) nothing in
-      choose TreeFits (is_blank r) _ _ (after_fits away t h (fits t (tt, tt) tt))
-      (begun_fits (begins on (has_text away) r e) away (break_or_text on away r e) h (begins_fits (has_text away)) (break_fits away h))
+      choose TreeFits (is_blank r) _ _ (after_fits on away t h (fits t (tt, tt) tt))
+      (begun_fits (begins on (has_text away) r e) away (taken (turns on away r e) (break_or_text on away r e)) h (begins_fits (has_text away))
+      (taken_fits (turns on away r e) (break_or_text on away r e) (turns_fits away) (break_fits away h)))
 
-  start_fits : (o : Option Started) (away : Opening) (other : Tree) (more : Rest → Tree) → StartFits o → Fits away → TreeFits other → ((rest : Rest) → TreeFits (more rest)) → TreeFits (start o away other more)
+  start_fits : (o : Option Started) (away : Opening) (other : Tree) (more : Rest → Tree) → StartFits o → Fits away → TreeFits other → ((rest : Rest) → TreeFits (more rest)) → TreeFits (start on o away other more)
   start_fits None away other more s h k l = k
   start_fits (Some s) away other more c h k l =
       let t = tree Nil (Inside s.container (more s.rest).done (more s.rest).now) in
       let f = l s.rest in
-      after_fits away t h (fits t tt (c.container, f.done, f.now))
+      after_fits on away t h (fits t tt (c.container, f.done, f.now))
 
   in_container_fits : (c : Container) (kids : Blocks) (t : Tree) → IsPrintableContainer c → CanBePrinted kids → TreeFits t → TreeFits (in_container c kids t)
   in_container_fits c kids t h k f = fits (in_container c kids t) tt (h, joined kids t.done k f.done, f.now)
-
-  taken_fits : (o : Option Tree) (other : Tree) → OptionFits o → TreeFits other → TreeFits (taken o other)
-  taken_fits None other h k = k
-  taken_fits (Some t) other h k = h.tree
 
 -- containers that start, and a leaf
 new_fits : (on : Constructs) (e : Option LineEnding) (most : ℕ) (all : Bool) (away : Opening) (r : Rest) → Fits away → TreeFits (new most on all away e r)
@@ -246,7 +315,7 @@ goes_on_fits on e r (Some rest) c kids inner more h k = in_container_fits on e r
 
 grow_fits : (on : Constructs) (e : Option LineEnding) (now : Opening) (r : Rest) → Fits now → TreeFits (grow on e now r)
 grow_fits on e (Leaf leaf) r h =
-    taken_fits on e r (takes on leaf r e) (new (length r) on true (Leaf leaf) e r) (takes_fits on e r leaf h) (new_fits on e (length r) true (Leaf leaf) r h)
+    taken_fits (takes on leaf r e) (new (length r) on true (Leaf leaf) e r) (takes_fits on e r leaf h) (new_fits on e (length r) true (Leaf leaf) r h)
 grow_fits on e (Inside c kids inner) r h =
     goes_on_fits on e r (continues on c (began_blank kids inner) r) c kids inner (grow on e inner) h (λ rest. grow_fits on e inner rest h.2)
 
@@ -265,7 +334,7 @@ pub blocks_printable : (on : Constructs) (text : List ℕ) → CanBePrinted (blo
 blocks_printable on text =
     let t = fold (step on) empty_tree (lines text) in
     let h = steps_fit on empty_tree (lines text) (fits empty_tree tt tt) in
-    joined t.done (close t.now) h.done (close_printable t.now h.now)
+    joined t.done (close on t.now) h.done (close_printable on t.now h.now)
 
 -- rows that stand for the blocks of a text
 pub shown_printable : (on : Constructs) (text : List ℕ) (rows : List Row) (ls left : List BlockLine)

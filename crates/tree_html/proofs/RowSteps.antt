@@ -5,6 +5,7 @@ use Rattle.std.specs.List.{fold, All}
 use Rattle.std.proofs.lemmas.List.{append-nil, append_assoc, drop-drop, drop-map, drop_more, take-append-drop}
 use Rattle.std.proofs.lemmas.List.Elements.{All-head, All-tail}
 use Rattle.std.proofs.lemmas.List.Sums.{fold_more, fold_push, fold-append, sum_by-drop_more}
+use Rattle.markdown_options.specs.declared.configuration.CompileOptions.{CompileOptions}
 use Rattle.markdown_definition.specs.declared.row.Row.{Row}
 use Rattle.markdown_definition.specs.Tree.{BlockLine}
 use Rattle.markdown_definition.specs.Rows.{BlockRow, Shown, shown, shown_as, show_row, row_shown, lines_taken, all_taken}
@@ -16,8 +17,9 @@ pub shown_more : (rows : List Row) (ls : List BlockLine) (i : ℕ) (d : Row) →
 shown_more rows ls i d lt = fold_more show_row (shown_as [] ls) rows i d lt
 
 -- a row is printed after those before it
-pub printed_more : (default : List ℕ) (p : Printed) (rows : List BlockRow) (row : BlockRow) → printed default p (rows ++ row ∷ []) ≡ row_printed default (printed default p rows) row
-printed_more default p rows row = fold_push (row_printed default) p rows row
+pub printed_more : (options : CompileOptions) (default : List ℕ) (p : Printed) (rows : List BlockRow) (row : BlockRow)
+    → printed options default p (rows ++ row ∷ []) ≡ row_printed options default (printed options default p rows) row
+printed_more options default p rows row = fold_push (row_printed options default) p rows row
 
 -- the lines that a row takes, and those of the rows after it
 pub taken_more : (rows : List Row) (i : ℕ) (d : Row) → i < length rows → all_taken (drop i rows) ≡ lines_taken (get_or rows i d) + all_taken (drop (i + 1) rows)

@@ -3,9 +3,10 @@ use Rattle.std.proofs.Common.{◌≡◌, ℕ, Bool, true, false, List, [], ◌�
 use Rattle.std.specs.List.{fold, All}
 use Rattle.std.proofs.lemmas.List.Sums.{fold-append}
 use Rattle.std.proofs.lemmas.List.Elements.{All-nil, All-cons, All-head, All-tail}
+use Rattle.markdown_options.specs.declared.configuration.CompileOptions.{CompileOptions}
 use Rattle.markdown_definition.specs.declared.container.Container.{Container}
 use Rattle.markdown_definition.specs.declared.container.Container.TheVariants.{Quote, Item}
-use Rattle.markdown_definition.specs.Tree.{Block, Paragraph, Heading, Break, IndentedCode, FencedCode, Holds, Items, Ending, Blank, Blocks, Nil, Cons}
+use Rattle.markdown_definition.specs.Tree.{Block, Paragraph, Heading, Break, IndentedCode, FencedCode, Html, Definition, Holds, Items, Ending, Blank, Blocks, Nil, Cons}
 use Rattle.markdown_definition.specs.Lists.{grouped}
 use Rattle.markdown_definition.specs.Pieces.{print, layout}
 use Rattle.markdown_definition.specs.Html.{children_pieces, ends_blank, is_blank_ending, last_piece, document_pieces}
@@ -30,6 +31,8 @@ block_ends_blank (Heading rank ls) blank h = refl
 block_ends_blank Break blank h = refl
 block_ends_blank (IndentedCode ls) blank h = refl
 block_ends_blank (FencedCode info closed ls) blank h = refl
+block_ends_blank (Html ls) blank h = refl
+block_ends_blank (Definition label destination title) blank h = refl
 block_ends_blank (Holds c kids) blank h =
     fold-append (λ (before : Bool) row. is_blank_row row) (is_blank_row (entered c)) (rows_of kids) (Exit ∷ [])
 block_ends_blank (Items items) blank h = absurd h
@@ -45,14 +48,14 @@ rows_end_blank (Cons b bs) blank h =
 
 -- ---- the page
 
-pub rows_html_of : (default : List ℕ) (bs : Blocks) → CanBePrinted bs → rows_html default (rows_of bs) ≡ layout default (document_pieces bs)
-rows_html_of default bs h =
-    let pieces = children_pieces true false false (grouped bs) in
+pub rows_html_of : (options : CompileOptions) (default : List ℕ) (bs : Blocks) → CanBePrinted bs → rows_html options default (rows_of bs) ≡ layout default (document_pieces options bs)
+rows_html_of options default bs h =
+    let pieces = children_pieces options true false false (grouped bs) in
     let start = new_level kind.Document false in
     let last = λ (out : List ℕ) (blank : Bool). fold (print default) out (last_piece blank) in
     let blank = ends_blank_rows (rows_of bs) in
-    ap (λ (ps : List Place). last (printed default (printed_at [] start [] ps) (rows_of bs)).out blank) (ap (λ (p : Passed). p.places) (blocks_passed bs h [] []))
-    ∙ ap (λ (p : Printed). last p.out blank) ((blocks_printed default bs h).children start [] [] [] refl)
+    ap (λ (ps : List Place). last (printed options default (printed_at [] start [] ps) (rows_of bs)).out blank) (ap (λ (p : Passed). p.places) (blocks_passed bs h [] []))
+    ∙ ap (λ (p : Printed). last p.out blank) ((blocks_printed options default bs h).children start [] [] [] refl)
     ∙ ap (last (layout default pieces)) (rows_end_blank bs false h)
     ∙ sym (fold-append (print default) [] pieces (last_piece (ends_blank false bs)))
 
@@ -76,6 +79,8 @@ mutual
   printable_block Break h = all_one (Single Break) h
   printable_block (IndentedCode ls) h = all_one (Single (IndentedCode ls)) h
   printable_block (FencedCode info closed ls) h = all_one (Single (FencedCode info closed ls)) h
+  printable_block (Html ls) h = all_one (Single (Html ls)) h
+  printable_block (Definition label destination title) h = all_one (Single (Definition label destination title)) h
   printable_block (Holds c kids) h =
       All-cons IsPrintableRow (entered c) (rows_of kids ++ Exit ∷ []) (entered_printable c) (all_append IsPrintableRow (rows_of kids) (Exit ∷ []) (printable_rows_of kids h.1) (all_one Exit tt))
   printable_block (Items items) h = absurd h

@@ -1,6 +1,7 @@
 -- What holds a row, and what a block prints in it.
 use Rattle.std.specs.Prelude.{Bool, true, false, List, []}
-use Rattle.markdown_definition.specs.Tree.{Block, Paragraph, Heading, Break, IndentedCode, FencedCode, Holds, Items, Ending, Blank}
+use Rattle.markdown_options.specs.declared.configuration.CompileOptions.{CompileOptions}
+use Rattle.markdown_definition.specs.Tree.{Block, Paragraph, Heading, Break, IndentedCode, FencedCode, Html, Definition, Holds, Items, Ending, Blank}
 use Rattle.markdown_definition.specs.Pieces.{Piece}
 use Rattle.markdown_definition.specs.Html.{block_pieces, silences}
 use Rattle.markdown_definition.specs.Rows.{BlockRow, Single, EnterQuote, EnterItem, Exit}
@@ -31,13 +32,15 @@ new_level k tight = level_of k tight true false
 abbrev pub held : Level → Level
 held l = level_of l.kind l.tight false false
 
--- whether the last block, if there is any, is a tight paragraph, after one more
+-- whether the last block that prints anything, if there is any, is a tight paragraph, after one more
 abbrev pub plain_after : Bool → Bool → Block → Bool
 plain_after tight before (Paragraph ls) = tight
 plain_after tight before (Heading rank ls) = false
 plain_after tight before Break = false
 plain_after tight before (IndentedCode ls) = false
 plain_after tight before (FencedCode info closed ls) = false
+plain_after tight before (Html ls) = false
+plain_after tight before (Definition label destination title) = before
 plain_after tight before (Holds c kids) = false
 plain_after tight before (Items items) = false
 plain_after tight before (Ending ending) = before
@@ -50,8 +53,8 @@ level_after l (EnterItem marker number) = held l
 level_after l Exit = held l
 
 -- what a block prints at a level
-abbrev pub row_pieces : Level → BlockRow → List Piece
-row_pieces l (Single b) = block_pieces (is_document l.kind) l.tight l.silent b
-row_pieces l EnterQuote = []
-row_pieces l (EnterItem marker number) = []
-row_pieces l Exit = []
+abbrev pub row_pieces : CompileOptions → Level → BlockRow → List Piece
+row_pieces options l (Single b) = block_pieces options (is_document l.kind) l.tight l.silent b
+row_pieces options l EnterQuote = []
+row_pieces options l (EnterItem marker number) = []
+row_pieces options l Exit = []

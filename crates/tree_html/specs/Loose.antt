@@ -84,10 +84,14 @@ places_of rows = (pass_rows nothing_passed rows).places
 abbrev pub starts_item : Row → Bool
 starts_item (row.Paragraph count) = false
 starts_item (row.Heading rank) = false
+starts_item (row.WholeParagraph count) = false
+starts_item (row.SetextHeading rank count) = false
 starts_item row.Break = false
 starts_item (row.IndentedCode count) = false
 starts_item (row.FencedCode count) = false
 starts_item (row.UnclosedCode count) = false
+starts_item (row.Html count) = false
+starts_item (row.Definition count) = false
 starts_item row.EnterQuote = false
 starts_item (row.EnterItem marker number) = true
 starts_item row.Exit = false

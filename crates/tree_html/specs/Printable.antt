@@ -4,7 +4,7 @@ use Rattle.std.specs.List.{list_all, All}
 use Rattle.markdown_definition.specs.declared.container.Container.{Container}
 use Rattle.markdown_definition.specs.declared.container.Container.TheVariants.{Quote, Item}
 use Rattle.markdown_definition.specs.Columns.{is_byte}
-use Rattle.markdown_definition.specs.Tree.{Block, Paragraph, Heading, Break, IndentedCode, FencedCode, Holds, Items, Ending, Blank, Blocks, Nil, Cons}
+use Rattle.markdown_definition.specs.Tree.{Block, Paragraph, Heading, Break, IndentedCode, FencedCode, Html, Definition, Holds, Items, Ending, Blank, Blocks, Nil, Cons}
 use Rattle.markdown_definition.specs.Rows.{BlockRow, Single, EnterQuote, EnterItem, Exit}
 
 -- whether a container can be printed: an item has a marker
@@ -20,6 +20,8 @@ abbrev mutual
   IsPrintable Break = Unit {0}
   IsPrintable (IndentedCode ls) = Unit {0}
   IsPrintable (FencedCode info closed ls) = list_all is_byte info ≡ true
+  IsPrintable (Html ls) = Unit {0}
+  IsPrintable (Definition label destination title) = Unit {0}
   IsPrintable (Holds c kids) = IsPrintableContainer c × CanBePrinted kids
   IsPrintable (Items items) = ⊥
   IsPrintable (Ending ending) = Unit {0}

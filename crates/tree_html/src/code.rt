@@ -1,5 +1,6 @@
 //! Code (CommonMark 4.4 and 4.5).
 ghost use Rattle.std.specs.Prelude.{◌≡◌, ◌++◌, map, replicate, OnOk, string_bytes, true, false};
+ghost use Rattle.markdown_options.specs.declared.configuration.CompileOptions.{CompileOptions};
 ghost use Rattle.markdown_options.specs.LineEndings.{ending_bytes};
 ghost use Rattle.markdown_definition.specs.Lines.{ending_text};
 ghost use Rattle.markdown_definition.specs.Pieces.{Fresh, print};
@@ -20,7 +21,7 @@ impl<A: Allocator> Page<A> {
     /// Prints indented code (CommonMark 4.4).
     pub(crate) fn indented_code(&mut self, lines: &[Piece<'_>]) -> Result<(), AllocError>
         ensures default { self.new.default_ending ≡ self.old.default_ending }
-        ensures printed { OnOk result (string_bytes self.new.html ≡ laid self.old.default_ending (string_bytes self.old.html) (block_pieces true false false (IndentedCode (own_lines (piece_lines lines.now))))) }
+        ensures printed { (options : CompileOptions) → OnOk result (string_bytes self.new.html ≡ laid self.old.default_ending (string_bytes self.old.html) (block_pieces options true false false (IndentedCode (own_lines (piece_lines lines.now))))) }
     {
         self.fresh()?;
         self.html.push_str("<pre><code>")?;
@@ -38,7 +39,7 @@ impl<A: Allocator> Page<A> {
         lines: &[Piece<'_>],
     ) -> Result<(), AllocError>
         ensures default { self.new.default_ending ≡ self.old.default_ending }
-        ensures printed { OnOk result (string_bytes self.new.html ≡ laid self.old.default_ending (string_bytes self.old.html) (block_pieces top false false (FencedCode info.now closed (piece_lines lines.now)))) }
+        ensures printed { (options : CompileOptions) → OnOk result (string_bytes self.new.html ≡ laid self.old.default_ending (string_bytes self.old.html) (block_pieces options top false false (FencedCode info.now closed (piece_lines lines.now)))) }
     {
         self.fresh()?;
         self.html.push_str("<pre><code")?;

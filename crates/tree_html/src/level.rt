@@ -23,7 +23,7 @@ pub(crate) struct Level {
     pub(crate) kind: Kind,
     /// Whether paragraphs in it are printed as their text alone (CommonMark 5.3).
     pub(crate) tight: bool,
-    /// Whether its last block, if it has any, is such a paragraph.
+    /// Whether its last block that prints anything, if it has any, is such a paragraph.
     pub(crate) plain: bool,
     /// Whether the last row silences an ending right after it.
     pub(crate) silent: bool,
@@ -42,13 +42,14 @@ impl Level {
         }
     }
 
-    /// The level after one more row in it. An ending right after a tight paragraph prints nothing,
-    /// nor does one after fenced code at the top that isn't closed.
+    /// The level after one more row in it. An ending right after a tight paragraph or a definition
+    /// prints nothing, nor does one after fenced code at the top that isn't closed.
     pub(crate) fn after(self, row: Row) -> Level
         ensures { (ls : List BlockLine) → result ≡ level_after self (row_shown row ls) }
     {
         let (plain, silent) = match row {
-            Row::Paragraph(_) => (self.tight, self.tight),
+            Row::Paragraph(_) | Row::WholeParagraph(_) => (self.tight, self.tight),
+            Row::Definition(_) => (self.plain, true),
             Row::UnclosedCode(_) => (false, self.is_document()),
             Row::Ending(_) | Row::Blank(_) => (self.plain, false),
             _ => (false, false),

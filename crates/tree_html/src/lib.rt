@@ -5,6 +5,7 @@ pub mod code;
 pub mod container;
 pub mod encode;
 pub mod heading;
+pub mod html;
 pub mod level;
 pub mod list;
 pub mod loose;
@@ -12,4 +13,5 @@ pub mod page;
 pub mod printer;
 
 pub use encode::push_encoded;
+pub use html::{push_html, push_raw};
 pub use printer::print_rows;

@@ -6,13 +6,13 @@ ghost use Rattle.markdown_definition.specs.Pieces.{layout};
 ghost use Rattle.markdown_definition.specs.Html.{document_pieces};
 ghost use Rattle.markdown_definition.specs.Rows.{all_taken, lines_taken, piece_lines, rows_of, row_shown, shown};
 ghost use Rattle.tree_html.specs.Printable.{IsPrintableRow, ArePrintable, CanBePrinted};
-ghost use Rattle.tree_html.specs.Printed.{ends_blank_rows, printed_of, row_printed};
+ghost use Rattle.tree_html.specs.Printed.{ends_blank_rows, is_blank_row, printed_of, row_printed};
 
 use crate::level::{Kind, Level};
 use crate::loose::{Place, places};
 use crate::page::Page;
 use markdown_definition::{Piece, Row};
-use markdown_options::LineEnding;
+use markdown_options::{CompileOptions, LineEnding};
 use std::alloc::{AllocError, Allocator};
 
 /// A page that is being printed, and what is open on it.
@@ -28,18 +28,23 @@ pub(crate) struct Printer<A: Allocator> {
 
 impl<A: Allocator> Printer<A> {
     /// Prints a row. A block takes its lines from the front of these.
-    fn row(&mut self, row: Row, lines: &[Piece<'_>]) -> Result<(), AllocError>
+    fn row(
+        &mut self,
+        options: &CompileOptions,
+        row: Row,
+        lines: &[Piece<'_>],
+    ) -> Result<(), AllocError>
         requires enough { lines_taken row ≤ length lines.now }
         requires printable { IsPrintableRow (row_shown row (piece_lines lines.now)) }
         ensures default { self.new.page.default_ending ≡ self.old.page.default_ending }
-        ensures printed { OnOk result (printed_of self.new ≡ row_printed (ending_bytes self.old.page.default_ending) (printed_of self.old) (row_shown row (piece_lines lines.now))) }
+        ensures printed { OnOk result (printed_of self.new ≡ row_printed options.now (ending_bytes self.old.page.default_ending) (printed_of self.old) (row_shown row (piece_lines lines.now))) }
     {
         match row {
             Row::EnterQuote => self.enter_quote(),
             Row::EnterItem { number, .. } => self.enter_item(number),
             Row::Exit => self.exit(),
             _ => {
-                self.page.block(row, self.level, lines)?;
+                self.page.block(options, row, self.level, lines)?;
                 self.level = self.level.after(row);
                 Ok(())
             }
@@ -55,13 +60,14 @@ pub fn print_rows<A: Allocator + Clone>(
     alloc: A,
     room: usize,
     default_ending: LineEnding,
+    options: &CompileOptions,
     rows: &[Row],
     pieces: &[Piece<'_>],
 ) -> Result<String<A>, AllocError>
     requires enough { all_taken rows.now ≤ length pieces.now }
     requires printable { ArePrintable (shown rows.now (piece_lines pieces.now)).rows }
     ensures { (bs : Blocks) → (shown rows.now (piece_lines pieces.now)).rows ≡ rows_of bs → CanBePrinted bs →
-        IfOk result (λ html. string_bytes html ≡ layout (ending_bytes default_ending) (document_pieces bs)) }
+        IfOk result (λ html. string_bytes html ≡ layout (ending_bytes default_ending) (document_pieces options.now bs)) }
 {
     let mut printer = Printer {
         page: Page {
@@ -74,7 +80,7 @@ pub fn print_rows<A: Allocator + Clone>(
     };
     let mut taken = 0;
     for row in rows {
-        printer.row(*row, &pieces[taken..])?;
+        printer.row(options, *row, &pieces[taken..])?;
         taken += lines_taken(*row);
     }
     if ends_blank(rows) {
@@ -91,8 +97,12 @@ fn lines_taken(row: Row) -> usize
     ensures { result ≡ lines_taken row }
 {
     match row {
-        Row::Paragraph(count) | Row::IndentedCode(count) => count,
-        Row::Heading(_) => 1,
+        Row::Paragraph(count)
+        | Row::SetextHeading { count, .. }
+        | Row::IndentedCode(count)
+        | Row::Html(count)
+        | Row::Definition(count) => count,
+        Row::Heading(_) | Row::WholeParagraph(_) => 1,
         Row::FencedCode(count) | Row::UnclosedCode(count) => 1 + count,
         Row::Break
         | Row::EnterQuote
@@ -107,5 +117,14 @@ fn lines_taken(row: Row) -> usize
 fn ends_blank(rows: &[Row]) -> bool
     ensures { (ls : List BlockLine) → result ≡ ends_blank_rows (shown rows.now ls).rows }
 {
-    matches!(rows.last(), Some(Row::Blank(Some(_))))
+    match rows.last() {
+        None => false,
+        Some(row) => is_blank_ending(*row),
+    }
+}
+
+fn is_blank_ending(row: Row) -> bool
+    ensures { (ls : List BlockLine) → result ≡ is_blank_row (row_shown row ls) }
+{
+    matches!(row, Row::Blank(Some(_)))
 }

@@ -20,5 +20,5 @@ returns-clause-shown g c =
     let all_lines : map view_line c.loop-line.yielded ≡ lines c.args.text.now =
     (YieldsList-end (YieldsList-from_first view_line rest_lines (lines c.args.text.now) (ap rest_lines c.into_iter-line-iterator.ensures.into_iter_gives ∙ c.new-line-items.ensures)) c.loop-line.yielded c.loop-line.line-iterator c.loop-line.yielded_by c.next.result c.next.new.self c.in-None.is c.next.ensures.steps).0 in
     ap (λ (rs : List Row). shown rs pool) (c.in_ok-finish.ensures.rows)
-    ∙ settled q.rows.rows.items q.rows.waiting.items q.rows.bare pool [] (join t.done (close t.now)) [] h.written q.rows.none
-    ∙ ap (λ (ls : List TextLine). shown_as (rows_of (closed (fold (step on) empty_tree ls))) []) all_lines
+    ∙ settled q.rows.rows.items q.rows.waiting.items q.rows.bare pool [] (join t.done (close on t.now)) [] h.written q.rows.none
+    ∙ ap (λ (ls : List TextLine). shown_as (rows_of (closed on (fold (step on) empty_tree ls))) []) all_lines

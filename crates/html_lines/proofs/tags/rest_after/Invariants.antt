@@ -1,5 +1,5 @@
 use Rattle.std.proofs.Common.{◌≡◌, drop}
-use Rattle.markdown_definition.specs.HtmlTags.{rest_after}
+use Rattle.html_lines.specs.Places.{rest_after}
 use Rattle.html_lines.specs.Views.{place_of}
 use Rattle.html_lines.proofs.tags.rest_after.Given as goal
 

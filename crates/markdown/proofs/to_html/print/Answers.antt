@@ -11,7 +11,11 @@ use Rattle.markdown_definition.specs.Rows.{Shown, piece_lines, rows_of, shown}
 use Rattle.tree_html.specs.Printable.{ArePrintable}
 use Rattle.tree_html.proofs.RowsOf.{printable_rows_of}
 use Rattle.tree_html.proofs.Printable.{blocks_printable}
+use Rattle.markdown.proofs.Built.{no_definitions}
 use Rattle.markdown.proofs.to_html.print.Goals as goal
+
+pub block_rows-requires-clause-definitions : goal.block_rows-requires-clause-definitions
+block_rows-requires-clause-definitions g c = no_definitions c.args.options.now.parse.constructs c.requires.built
 
 pub print_rows-requires-clause-printable : goal.print_rows-requires-clause-printable
 print_rows-requires-clause-printable g c =
@@ -34,5 +38,5 @@ returns g c =
     ∙ ap (λ (ps : List Piece). shown c.in_ok-blocks.blocks.rows.items (piece_lines ps)) c.deref-2.ensures.value
     ∙ c.in_ok-blocks.ensures.shown) in
     IfOk-weaker c.print_rows.result _ _
-    (λ page printed. printed ∙ ap (λ (e : LineEnding). layout (ending_bytes e) (document_pieces bs)) ending)
+    (λ page printed. printed ∙ ap (λ (e : LineEnding). layout (ending_bytes e) (document_pieces c.args.options.now.compile bs)) ending)
     (c.print_rows.ensures bs rows (blocks_printable on text))

@@ -3,10 +3,10 @@ use Rattle.std.specs.Str.{IsCharBoundary}
 use Rattle.markdown_definition.specs.Encode.{encode}
 use Rattle.tree_html.proofs.encode.push_encoded.Given as goal
 
--- what was printed, and then the bytes that wait to be printed as they are, is what the text so far is printed as
+-- what was printed, the bytes that wait to be printed as they are, and what the others are printed as, are what the text is printed as
 abbrev pub invariant-loop-i : goal.invariant-loop-i
 invariant-loop-i g l = record {
   in_order : l.start ≤ l.i;
   boundary : IsCharBoundary l.text l.start;
-  printed : string_bytes l.out ++ take (l.i - l.start) (drop l.start l.text) ≡ string_bytes l.initial.out ++ encode (take l.i l.text);
+  printed : (string_bytes l.out ++ take (l.i - l.start) (drop l.start l.text)) ++ encode (drop l.i l.text) ≡ string_bytes l.initial.out ++ encode l.text;
 }

@@ -8,7 +8,7 @@ use Rattle.tree_html.proofs.printer.print_rows.Given as goal
 abbrev pub invariant-loop-row : goal.invariant-loop-row
 invariant-loop-row g l = record {
   same_default : l.printer.page.default_ending ≡ l.fn.default_ending;
-  printed : printed_of l.printer ≡ printed (ending_bytes l.fn.default_ending) (blank_page (shown l.rows (piece_lines l.pieces)).rows) (shown (take l.row-index l.rows) (piece_lines l.pieces)).rows;
+  printed : printed_of l.printer ≡ printed l.options (ending_bytes l.fn.default_ending) (blank_page (shown l.rows (piece_lines l.pieces)).rows) (shown (take l.row-index l.rows) (piece_lines l.pieces)).rows;
   left : (shown (take l.row-index l.rows) (piece_lines l.pieces)).left ≡ piece_lines (drop l.taken l.pieces);
   enough : l.taken + all_taken (drop l.row-index l.rows) ≤ length l.pieces;
 }

@@ -5,8 +5,10 @@ use Rattle.std.proofs.lemmas.List.Sums.{prefix_len_passes, prefix_len-le-length}
 use Rattle.markdown_definition.specs.Columns.{codes_from}
 use Rattle.markdown_definition.specs.ListItem.{is_digit}
 use Rattle.text_lines.proofs.Ascii.{boundary_after}
+use Rattle.block_lines.specs.Marks.{BreaksWithin}
 use Rattle.block_lines.specs.View.{rest_of}
 use Rattle.block_lines.proofs.Views.{no_digits_owed, digits_taken, digits_dropped, digit_ascii, view_none}
+use Rattle.block_lines.proofs.Tails.{breaks_after}
 use Rattle.block_lines.proofs.cursor.Cursor.split_digits.Goals as goal
 
 pub returns-then-self-gt0-clause-digits : goal.returns-then-self-gt0-clause-digits
@@ -29,6 +31,11 @@ range_from-requires c =
     let within = prefix_len-le-length is_digit t in
     λ pos. boundary_after t c.digits-count.result utf8 (omega arith) (λ k f. digit_ascii _ (prefix_len_passes is_digit t k 0 (omega arith)))
 
+pub at-rest-requires-clause-breaks : goal.at-rest-requires-clause-breaks
+at-rest-requires-clause-breaks c =
+    let s = c.args.self in
+    subst (BreaksWithin s.tail) (sym c.range_from.ensures.value) (breaks_after s.tail s.text.now c.digits-count.result s.breaks)
+
 pub returns-clause-digits : goal.returns-clause-digits
 unfolding rest_of
 returns-clause-digits c =
@@ -44,6 +51,6 @@ returns-clause-rest c =
     let s = c.args.self in
     let t = s.text.now in
     let e = c.digits-count.ensures.same ∙ ap (prefix_len is_digit) c.as_bytes.ensures.value in
-    ap (codes_from (s.column + c.digits-count.result)) c.range_from.ensures.value ∙ ap (λ n. codes_from (s.column + n) (drop n t)) e
+    c.at-rest.ensures ∙ ap (codes_from (s.column + c.digits-count.result)) c.range_from.ensures.value ∙ ap (λ n. codes_from (s.column + n) (drop n t)) e
     ∙ digits_dropped s.column t
     ∙ sym (ap (λ r. drop (prefix_len is_digit r) r) (view_none s.owed s.column t c.if-self-gt0.false))

@@ -12,7 +12,7 @@ use Rattle.block_tree.proofs.parser.Parser.close_fenced.Goals as goal
 
 pub returns-clause-read : goal.returns-clause-read
 returns-clause-read g c =
-    on_ok_weaker c.end_leaf.result (λ reads. λ around kids fence opening ls last h.
+    on_ok_weaker c.end_leaf.result (λ reads. λ around kids switches fence opening ls last h.
     let p = c.args.self.now in
     let pool = piece_lines p.pieces.items in
     let left = leaves.all_left p.rows.rows.items p.rows.waiting.items p.rows.bare pool around kids (leaf_lines (Fenced fence opening ls)) h.written (leaves.enough_lines p) in

@@ -30,7 +30,7 @@ loop-i-preserved g c =
     }
 
 pub returns-clause-read : goal.returns-clause-read
-returns-clause-read g c = λ around kids ls pending all last h.
+returns-clause-read g c = λ around kids switches ls pending all last h.
     let p = c.args.self.now in
     let n = p.taken + c.args.count in
     let items = p.pieces.items in
@@ -38,7 +38,7 @@ returns-clause-read g c = λ around kids ls pending all last h.
     let blanks_are =
     k.waiting
     ∙ ap (λ (ps : List Piece). c.ending.new.self.waiting.items ++ map leaves.blank_row ps) (take_all (c.loop-i.i - n) (drop n items) (omega (arith, length-drop n items, c.loop-i-test.false, c.len-i-end.ensures, p.pieces.ok.0))) in
-    let w = leaves.written_indented p.rows.rows.items p.rows.waiting.items p.rows.bare items around kids ls pending h.written (leaves.enough_lines p) p.rows.none
+    let w = leaves.written_indented switches p.rows.rows.items p.rows.waiting.items p.rows.bare items around kids ls pending h.written (leaves.enough_lines p) p.rows.none
     c.args.count n c.args.ending all last (ap (λ t. t + c.args.count) p.counted)
     c.loop-i.self.rows.rows.items c.block.new.self.waiting.items c.ending.new.self.waiting.items c.loop-i.self.rows.waiting.items c.loop-i.self.rows.bare
     (k.rows ∙ c.ending.ensures.rows ∙ c.in_ok-block.ensures.rows) c.in_ok-block.ensures.waiting c.in_ok-ending.ensures.waiting blanks_are
@@ -46,7 +46,7 @@ returns-clause-read g c = λ around kids ls pending all last h.
     let pool = ap piece_lines (c.truncate.ensures.items ∙ ap (λ m. take m c.loop-i.self.pieces.items) k.taken ∙ ap (take n) k.items) in
     record {
       written = leaves.written_as c.loop-i.self.rows.rows.items c.loop-i.self.rows.rows.items c.loop-i.self.rows.waiting.items c.loop-i.self.rows.waiting.items c.loop-i.self.rows.bare c.loop-i.self.rows.bare
-          (piece_lines (take n items)) (piece_lines c.truncate.new.self.items) around (join kids (close_leaf (Indented ls pending))) [] [] refl refl refl pool refl w;
+          (piece_lines (take n items)) (piece_lines c.truncate.new.self.items) around (join kids (close_leaf switches (Indented ls pending))) [] [] refl refl refl pool refl w;
       opened = ap (λ (v : _). v.items) k.containers ∙ h.opened;
       same_state = ap leaf_state k.leaf;
     }

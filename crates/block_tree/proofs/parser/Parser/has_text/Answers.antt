@@ -1,6 +1,6 @@
 use Rattle.std.proofs.Common.{◌≡◌, ◌+◌, sym, ap, ◌∙◌, length, arith, ltb}
 use Rattle.std.proofs.lemmas.List.{length-map}
-use Rattle.markdown_definition.specs.Tree.{OpenLeaf, Text, Indented, Fenced, is_some_line, leaf_text}
+use Rattle.markdown_definition.specs.Tree.{OpenLeaf, Text, Indented, Fenced, OpenHtml, is_some_line, leaf_text}
 use Rattle.markdown_definition.specs.Rows.{piece_lines, piece_line, all_taken}
 use Rattle.block_tree.specs.Shows.{InText, state_of, leaf_lines}
 use Rattle.block_tree.specs.Leaves.{leaf_state}
@@ -17,3 +17,4 @@ returns-in-Text g c = λ s h.
         leaves.text_is_open c.args.self.now.taken c.len.result ls (omega (arith, left, c.args.self.now.counted, length-map c.args.self.now.pieces.items piece_line, c.args.self.now.pieces.ok.0, c.len.ensures))
     text_case (Indented ls pending) left is = let wrong = is in cc
     text_case (Fenced fence opening ls) left is = let wrong = is in cc
+    text_case (OpenHtml kind ls) left is = let wrong = is in cc

@@ -4,6 +4,7 @@ use Rattle.markdown_definition.specs.Columns.{Rest}
 use Rattle.markdown_definition.specs.Tree.{new, grow}
 use Rattle.block_lines.specs.View.{rest_of}
 use Rattle.block_lines.specs.Fences.{fence_view}
+use Rattle.html_lines.specs.Views.{number_of}
 use Rattle.block_tree.specs.Spine.{grown}
 use Rattle.block_tree.specs.Leaves.{leaf_state}
 use Rattle.block_tree.specs.View.{HasRead}
@@ -80,3 +81,19 @@ returns-in-Fenced g c =
     subst (HasRead c.fenced_line.new.self) (sym d.grows ∙ whole_line)
     (descending.fenced_grows (HasRead p) (HasRead c.fenced_line.new.self) on e r (fence_view c.in-Fenced.fence) grows c.in-Fenced.ending d.around d.kids d.now none (sym (ap leaf_state c.in-Fenced.is) ∙ here.same_state) here))
     c.fenced_line.ensures
+
+pub returns-in-Html : goal.returns-in-Html
+returns-in-Html g c =
+    on_ok_weaker c.html_line.result (λ grows. λ t h.
+    let p = c.args.self.now in
+    let on = c.args.on.now in
+    let e = c.args.line.ending in
+    let d = c.descend-depth.ensures.descent t e h in
+    let depth = c.descend-depth.result.0 in
+    let r = rest_of c.descend-depth.result.1 in
+    let whole_line = ap (λ (x : Rest). grown [] t.done (grow on e t.now x)) c.new.ensures in
+    let here = subst (HasRead p) (sym d.same) h in
+    let none = descending.no_deeper p.open.items d.around d.kids d.now here.opened (omega (arith, d.deep, c.if-depth-len.false, c.len.ensures, c.descend-depth.ensures.within, p.open.ok.0)) in
+    subst (HasRead c.html_line.new.self) (sym d.grows ∙ whole_line)
+    (descending.html_grows (HasRead p) (HasRead c.html_line.new.self) on e r (number_of c.in-Html.kind) grows c.in-Html.ending d.around d.kids d.now none (sym (ap leaf_state c.in-Html.is) ∙ here.same_state) here))
+    c.html_line.ensures

@@ -29,7 +29,7 @@ returns g c =
     let all = c.args.depth == vec_len c.args.self.now.open in
     let s = started c.in-Some.container (rest_of c.in-Some.after) in
     let some = ap (λ b. starts on b r) (sym (c.interrupts.ensures around kids away deep h)) ∙ sym c.starts.ensures ∙ ap started_if c.in-Some.is in
-    let kids2 = join kids (close away) in
+    let kids2 = join kids (close on away) in
     let t = new_inside on e s.rest in
     let holder = tree Nil (Inside s.container t.done t.now) in
     let entered = c.in_ok-enter.ensures around kids2 (c.in_ok-close_to.ensures.read around kids away deep h) in
@@ -37,7 +37,7 @@ returns g c =
     let q = c.enter_all.new.self in
     let deeper : c.len-depth.result ≡ length inside.inner = omega (arith, c.len-depth.ensures, q.open.ok.0, ap length inside.reads.opened, closing.length-containers inside.inner) in
     subst (λ (x : Tree). HasRead c.leaf_line-2.new.self (grown around kids x)) (sym (starting.new_some on e all away r s some))
-    (closing.after_added (HasRead c.leaf_line-2.new.self) around kids away holder
+    (closing.after_added on (HasRead c.leaf_line-2.new.self) around kids away holder
     (subst (HasRead c.leaf_line-2.new.self) (sym (starting.grown-inside on e around kids2 s.container t ∙ inside.grows e))
     (grows inside.inner inside.inner_kids nothing deeper inside.reads))))
     c.leaf_line-2.ensures

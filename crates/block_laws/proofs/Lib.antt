@@ -1,0 +1,6 @@
+pub mod Occurs
+pub mod NoTabs
+pub mod Nested
+pub mod Neighbours
+pub mod Plain
+pub mod GroupedRows

@@ -1,0 +1,7 @@
+pub mod Occurs
+pub mod ItemMarkers
+pub mod NoTabs
+pub mod Nested
+pub mod Neighbours
+pub mod Plain
+pub mod GroupedRows

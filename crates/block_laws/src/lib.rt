@@ -1,0 +1,7 @@
+//! Laws of the written definition: what follows from it for every text.
+#![tactic(auto)]
+
+pub mod columns;
+pub mod constructs;
+pub mod lists;
+pub mod rows;

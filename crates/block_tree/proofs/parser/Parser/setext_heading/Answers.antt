@@ -1,0 +1,19 @@
+use Rattle.std.proofs.Common.{◌≡◌, ◌-◌, ◌∷◌, [], sym, ap, refl, length, arith}
+use Rattle.std.proofs.lemmas.List.{length-map, take_all}
+use Rattle.std.proofs.lemmas.Result.{on_ok_weaker}
+use Rattle.markdown_definition.specs.Tree.{Heading, Text, own_lines}
+use Rattle.markdown_definition.specs.Rows.{piece_lines, piece_line, Single}
+use Rattle.block_tree.proofs.Leaves as leaves
+use Rattle.block_tree.proofs.parser.Parser.setext_heading.Goals as goal
+
+pub returns : goal.returns
+returns g c =
+    on_ok_weaker c.end_leaf.result (λ reads. λ around kids ls h.
+    let p = c.args.self.now in
+    let pool = piece_lines p.pieces.items in
+    let left = leaves.all_left p.rows.rows.items p.rows.waiting.items p.rows.bare pool around kids ls h.written (leaves.enough_lines p) in
+    let long = length-map p.pieces.items piece_line in
+    let count = c.len.result - p.taken in
+    let all : count ≡ length ls = omega (arith, left, long, p.counted, p.pieces.ok.0, c.len.ensures) in
+    reads around kids (Text ls) (Heading c.args.rank (own_lines ls)) h (ap (λ x. Single (Heading c.args.rank (own_lines x)) ∷ []) (sym (take_all count ls (omega (arith, all))))) refl)
+    c.end_leaf.ensures.read

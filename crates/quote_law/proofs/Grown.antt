@@ -1,0 +1,75 @@
+-- One more line in a quote.
+use Rattle.std.proofs.Common.{◌≡◌, ℕ, suc, ◌+◌, List, [], ◌∷◌, Option, None, Some, Bool, true, false, ◌&&◌, refl, sym, ap, ◌∙◌, length, drop, arith}
+use Rattle.std.specs.Prelude.{if◌then◌else◌, min, map}
+use Rattle.std.specs.List.{fold}
+use Rattle.markdown_options.specs.declared.line_ending.LineEnding.{LineEnding}
+use Rattle.markdown_options.specs.declared.configuration.Constructs.{Constructs}
+use Rattle.markdown_definition.specs.declared.container.Container.TheVariants.{Quote}
+use Rattle.markdown_definition.specs.Lines.{TextLine}
+use Rattle.markdown_definition.specs.Columns.{Rest, bare, indent, codes_from}
+use Rattle.markdown_definition.specs.Indents.{small_indent}
+use Rattle.markdown_definition.specs.BlockQuote.{after_byte, after_mark, quote_prefix}
+use Rattle.markdown_definition.specs.ListItem.{item_start}
+use Rattle.markdown_definition.specs.Containers.{quote_or}
+use Rattle.markdown_definition.specs.Definitions.{cut_into, cut_most}
+use Rattle.markdown_definition.specs.Tree.{Nil, join, Inside, Tree, tree, nothing, empty_tree, with_paragraph, after, leaf_line, start, new, goes_on, grow, step}
+use Rattle.quote_law.specs.Laws.{quoted_line}
+use Rattle.quote_law.proofs.Tabs.{Tabless, codes_from-Tabless, LinesTabless}
+use Rattle.quote_law.proofs.Starting.{new-suc}
+
+-- a quote that holds all children of a tree
+abbrev pub in_quote : Tree → Tree
+in_quote t = tree Nil (Inside Quote t.done t.now)
+
+-- ---- the rest after `> `
+
+min-one : (n : ℕ) → min 1 (1 + n) ≡ 1
+min-one n = omega arith
+
+quote_prefix-quoted : (on : Constructs) (codes : Rest) → on.block_quote ≡ true → quote_prefix on (62 ∷ 32 ∷ codes) ≡ Some codes
+quote_prefix-quoted on codes quotes =
+    let rest = 62 ∷ 32 ∷ codes in
+    ap (λ quote. if quote && small_indent on rest then after_mark (after_byte 62 (bare rest)) else None) quotes
+    ∙ ap (λ n. Some (drop n (32 ∷ codes))) (min-one (indent codes))
+
+-- ---- nothing is closed where nothing is open
+
+closed_nothing : (cuts : Bool) → with_paragraph (if cuts then cut_most 0 [] else cut_into Nil []) ≡ Nil
+closed_nothing true = refl
+closed_nothing false = refl
+
+after-nothing : (on : Constructs) (t : Tree) → after on nothing t ≡ t
+after-nothing on t = ap (λ closed. tree (join closed t.done) t.now) (closed_nothing on.definition)
+
+-- ---- a line with `> ` before its content
+
+module _ (on : Constructs) (quotes : on.block_quote ≡ true) where
+  -- a line goes on in the quote
+  step-in_quote : (t : Tree) (line : TextLine) → Tabless line.content → step on (in_quote t) (quoted_line line) ≡ in_quote (step on t line)
+  step-in_quote t line no_tab =
+      let codes = codes_from 2 line.content in
+      ap (λ o. let more = goes_on o on Quote t.done t.now line.ending (62 ∷ 32 ∷ codes) (grow on line.ending t.now) in tree more.done more.now)
+      (quote_prefix-quoted on codes quotes)
+      ∙ ap (λ rest. let more = grow on line.ending t.now rest in in_quote (tree (join t.done more.done) more.now))
+      (codes_from-Tabless 2 line.content no_tab ∙ sym (codes_from-Tabless 0 line.content no_tab))
+
+  pub fold-in_quote : (ls : List TextLine) (t : Tree) → LinesTabless ls → fold (step on) (in_quote t) (map quoted_line ls) ≡ in_quote (fold (step on) t ls)
+  fold-in_quote [] t no_tabs = refl
+  fold-in_quote (line ∷ ls) t no_tabs =
+      ap (λ u. fold (step on) u (map quoted_line ls)) (step-in_quote t line no_tabs.0) ∙ fold-in_quote ls (step on t line) no_tabs.1
+
+  -- the first line starts the quote
+  new-quoted : (most : ℕ) (codes : Rest) (ending : Option LineEnding) → new (suc most) on true nothing ending (62 ∷ 32 ∷ codes) ≡ in_quote (new most on true nothing ending codes)
+  new-quoted most codes ending =
+      let rest = 62 ∷ 32 ∷ codes in
+      ap (λ o. start on (quote_or (item_start on false rest) o) nothing (leaf_line on nothing rest ending) (new most on true nothing ending))
+      (quote_prefix-quoted on codes quotes)
+      ∙ after-nothing on (in_quote (new most on true nothing ending codes))
+
+  pub step-quoted : (line : TextLine) → Tabless line.content → step on empty_tree (quoted_line line) ≡ in_quote (step on empty_tree line)
+  step-quoted line no_tab =
+      let codes = codes_from 2 line.content in
+      new-quoted (suc (length codes)) codes line.ending
+      ∙ ap in_quote (new-suc on line.ending (length codes) codes (omega arith))
+      ∙ ap (λ rest. in_quote (new (length rest) on true nothing line.ending rest))
+      (codes_from-Tabless 2 line.content no_tab ∙ sym (codes_from-Tabless 0 line.content no_tab))

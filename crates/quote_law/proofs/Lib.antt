@@ -1,0 +1,6 @@
+mod Starting
+mod Grown
+mod Tabs
+mod Endings
+pub mod Lines
+pub mod Quotes
