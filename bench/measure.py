@@ -8,7 +8,7 @@ import subprocess
 import sys
 import time
 
-ROUNDS = 9
+ROUNDS = 40
 
 
 def run(command, path):

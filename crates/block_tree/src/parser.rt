@@ -51,6 +51,10 @@ struct Parser<'a, A: Allocator> {
     ghost paragraph_fits: { length paragraph.now < 2 ^ 61 },
 }
 
+/// How many whole lines a paragraph has at least that is kept as one: a few are printed faster one
+/// by one, many need less memory so.
+const WHOLE_LINES_MIN: usize = 8;
+
 /// No leaf is open.
 const NOTHING: OpenLeaf<'static> = OpenLeaf::Text { ending: None };
 
@@ -465,13 +469,13 @@ impl<'a, A: Allocator> Parser<'a, A> {
         self.end_leaf(Row::Paragraph(count), ending)
     }
 
-    /// Whether the lines of the open leaf are two or more whole lines of the text, from that of
+    /// Whether the lines of the open leaf are many, and whole lines of the text, from that of
     /// `paragraph` on.
     fn has_whole_lines(&self) -> bool
         ensures { result ≡ true → drop self.now.taken (piece_lines self.now.pieces.items) ≡ whole_lines (length self.now.pieces.items - self.now.taken) self.now.paragraph.now }
     {
         let lines = &self.pieces[self.taken..];
-        lines.len() >= 2 && are_whole(self.paragraph, lines)
+        lines.len() >= WHOLE_LINES_MIN && are_whole(self.paragraph, lines)
     }
 
     /// The open paragraph ends. Its lines are kept as one.

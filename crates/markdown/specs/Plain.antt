@@ -1,5 +1,5 @@
 -- The options that the words of a command line ask for.
-use Rattle.std.specs.Prelude.{ℕ, true, if◌then◌else◌, List, [], ◌∷◌}
+use Rattle.std.specs.Prelude.{ℕ, true, List, [], ◌∷◌}
 use Rattle.markdown_options.specs.declared.configuration.Constructs.{Constructs}
 use Rattle.markdown_options.specs.declared.configuration.Options.{Options}
 use Rattle.markdown_options.specs.Defaults.{no_constructs, default_parse_options, default_options}

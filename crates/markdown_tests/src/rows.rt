@@ -5,6 +5,7 @@ ghost use Rattle.markdown_options.specs.Built.{is_built};
 use markdown::{
     CompileOptions, Constructs, Options, ParseOptions, RunError, Watched, run_with_options,
 };
+use std::process::Abort;
 
 /// Texts and their HTML, with every construct off.
 const PLAIN: [(&str, &str); 20] = [
@@ -156,7 +157,7 @@ fn with(constructs: Constructs) -> Options
 
 /// Prints each text, and compares.
 pub fn prints(
-    rt: HostRuntime,
+    rt: &(impl AllocGlobal + Abort),
     rows: &[(&str, &str)],
     options: &Options,
 ) -> Result<(), RunError>
@@ -174,12 +175,12 @@ pub fn prints(
 
 #[test]
 fn prints_leaf_rows(rt: HostRuntime) -> Result<(), RunError> {
-    prints(rt, &LEAVES, &leaves())
+    prints(&rt, &LEAVES, &leaves())
 }
 
 #[test]
 fn prints_plain_rows(rt: HostRuntime) -> Result<(), RunError> {
-    prints(rt, &PLAIN, &plain())
+    prints(&rt, &PLAIN, &plain())
 }
 
 #[test]

@@ -2,3 +2,4 @@ pub mod Ascii
 pub mod FirstLine
 pub mod MarkBytes
 pub mod Codes
+pub mod FirstEnding

@@ -8,6 +8,7 @@ ghost use Rattle.markdown_definition.specs.Lines.{ends_line, lines, first_line, 
 ghost use Rattle.text_lines.specs.Endings.{BeginsWithEnding};
 
 use markdown_options::LineEnding;
+use memchr::memchr2;
 
 /// A line: its content, and its ending, which a text's last line may lack.
 #[derive(Clone, Copy)]
@@ -110,12 +111,7 @@ fn split_content(text: &str) -> (&str, &str)
 fn content_len(bytes: &[u8]) -> usize
     ensures { result ≡ position_or_len ends_line bytes.now }
 {
-    for (i, b) in bytes.iter().enumerate() {
-        if *b == b'\n' || *b == b'\r' {
-            return i;
-        }
-    }
-    bytes.len()
+    memchr2(b'\n', b'\r', bytes).unwrap_or(bytes.len())
 }
 
 /// The ending that a text begins with, and what follows it.

@@ -84,12 +84,7 @@ impl<A: Allocator> Page<A> {
     }
 
     /// Prints a paragraph of the first lines of a text, so many (CommonMark 4.8).
-    fn whole_paragraph(
-        &mut self,
-        tight: bool,
-        count: usize,
-        text: &str,
-    ) -> Result<(), AllocError>
+    fn whole_paragraph(&mut self, tight: bool, count: usize, text: &str) -> Result<(), AllocError>
         ensures default { self.new.default_ending ≡ self.old.default_ending }
         ensures printed { (options : CompileOptions) → OnOk result (string_bytes self.new.html ≡ laid self.old.default_ending (string_bytes self.old.html) (block_pieces options true tight false (Paragraph (own_lines (whole_lines count text.now))))) }
         ensures bytes { (k : ℕ) → slice_index text.now k < 256 }

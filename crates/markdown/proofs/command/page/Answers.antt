@@ -1,4 +1,4 @@
-use Rattle.std.proofs.Common.{◌≡◌, IfSome, inl, inr, subst, List, ℕ}
+use Rattle.std.proofs.Common.{IfSome, inl, inr, subst}
 use Rattle.std.specs.Io.KnownBytes.{Appends}
 use Rattle.std.proofs.lemmas.Bool.{cases_Bool}
 use Rattle.markdown_options.specs.declared.configuration.Options.{Options}

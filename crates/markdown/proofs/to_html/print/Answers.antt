@@ -1,4 +1,4 @@
-use Rattle.std.proofs.Common.{◌≡◌, string_bytes, List, [], ap, sym, ◌∙◌, refl, subst}
+use Rattle.std.proofs.Common.{List, ap, sym, ◌∙◌, refl, subst}
 use Rattle.std.proofs.lemmas.Result.{IfOk-weaker}
 use Rattle.markdown_options.specs.declared.line_ending.LineEnding.{LineEnding}
 use Rattle.markdown_options.specs.LineEndings.{ending_bytes}
@@ -7,7 +7,7 @@ use Rattle.markdown_definition.specs.declared.row.Piece.{Piece}
 use Rattle.markdown_definition.specs.Pieces.{layout}
 use Rattle.markdown_definition.specs.Html.{document_pieces}
 use Rattle.markdown_definition.specs.Tree.{blocks}
-use Rattle.markdown_definition.specs.Rows.{Shown, piece_lines, rows_of, shown}
+use Rattle.markdown_definition.specs.Rows.{Shown, piece_lines, shown}
 use Rattle.tree_html.specs.Printable.{ArePrintable}
 use Rattle.tree_html.proofs.RowsOf.{printable_rows_of}
 use Rattle.tree_html.proofs.Printable.{blocks_printable}

@@ -1,4 +1,4 @@
-use Rattle.std.proofs.Common.{◌≡◌, ◌∷◌, sym, ◌∙◌, ap, length, arith}
+use Rattle.std.proofs.Common.{◌∷◌, sym, ◌∙◌, ap, length, arith}
 use Rattle.std.specs.List.{position_or_len}
 use Rattle.std.proofs.lemmas.List.{length-take, length-drop}
 use Rattle.text_lines.proofs.FirstLine.{first_line_is, next_lines, shorter_rest}

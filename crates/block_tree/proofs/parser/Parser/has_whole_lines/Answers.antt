@@ -5,8 +5,8 @@ use Rattle.std.proofs.lemmas.List.{drop-map, take_rest, length-drop}
 use Rattle.markdown_definition.specs.Rows.{whole_lines}
 use Rattle.block_tree.proofs.parser.Parser.has_whole_lines.Goals as goal
 
-pub returns-then-lines-ge2 : goal.returns-then-lines-ge2
-returns-then-lines-ge2 g c = λ is.
+pub returns-then-lines-ge-WHOLE_LINES_MIN : goal.returns-then-lines-ge-WHOLE_LINES_MIN
+returns-then-lines-ge-WHOLE_LINES_MIN g c = λ is.
     let p = c.args.self.now in
     let items = p.pieces.items in
     let viewed = c.deref.result.now in
