@@ -4,9 +4,98 @@ ghost use Rattle.markdown_options.specs.Built.{is_built};
 
 use crate::rows::prints;
 use markdown::{CompileOptions, Constructs, Options, ParseOptions, RunError};
+use std::alloc::{AllocError, Global};
 
 /// Texts and their HTML, with the blocks that can be read so far.
-const BLOCKS: [(&str, &str); 187] = [
+const BLOCKS: [(&str, &str); 224] = [
+    ("", ""),
+    ("\n", ""),
+    ("a\n", "<p>a</p>\n"),
+    ("a\n=\n---", "<h1>a</h1>\n<hr />"),
+    (
+        "> a\n2. b",
+        "<blockquote>\n<p>a</p>\n</blockquote>\n<ol start=\"2\">\n<li>b</li>\n</ol>",
+    ),
+    (
+        "> ```\n> a\nb",
+        "<blockquote>\n<pre><code>a\n</code></pre>\n</blockquote>\n<p>b</p>",
+    ),
+    (
+        "- a\r\n  # b\n",
+        "<ul>\r\n<li>a\r\n<h1>b</h1>\r\n</li>\r\n</ul>\n",
+    ),
+    ("-\n- a", "<ul>\n<li></li>\n<li>a</li>\n</ul>"),
+    ("- a\n\n  b", "<ul>\n<li>\n<p>a</p>\n<p>b</p>\n</li>\n</ul>"),
+    (
+        "a\r\n\r\n> b",
+        "<p>a</p>\r\n<blockquote>\r\n<p>b</p>\r\n</blockquote>",
+    ),
+    ("---\na", "<hr />\n<p>a</p>"),
+    (
+        "<script>alert(1)</script>",
+        "&lt;script&gt;alert(1)&lt;/script&gt;",
+    ),
+    (
+        "> a\n> =\nb",
+        "<blockquote>\n<h1>a</h1>\n</blockquote>\n<p>b</p>",
+    ),
+    (
+        "999999999. a",
+        "<ol start=\"999999999\">\n<li>a</li>\n</ol>",
+    ),
+    ("1000000000. a", "<p>1000000000. a</p>"),
+    (
+        ">\t\tfoo",
+        "<blockquote>\n<pre><code>  foo\n</code></pre>\n</blockquote>",
+    ),
+    (
+        "1. a\n2) b",
+        "<ol>\n<li>a</li>\n</ol>\n<ol start=\"2\">\n<li>b</li>\n</ol>",
+    ),
+    (
+        "> - a\n> - b",
+        "<blockquote>\n<ul>\n<li>a</li>\n<li>b</li>\n</ul>\n</blockquote>",
+    ),
+    (
+        "``` x y\na\n```",
+        "<pre><code class=\"language-x\">a\n</code></pre>",
+    ),
+    ("    a\n\n    b\n", "<pre><code>a\n\nb\n</code></pre>\n"),
+    ("<div>\na", "&lt;div&gt;\na"),
+    ("# #", "<h1></h1>"),
+    ("\u{FEFF}\ta", "<pre><code>a\n</code></pre>"),
+    ("> a\nb", "<blockquote>\n<p>a\nb</p>\n</blockquote>"),
+    (
+        "- a\n+ b",
+        "<ul>\n<li>a</li>\n</ul>\n<ul>\n<li>b</li>\n</ul>",
+    ),
+    (
+        "1. a\n\n   b\n2. c",
+        "<ol>\n<li>\n<p>a</p>\n<p>b</p>\n</li>\n<li>\n<p>c</p>\n</li>\n</ol>",
+    ),
+    ("a <b>", "<p>a &lt;b&gt;</p>"),
+    ("<!--", "&lt;!--"),
+    ("a\rb\nc", "<p>a\rb\nc</p>"),
+    (
+        "> > a",
+        "<blockquote>\n<blockquote>\n<p>a</p>\n</blockquote>\n</blockquote>",
+    ),
+    (
+        "a\r\r> b",
+        "<p>a</p>\r<blockquote>\r<p>b</p>\r</blockquote>",
+    ),
+    ("===a===", "<p>===a===</p>"),
+    ("=a=", "<p>=a=</p>"),
+    ("a\n==", "<h1>a</h1>"),
+    ("==a==", "<p>==a==</p>"),
+    (
+        "+ a\n  \n  b",
+        "<ul>\n<li>\n<p>a</p>\n<p>b</p>\n</li>\n</ul>",
+    ),
+    (
+        "+ # a\n  \n  - b",
+        "<ul>\n<li>\n<h1>a</h1>\n<ul>\n<li>b</li>\n</ul>\n</li>\n</ul>",
+    ),
     (
         "> # Foo\n> bar\n> baz",
         "<blockquote>\n<h1>Foo</h1>\n<p>bar\nbaz</p>\n</blockquote>",
@@ -810,4 +899,28 @@ fn filters_tags(rt: HostRuntime) -> Result<(), RunError> {
     options.compile.allow_dangerous_html = true;
     options.compile.gfm_tagfilter = true;
     prints(&rt, &FILTERED, &options)
+}
+
+/// A text in so many quotes, and its HTML.
+fn in_quotes(alloc: Global, depth: usize) -> Result<(String, String), AllocError> {
+    let mut text = String::new(alloc);
+    let mut want = String::new(alloc);
+    for _ in 0..depth {
+        text.push_str("> ")?;
+        want.push_str("<blockquote>\n")?;
+    }
+    text.push_str("a")?;
+    want.push_str("<p>a</p>")?;
+    for _ in 0..depth {
+        want.push_str("\n</blockquote>")?;
+    }
+    Ok((text, want))
+}
+
+#[test]
+fn prints_a_thousand_quotes(rt: HostRuntime) -> Result<(), RunError> {
+    match in_quotes(rt.alloc(), 1000) {
+        Err(_) => Err(RunError::Memory),
+        Ok((text, want)) => prints(&rt, &[(text.as_str(), want.as_str())], &blocks()),
+    }
 }

@@ -1,0 +1,67 @@
+#!/usr/bin/env python3
+"""Times a program on families of texts at sizes n, 2n and 4n, beside cmark in the same run.
+
+    families.py PROGRAM [N]
+
+Growth is the time at 4n by that at n: at most about 4 where time is linear.
+"""
+import subprocess
+import sys
+import tempfile
+import time
+
+ROUNDS = 7
+
+
+def deep_list(depth):
+    return "".join("  " * i + "- a\n" for i in range(depth))
+
+
+FAMILIES = {
+    "deep quotes": lambda n: ">" * (n // 10) + " a\n",
+    "lines in 50 quotes": lambda n: ("> " * 50 + "a\n") * (n // 100),
+    # the text grows with the square of the depth
+    "deep list": lambda n: deep_list(int((n * 4) ** 0.5)),
+    "item markers on a line": lambda n: "- " * (n // 20) + "x\n",
+    "long list": lambda n: "- a\n" * n,
+    "loose list": lambda n: "- a\n\n" * n,
+    "blank lines in a deep list": lambda n: deep_list(200) + "\n" * n + "b\n",
+    "one long paragraph": lambda n: "lorem ipsum dolor sit amet\n" * n,
+    "indented code": lambda n: "    a\n\n" * n,
+    "unclosed fence": lambda n: "```\n" + "x\n" * n,
+    "unclosed comment": lambda n: "<!--\n" + "x\n" * n,
+    "HTML blocks": lambda n: "<div>\na\n</div>\n\n" * n,
+    "setext headings": lambda n: "a\n===\n\n" * n,
+    "breaks": lambda n: "- - -\n" * n,
+    "spaces": lambda n: " " * n + "a\n",
+    "tabs": lambda n: "\t" * n + "a\n",
+}
+
+
+def seconds(command, path):
+    best = float("inf")
+    for _ in range(ROUNDS):
+        with open(path, "rb") as text:
+            start = time.perf_counter()
+            subprocess.run(command, stdin=text, stdout=subprocess.DEVNULL, check=True)
+            best = min(best, time.perf_counter() - start)
+    return best
+
+
+def main():
+    program, n = [sys.argv[1]], int(sys.argv[2]) if len(sys.argv) > 2 else 100000
+    with tempfile.TemporaryDirectory() as folder:
+        path = folder + "/text"
+        print("%-28s %27s %8s %10s" % ("family", "n, 2n, 4n (ms)", "growth", "cmark 4n"))
+        for name, text in FAMILIES.items():
+            times = []
+            for k in (1, 2, 4):
+                with open(path, "w") as out:
+                    out.write(text(n * k))
+                times.append(seconds(program, path))
+            growth = times[2] / times[0]
+            shown = " ".join("%8.1f" % (t * 1000) for t in times)
+            print("%-28s %27s %8.1f %10.1f" % (name, shown, growth, seconds(["cmark"], path) * 1000))
+
+
+main()
