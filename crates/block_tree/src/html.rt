@@ -8,10 +8,69 @@ ghost use Rattle.markdown_definition.specs.HtmlFlow.{html_start as html_starts, 
 ghost use Rattle.block_lines.specs.View.{rest_of};
 ghost use Rattle.html_lines.specs.Views.{number_of, kind_number};
 
+use crate::leaf::OpenLeaf;
+use crate::parser::{Parser, piece};
 use block_lines::Cursor;
 use block_lines::indent::is_small;
 use html_lines::{HtmlKind, html_ends, html_kind};
-use markdown_options::Constructs;
+use markdown_definition::Row;
+use markdown_options::{Constructs, LineEnding};
+use std::alloc::{AllocError, Allocator};
+
+impl<'a, A: Allocator> Parser<'a, A> {
+    ghost use Rattle.std.specs.Prelude.{◌≡◌, OnOk, List, ℕ, false};
+    ghost use Rattle.html_lines.specs.Views.{number_of};
+    ghost use Rattle.markdown_definition.specs.Tree.{Blocks, BlockLine, join, close_leaf, last_ending, OpenLeaf as OpenLeafOf, html_with};
+    ghost use Rattle.markdown_definition.specs.Tree.{Leaf as OpenedLeaf, Text as TextLeaf, OpenHtml as HtmlLeaf};
+    ghost use Rattle.block_tree.specs.Spine.{Level, spine, grown};
+    ghost use Rattle.block_tree.specs.Shows.{leaf_lines};
+    ghost use Rattle.block_tree.specs.View.{HasRead, leaf_grown};
+    ghost use Rattle.std.specs.Prelude.{[]};
+    ghost use Rattle.block_lines.specs.View.{rest_of};
+
+    /// An HTML block takes every line up to its end, which may come before a blank one.
+    pub(crate) fn html_line(
+        &mut self,
+        on: &Constructs,
+        kind: HtmlKind,
+        rest: Cursor<'a>,
+        ending: Option<LineEnding>,
+    ) -> Result<(), AllocError>
+        requires definitions { on.now.definition ≡ false }
+        ensures { OnOk result ((around : List Level) (kids : Blocks) (ls : List BlockLine) → HasRead self.old (spine around kids (HtmlLeaf (number_of kind) ls)) → HasRead self.new (grown around kids (leaf_grown on.now ending (rest_of rest.entry) (OpenedLeaf (HtmlLeaf (number_of kind) ls))))) }
+    {
+        if html_stops(kind, rest) {
+            let depth = self.open.len();
+            return self.start_line(on, depth, rest, ending);
+        }
+        self.html_with(kind, rest, ending)
+    }
+
+    /// One more line of an HTML block, which may end it.
+    pub(crate) fn html_with(
+        &mut self,
+        kind: HtmlKind,
+        rest: Cursor<'a>,
+        ending: Option<LineEnding>,
+    ) -> Result<(), AllocError>
+        ensures { OnOk result ((around : List Level) (kids : Blocks) (leaf : OpenLeafOf) (ls : List BlockLine) → leaf_lines leaf ≡ ls → HasRead self.old (spine around kids leaf) → HasRead self.new (grown around kids (html_with (number_of kind) ls (rest_of rest.entry) ending))) }
+    {
+        self.pieces.push(piece(rest, ending))?;
+        self.leaf = OpenLeaf::Html { kind, ending };
+        if html_ends_here(kind, rest) {
+            return self.close_html(ending);
+        }
+        Ok(())
+    }
+
+    pub(crate) fn close_html(&mut self, ending: Option<LineEnding>) -> Result<(), AllocError>
+        ensures read { OnOk result ((around : List Level) (kids : Blocks) (switches : Constructs) (kind : ℕ) (ls : List BlockLine) → ending ≡ last_ending ls → HasRead self.old (spine around kids (HtmlLeaf kind ls)) → HasRead self.new (spine around (join kids (close_leaf switches (HtmlLeaf kind ls))) (TextLeaf []))) }
+        ensures containers { self.new.open ≡ self.old.open }
+    {
+        let count = self.pieces.len() - self.taken;
+        self.end_leaf(Row::Html(count), ending)
+    }
+}
 
 /// The kind of the HTML block that starts here. The last kind doesn't interrupt a paragraph.
 pub(crate) fn html_start(on: &Constructs, paragraph: bool, rest: Cursor<'_>) -> Option<HtmlKind>
@@ -26,7 +85,7 @@ pub(crate) fn html_start(on: &Constructs, paragraph: bool, rest: Cursor<'_>) -> 
 }
 
 /// Whether a block of this kind ends on this line.
-pub(crate) fn html_ends_here(kind: HtmlKind, rest: Cursor<'_>) -> bool
+fn html_ends_here(kind: HtmlKind, rest: Cursor<'_>) -> bool
     ensures { result ≡ html_ends_on (number_of kind) (rest_of rest.entry) }
 {
     let (_, bare) = rest.split_bare();
@@ -34,7 +93,7 @@ pub(crate) fn html_ends_here(kind: HtmlKind, rest: Cursor<'_>) -> bool
 }
 
 /// Whether a block of this kind ends before this line, a blank one.
-pub(crate) fn html_stops(kind: HtmlKind, rest: Cursor<'_>) -> bool
+fn html_stops(kind: HtmlKind, rest: Cursor<'_>) -> bool
     ensures { result ≡ (stops_before_blank (number_of kind) && is_blank_rest (rest_of rest.entry)) }
 {
     ends_before_blank(kind) && rest.is_blank()

@@ -1,8 +1,11 @@
 //! Lines to blocks.
 #![tactic(auto)]
 
+mod code;
+mod heading;
 mod html;
 mod leaf;
+mod paragraph;
 mod parser;
 mod rows;
 

@@ -1,24 +1,19 @@
 //! Blocks, line by line (CommonMark 4, 5 and appendix, phase 1).
-ghost use Rattle.std.specs.Prelude.{◌≡◌, ◌≤◌, ◌<◌, ◌+◌, ◌-◌, ◌&&◌, not, true, false, None, ◌^◌, ◌++◌, ◌∷◌, [], IfOk, length, vec_len};
-ghost use Rattle.markdown_definition.specs.Tree.{block_line, blocks, rest_line};
-ghost use Rattle.markdown_definition.specs.Rows.{all_taken, piece_line, piece_lines, rows_of, shown, shown_as, whole_line, whole_lines};
-ghost use Rattle.markdown_definition.specs.Columns.{bytes_of};
-ghost use Rattle.text_lines.specs.Rest.{view_line};
-ghost use Rattle.markdown_definition.specs.CodeIndented.{starts_code_indented as has_code_indent};
+ghost use Rattle.std.specs.Prelude.{◌≡◌, ◌≤◌, ◌<◌, ◌+◌, false, ◌^◌, [], IfOk, length, vec_len};
+ghost use Rattle.markdown_definition.specs.Tree.{blocks, rest_line};
+ghost use Rattle.markdown_definition.specs.Rows.{all_taken, piece_line, piece_lines, rows_of, shown, shown_as};
 ghost use Rattle.block_lines.specs.View.{rest_of};
 ghost use Rattle.block_tree.specs.Leaves.{lines_needed};
 
-use crate::html::{html_ends_here, html_start, html_stops};
+use crate::code::begins_code;
+use crate::html::html_start;
 use crate::leaf::OpenLeaf;
 use crate::rows::Rows;
 use block_lines::Cursor;
-use block_lines::code_fenced::{Fence, fence_line, fence_start, is_fence_end};
-use block_lines::code_indented::starts_code_indented;
+use block_lines::code_fenced::fence_start;
 use block_lines::container::{continues, starts};
-use block_lines::heading_atx::{Atx, heading_atx};
-use block_lines::heading_setext::underline;
+use block_lines::heading_atx::heading_atx;
 use block_lines::thematic_break::is_break;
-use html_lines::HtmlKind;
 use markdown_definition::{Container, Piece, Row};
 use markdown_options::{Constructs, LineEnding};
 use std::alloc::{AllocError, Allocator};
@@ -33,51 +28,42 @@ pub struct BlockRows<'a, A: Allocator> {
 
 /// What was read so far.
 #[derive(Drop)]
-struct Parser<'a, A: Allocator> {
-    rows: Rows<A>,
-    pieces: Vec<Piece<'a>, A>,
+pub(crate) struct Parser<'a, A: Allocator> {
+    pub(crate) rows: Rows<A>,
+    pub(crate) pieces: Vec<Piece<'a>, A>,
     /// How many of the lines the rows take. The others are those of the open leaf.
-    taken: usize,
+    pub(crate) taken: usize,
     /// The containers that are open, the outermost first.
-    open: Vec<Container, A>,
-    leaf: OpenLeaf<'a>,
+    pub(crate) open: Vec<Container, A>,
+    pub(crate) leaf: OpenLeaf<'a>,
     /// The text from the line on that is read.
-    rest: &'a str,
+    pub(crate) rest: &'a str,
     /// The text from the first line of the open paragraph on.
-    paragraph: &'a str,
+    pub(crate) paragraph: &'a str,
     ghost counted: { taken ≡ all_taken rows.rows.items },
     ghost enough: { taken + lines_needed leaf ≤ vec_len pieces },
     ghost rest_fits: { length rest.now < 2 ^ 61 },
     ghost paragraph_fits: { length paragraph.now < 2 ^ 61 },
 }
 
-/// How many whole lines a paragraph has at least that is kept as one: a few are printed faster one
-/// by one, many need less memory so.
-const WHOLE_LINES_MIN: usize = 8;
-
 /// No leaf is open.
-const NOTHING: OpenLeaf<'static> = OpenLeaf::Text { ending: None };
+pub(crate) const NOTHING: OpenLeaf<'static> = OpenLeaf::Text { ending: None };
 
 impl<'a, A: Allocator> Parser<'a, A> {
-    ghost use Rattle.std.specs.Prelude.{◌≡◌, ◌==◌, ◌&&◌, OnOk, IfOk, List, Option, Bool, ℕ, true, false, Some};
-    ghost use Rattle.html_lines.specs.Views.{number_of};
+    ghost use Rattle.std.specs.Prelude.{◌≡◌, ◌==◌, ◌&&◌, OnOk, IfOk, List, Option, false};
     ghost use Rattle.markdown_options.specs.declared.line_ending.LineEnding.{LineEnding};
     ghost use Rattle.markdown_definition.specs.Lines.{text_line};
-    ghost use Rattle.markdown_definition.specs.Columns.{Rest};
-    ghost use Rattle.markdown_definition.specs.Indents.{outdented};
-    ghost use Rattle.markdown_definition.specs.CodeFenced.{Fence as FenceRecord};
-    ghost use Rattle.markdown_definition.specs.Tree.{Tree, Block, Blocks, BlockLine, tree, nothing, Nil, join, one, ended, step, after, new, close, close_leaf, text_line_of, block_line, last_ending, last_ending_or, is_ending, is_nothing, is_some_line, leaf_text, began_blank, OpenLeaf as OpenLeafOf, html_with, own_lines, turns};
-    ghost use Rattle.block_tree.specs.Turns.{IsText, turned_by};
-    ghost use Rattle.markdown_definition.specs.Tree.{Opening, leaf_line as line_of_leaf, has_text as is_text_open, Blank as BlankBlock, Paragraph as ParagraphBlock, Break as BreakBlock, Heading as HeadingBlock, Leaf as OpenedLeaf, Inside, Text as TextLeaf, Indented as IndentedLeaf, Fenced as FencedLeaf, OpenHtml as HtmlLeaf};
-    ghost use Rattle.std.specs.Prelude.{drop};
+    ghost use Rattle.markdown_definition.specs.Tree.{Tree, Block, Blocks, tree, nothing, Nil, join, one, ended, step, new, close, close_leaf, is_ending, is_nothing, is_some_line, leaf_text, began_blank, OpenLeaf as OpenLeafOf};
+    ghost use Rattle.markdown_definition.specs.Tree.{Opening, leaf_line as line_of_leaf, has_text as is_text_open, Blank as BlankBlock, Break as BreakBlock, Leaf as OpenedLeaf, Inside, Text as TextLeaf};
     ghost use Rattle.markdown_definition.specs.Rows.{block_rows, row_shown, lines_taken};
-    ghost use Rattle.block_lines.specs.Fences.{fence_view};
-    ghost use Rattle.block_tree.specs.Spine.{Level, Spine, level, spine, spine_at, spine_of, grown, exited};
+    ghost use Rattle.block_tree.specs.Spine.{Level, Spine, level, spine, spine_at, spine_of, exited};
     ghost use Rattle.block_tree.specs.Shows.{leaf_lines};
-    ghost use Rattle.block_tree.specs.View.{HasRead, Adds, Grows, Descent, Entered, leaf_grown};
+    ghost use Rattle.block_tree.specs.View.{HasRead, Adds, Grows, Descent, Entered};
+    ghost use Rattle.std.specs.Prelude.{◌≤◌, ◌<◌, ◌+◌, ◌-◌, ◌∷◌, [], length, vec_len};
+    ghost use Rattle.block_lines.specs.View.{rest_of};
 
     /// Reads a line: the containers that go on, then the leaf that takes the rest, or what is new.
-    fn line(&mut self, on: &Constructs, line: Line<'a>) -> Result<(), AllocError>
+    pub(crate) fn line(&mut self, on: &Constructs, line: Line<'a>) -> Result<(), AllocError>
         requires definitions { on.now.definition ≡ false }
         ensures { OnOk result ((t : Tree) → HasRead self.old (spine_of t) → HasRead self.new (spine_of (step on.now t (text_line line.entry.content.now line.entry.ending)))) }
     {
@@ -133,7 +119,7 @@ impl<'a, A: Allocator> Parser<'a, A> {
     }
 
     /// Whether a paragraph is open.
-    fn has_text(&self) -> bool
+    pub(crate) fn has_text(&self) -> bool
         ensures { (s : Spine) → HasRead self.now s → result ≡ is_some_line (leaf_text s.leaf) }
     {
         match self.leaf {
@@ -145,108 +131,14 @@ impl<'a, A: Allocator> Parser<'a, A> {
     }
 
     /// Whether what starts on a line that is in so many containers interrupts a paragraph.
-    fn interrupts(&self, depth: usize) -> bool
+    pub(crate) fn interrupts(&self, depth: usize) -> bool
         ensures { (around : List Level) (kids : Blocks) (away : Opening) → depth ≡ length around → HasRead self.now (spine_at around kids away) → result ≡ ((depth == vec_len self.now.open) && is_text_open away) }
     {
         depth == self.open.len() && self.has_text()
     }
 
-    /// The rank of the heading that an underline makes of the open paragraph, where the line is in so
-    /// many containers, which are all of them.
-    fn turns(&self, on: &Constructs, depth: usize, rest: Cursor<'a>) -> Option<u8>
-        requires { on.now.definition ≡ false }
-        ensures turned { (around : List Level) (kids : Blocks) (away : Opening) (ending : Option LineEnding) → depth ≡ length around → HasRead self.now (spine_at around kids away) → turns on.now away (rest_of rest.entry) ending ≡ turned_by result away ending }
-        ensures here { (rank : ℕ) (around : List Level) (kids : Blocks) (away : Opening) → depth ≡ length around → HasRead self.now (spine_at around kids away) → result ≡ Some rank → IsText away }
-    {
-        if self.interrupts(depth) {
-            underline(on, rest)
-        } else {
-            None
-        }
-    }
-
-    /// Indented code goes on where the rest has its indent, and may go on over a blank one.
-    fn indented_line(
-        &mut self,
-        on: &Constructs,
-        rest: Cursor<'a>,
-        ending: Option<LineEnding>,
-    ) -> Result<(), AllocError>
-        requires definitions { on.now.definition ≡ false }
-        ensures { OnOk result ((around : List Level) (kids : Blocks) (ls pending : List BlockLine) → HasRead self.old (spine around kids (IndentedLeaf ls pending)) → HasRead self.new (grown around kids (leaf_grown on.now ending (rest_of rest.entry) (OpenedLeaf (IndentedLeaf ls pending))))) }
-    {
-        if rest.is_blank() {
-            self.pieces.push(piece(rest.outdented(4), ending))?;
-            return Ok(());
-        }
-        if starts_code_indented(on, rest) {
-            self.pieces.push(piece(rest.outdented(4), ending))?;
-            let count = self.pieces.len() - self.taken;
-            self.leaf = OpenLeaf::Indented { count, ending };
-            return Ok(());
-        }
-        let depth = self.open.len();
-        self.start_line(on, depth, rest, ending)
-    }
-
-    /// Fenced code takes every line up to its closing fence.
-    fn fenced_line(
-        &mut self,
-        on: &Constructs,
-        fence: Fence<'a>,
-        rest: Cursor<'a>,
-        ending: Option<LineEnding>,
-    ) -> Result<(), AllocError>
-        requires definitions { on.now.definition ≡ false }
-        requires lines { self.old.taken + 1 ≤ vec_len self.old.pieces }
-        ensures { OnOk result ((around : List Level) (kids : Blocks) (opening : Option LineEnding) (ls : List BlockLine) → HasRead self.old (spine around kids (FencedLeaf (fence_view fence.entry) opening ls)) → HasRead self.new (grown around kids (leaf_grown on.now ending (rest_of rest.entry) (OpenedLeaf (FencedLeaf (fence_view fence.entry) opening ls))))) }
-    {
-        if !is_fence_end(on, &fence, rest) {
-            self.pieces.push(piece(fence_line(&fence, rest), ending))?;
-            self.leaf = OpenLeaf::Fenced { fence, ending };
-            return Ok(());
-        }
-        let count = self.pieces.len() - self.taken - 1;
-        self.end_leaf(Row::FencedCode(count), ending)
-    }
-
-    /// An HTML block takes every line up to its end, which may come before a blank one.
-    fn html_line(
-        &mut self,
-        on: &Constructs,
-        kind: HtmlKind,
-        rest: Cursor<'a>,
-        ending: Option<LineEnding>,
-    ) -> Result<(), AllocError>
-        requires definitions { on.now.definition ≡ false }
-        ensures { OnOk result ((around : List Level) (kids : Blocks) (ls : List BlockLine) → HasRead self.old (spine around kids (HtmlLeaf (number_of kind) ls)) → HasRead self.new (grown around kids (leaf_grown on.now ending (rest_of rest.entry) (OpenedLeaf (HtmlLeaf (number_of kind) ls))))) }
-    {
-        if html_stops(kind, rest) {
-            let depth = self.open.len();
-            return self.start_line(on, depth, rest, ending);
-        }
-        self.html_with(kind, rest, ending)
-    }
-
-    /// One more line of an HTML block, which may end it.
-    fn html_with(
-        &mut self,
-        kind: HtmlKind,
-        rest: Cursor<'a>,
-        ending: Option<LineEnding>,
-    ) -> Result<(), AllocError>
-        ensures { OnOk result ((around : List Level) (kids : Blocks) (leaf : OpenLeafOf) (ls : List BlockLine) → leaf_lines leaf ≡ ls → HasRead self.old (spine around kids leaf) → HasRead self.new (grown around kids (html_with (number_of kind) ls (rest_of rest.entry) ending))) }
-    {
-        self.pieces.push(piece(rest, ending))?;
-        self.leaf = OpenLeaf::Html { kind, ending };
-        if html_ends_here(kind, rest) {
-            return self.close_html(ending);
-        }
-        Ok(())
-    }
-
     /// Reads the rest of a line after the containers that it is in, which are so many.
-    fn start_line(
+    pub(crate) fn start_line(
         &mut self,
         on: &Constructs,
         depth: usize,
@@ -341,70 +233,6 @@ impl<'a, A: Allocator> Parser<'a, A> {
         self.rows.ending(ending)
     }
 
-    /// An ATX heading, where no leaf is open.
-    fn heading(&mut self, atx: Atx<'a>, ending: Option<LineEnding>) -> Result<(), AllocError>
-        ensures { OnOk result (Adds self.old self.new (tree (ended (HeadingBlock atx.entry.rank (block_line atx.entry.content.now None ∷ [])) ending) nothing)) }
-    {
-        self.pieces.push(Piece {
-            text: atx.content,
-            owed: 0,
-            ending: None,
-        })?;
-        self.rows.block(Row::Heading(atx.rank))?;
-        self.taken += 1;
-        self.rows.ending(ending)
-    }
-
-    /// The open paragraph becomes a heading.
-    fn setext_heading(&mut self, rank: u8, ending: Option<LineEnding>) -> Result<(), AllocError>
-        ensures { OnOk result ((around : List Level) (kids : Blocks) (ls : List BlockLine) → HasRead self.old (spine around kids (TextLeaf ls)) → HasRead self.new (spine around (join kids (ended (HeadingBlock rank (own_lines ls)) ending)) (TextLeaf []))) }
-    {
-        let count = self.pieces.len() - self.taken;
-        self.end_leaf(Row::SetextHeading { rank, count }, ending)
-    }
-
-    /// Indented code starts, where no leaf is open.
-    fn start_indented(
-        &mut self,
-        rest: Cursor<'a>,
-        ending: Option<LineEnding>,
-    ) -> Result<(), AllocError>
-        ensures { OnOk result (Adds self.old self.new (tree Nil (OpenedLeaf (IndentedLeaf (rest_line (outdented 4 (rest_of rest.entry)) ending ∷ []) [])))) }
-    {
-        self.pieces.push(piece(rest.outdented(4), ending))?;
-        self.leaf = OpenLeaf::Indented { count: 1, ending };
-        Ok(())
-    }
-
-    /// Fenced code starts, where no leaf is open.
-    fn start_fenced(
-        &mut self,
-        fence: Fence<'a>,
-        ending: Option<LineEnding>,
-    ) -> Result<(), AllocError>
-        ensures { OnOk result (Adds self.old self.new (tree Nil (OpenedLeaf (FencedLeaf (fence_view fence.entry) ending [])))) }
-    {
-        self.pieces.push(Piece {
-            text: fence.info,
-            owed: 0,
-            ending: None,
-        })?;
-        self.leaf = OpenLeaf::Fenced { fence, ending };
-        Ok(())
-    }
-
-    /// A line of text goes on the paragraph, or is its first.
-    fn text_line(&mut self, rest: Cursor<'a>, ending: Option<LineEnding>) -> Result<(), AllocError>
-        ensures { OnOk result ((around : List Level) (kids : Blocks) (ls : List BlockLine) → HasRead self.old (spine around kids (TextLeaf ls)) → HasRead self.new (spine around kids (TextLeaf (ls ++ rest_line (rest_of rest.entry) ending ∷ [])))) }
-    {
-        if !self.has_text() {
-            self.paragraph = self.rest;
-        }
-        self.pieces.push(piece(rest, ending))?;
-        self.leaf = OpenLeaf::Text { ending };
-        Ok(())
-    }
-
     /// A container starts, where no leaf is open.
     fn enter(&mut self, container: Container) -> Result<(), AllocError>
         ensures { OnOk result ((around : List Level) (kids : Blocks) → HasRead self.old (spine around kids (TextLeaf [])) → HasRead self.new (spine (level container kids ∷ around) Nil (TextLeaf []))) }
@@ -415,7 +243,7 @@ impl<'a, A: Allocator> Parser<'a, A> {
     }
 
     /// Closes the open leaf, and all containers but so many.
-    fn close_to(&mut self, on: &Constructs, depth: usize) -> Result<(), AllocError>
+    pub(crate) fn close_to(&mut self, on: &Constructs, depth: usize) -> Result<(), AllocError>
         requires definitions { on.now.definition ≡ false }
         requires depth { depth ≤ vec_len self.old.open }
         ensures read { OnOk result (Grows self.old self.new depth (λ away. tree (close on.now away) nothing)) }
@@ -454,60 +282,12 @@ impl<'a, A: Allocator> Parser<'a, A> {
         }
     }
 
-    fn close_text(&mut self, on: &Constructs, ending: Option<LineEnding>) -> Result<(), AllocError>
-        requires definitions { on.now.definition ≡ false }
-        ensures read { OnOk result ((around : List Level) (kids : Blocks) (ls : List BlockLine) → ending ≡ last_ending ls → HasRead self.old (spine around kids (TextLeaf ls)) → HasRead self.new (spine around (join kids (close_leaf on.now (TextLeaf ls))) (TextLeaf []))) }
-        ensures containers { self.new.open ≡ self.old.open }
-    {
-        let count = self.pieces.len() - self.taken;
-        if count == 0 {
-            return Ok(());
-        }
-        if self.has_whole_lines() {
-            return self.close_whole(count, ending);
-        }
-        self.end_leaf(Row::Paragraph(count), ending)
-    }
-
-    /// Whether the lines of the open leaf are many, and whole lines of the text, from that of
-    /// `paragraph` on.
-    fn has_whole_lines(&self) -> bool
-        ensures { result ≡ true → drop self.now.taken (piece_lines self.now.pieces.items) ≡ whole_lines (length self.now.pieces.items - self.now.taken) self.now.paragraph.now }
-    {
-        let lines = &self.pieces[self.taken..];
-        lines.len() >= WHOLE_LINES_MIN && are_whole(self.paragraph, lines)
-    }
-
-    /// The open paragraph ends. Its lines are kept as one.
-    fn close_whole(&mut self, count: usize, ending: Option<LineEnding>) -> Result<(), AllocError>
-        ensures read { OnOk result ((around : List Level) (kids : Blocks) (ls : List BlockLine) → ls ≡ whole_lines count self.old.paragraph.now → HasRead self.old (spine around kids (TextLeaf ls)) → HasRead self.new (spine around (join kids (ended (ParagraphBlock (own_lines ls)) ending)) (TextLeaf []))) }
-        ensures containers { self.new.open ≡ self.old.open }
-    {
-        self.leaf = NOTHING;
-        self.pieces.truncate(self.taken);
-        self.pieces.push(whole(self.paragraph))?;
-        self.end_leaf(Row::WholeParagraph(count), ending)
-    }
-
-    fn close_fenced(&mut self, ending: Option<LineEnding>) -> Result<(), AllocError>
-        requires { self.old.taken + 1 ≤ vec_len self.old.pieces }
-        ensures read { OnOk result ((around : List Level) (kids : Blocks) (switches : Constructs) (fence : FenceRecord) (opening : Option LineEnding) (ls : List BlockLine) → ending ≡ last_ending_or opening ls → HasRead self.old (spine around kids (FencedLeaf fence opening ls)) → HasRead self.new (spine around (join kids (close_leaf switches (FencedLeaf fence opening ls))) (TextLeaf []))) }
-        ensures containers { self.new.open ≡ self.old.open }
-    {
-        let count = self.pieces.len() - self.taken - 1;
-        self.end_leaf(Row::UnclosedCode(count), ending)
-    }
-
-    fn close_html(&mut self, ending: Option<LineEnding>) -> Result<(), AllocError>
-        ensures read { OnOk result ((around : List Level) (kids : Blocks) (switches : Constructs) (kind : ℕ) (ls : List BlockLine) → ending ≡ last_ending ls → HasRead self.old (spine around kids (HtmlLeaf kind ls)) → HasRead self.new (spine around (join kids (close_leaf switches (HtmlLeaf kind ls))) (TextLeaf []))) }
-        ensures containers { self.new.open ≡ self.old.open }
-    {
-        let count = self.pieces.len() - self.taken;
-        self.end_leaf(Row::Html(count), ending)
-    }
-
     /// The open leaf ends: a row takes all lines that are left.
-    fn end_leaf(&mut self, row: Row, ending: Option<LineEnding>) -> Result<(), AllocError>
+    pub(crate) fn end_leaf(
+        &mut self,
+        row: Row,
+        ending: Option<LineEnding>,
+    ) -> Result<(), AllocError>
         requires { self.old.taken + lines_taken row ≡ vec_len self.old.pieces }
         ensures read { OnOk result ((around : List Level) (kids : Blocks) (leaf : OpenLeafOf) (b : Block) → HasRead self.old (spine around kids leaf) → block_rows b ≡ row_shown row (leaf_lines leaf) ∷ [] → is_ending b ≡ false → HasRead self.new (spine around (join kids (ended b ending)) (TextLeaf []))) }
         ensures containers { self.new.open ≡ self.old.open }
@@ -517,33 +297,10 @@ impl<'a, A: Allocator> Parser<'a, A> {
         self.leaf = NOTHING;
         self.rows.ending(ending)
     }
-
-    fn close_indented(&mut self, count: usize, ending: Option<LineEnding>) -> Result<(), AllocError>
-        requires { self.old.taken + count ≤ vec_len self.old.pieces }
-        ensures read { OnOk result ((around : List Level) (kids : Blocks) (switches : Constructs) (ls pending : List BlockLine) → count ≡ length ls → ending ≡ last_ending ls → HasRead self.old (spine around kids (IndentedLeaf ls pending)) → HasRead self.new (spine around (join kids (close_leaf switches (IndentedLeaf ls pending))) (TextLeaf []))) }
-        ensures containers { self.new.open ≡ self.old.open }
-    {
-        self.rows.block(Row::IndentedCode(count))?;
-        self.taken += count;
-        self.leaf = NOTHING;
-        self.rows.ending(ending)?;
-        for i in self.taken..self.pieces.len() {
-            self.rows.blank(self.pieces[i].ending)?;
-        }
-        self.pieces.truncate(self.taken);
-        Ok(())
-    }
-}
-
-/// Whether indented code begins, which can't interrupt a paragraph.
-fn begins_code(on: &Constructs, paragraph: bool, rest: Cursor<'_>) -> bool
-    ensures { result ≡ (has_code_indent on.now (rest_of rest.entry) && not paragraph) }
-{
-    starts_code_indented(on, rest) && !paragraph
 }
 
 /// The line of a block that a rest is.
-fn piece<'a>(rest: Cursor<'a>, ending: Option<LineEnding>) -> Piece<'a>
+pub(crate) fn piece<'a>(rest: Cursor<'a>, ending: Option<LineEnding>) -> Piece<'a>
     ensures { piece_line result ≡ rest_line (rest_of rest.entry) ending }
 {
     Piece {
@@ -551,42 +308,6 @@ fn piece<'a>(rest: Cursor<'a>, ending: Option<LineEnding>) -> Piece<'a>
         owed: rest.owed(),
         ending,
     }
-}
-
-/// The lines of a paragraph that are whole lines of the text.
-fn whole<'a>(text: &'a str) -> Piece<'a>
-    ensures line { piece_line result ≡ block_line text.now None }
-    ensures bytes { bytes_of text.now ≡ text.now }
-{
-    Piece {
-        text,
-        owed: 0,
-        ending: None,
-    }
-}
-
-/// Whether a text begins with these lines.
-fn are_whole(text: &str, pieces: &[Piece<'_>]) -> bool
-    requires { length text.now < 2 ^ 61 }
-    ensures { result ≡ true → piece_lines pieces.now ≡ whole_lines (length pieces.now) text.now }
-{
-    let mut lines = Lines::new(text);
-    for piece in pieces {
-        let Some(line) = lines.next() else {
-            return false;
-        };
-        if !is_line(*piece, line) {
-            return false;
-        }
-    }
-    true
-}
-
-/// Whether a line of a block is this whole line.
-fn is_line(piece: Piece<'_>, line: Line<'_>) -> bool
-    ensures { result ≡ true → piece_line piece.entry ≡ whole_line (view_line line.entry) }
-{
-    piece.owed == 0 && piece.ending == line.ending && piece.text == line.content
 }
 
 /// The blocks of a text without a byte order mark.

@@ -1,6 +1,6 @@
 use Rattle.std.proofs.Common.{ℕ, ◌<◌, get_or, arith}
 use Rattle.block_tree.proofs.Leaves.{only_bytes}
-use Rattle.block_tree.proofs.parser.whole.Goals as goal
+use Rattle.block_tree.proofs.paragraph.whole.Goals as goal
 
 pub returns-clause-bytes : goal.returns-clause-bytes
 returns-clause-bytes c =

@@ -3,7 +3,7 @@ use Rattle.std.specs.Prelude.{map}
 use Rattle.markdown_definition.specs.Lines.{lines}
 use Rattle.markdown_definition.specs.Rows.{piece_line, whole_line}
 use Rattle.text_lines.specs.Rest.{rest_lines}
-use Rattle.block_tree.proofs.parser.are_whole.Given as goal
+use Rattle.block_tree.proofs.paragraph.are_whole.Given as goal
 
 -- the lines so far are the same
 abbrev pub invariant-loop-piece : goal.invariant-loop-piece

@@ -3,7 +3,7 @@ use Rattle.markdown_definition.specs.Lines.{lines}
 use Rattle.markdown_definition.specs.Rows.{whole_line}
 use Rattle.text_lines.specs.Rest.{rest_lines, view_line}
 use Rattle.block_tree.proofs.Leaves.{whole_more, whole_all}
-use Rattle.block_tree.proofs.parser.are_whole.Goals as goal
+use Rattle.block_tree.proofs.paragraph.are_whole.Goals as goal
 
 pub loop-piece-preserved : goal.loop-piece-preserved
 loop-piece-preserved c =

@@ -1,0 +1,68 @@
+//! Headings (CommonMark 4.2 and 4.3).
+//!
+//!     atx    ::= a line by itself
+//!     setext ::= paragraph underline, where the underline is in all containers of the paragraph
+
+use crate::parser::Parser;
+use block_lines::Cursor;
+use block_lines::heading_atx::Atx;
+use block_lines::heading_setext::underline;
+use markdown_definition::{Piece, Row};
+use markdown_options::{Constructs, LineEnding};
+use std::alloc::{AllocError, Allocator};
+
+impl<'a, A: Allocator> Parser<'a, A> {
+    ghost use Rattle.std.specs.Prelude.{◌≡◌, OnOk, List, Option, ℕ, false, Some};
+    ghost use Rattle.markdown_options.specs.declared.line_ending.LineEnding.{LineEnding};
+    ghost use Rattle.markdown_definition.specs.Tree.{Blocks, BlockLine, tree, nothing, join, ended, block_line, own_lines, turns};
+    ghost use Rattle.block_tree.specs.Turns.{IsText, turned_by};
+    ghost use Rattle.markdown_definition.specs.Tree.{Opening, Heading as HeadingBlock, Text as TextLeaf};
+    ghost use Rattle.block_tree.specs.Spine.{Level, spine, spine_at};
+    ghost use Rattle.block_tree.specs.View.{HasRead, Adds};
+    ghost use Rattle.std.specs.Prelude.{None, ◌∷◌, [], length};
+    ghost use Rattle.block_lines.specs.View.{rest_of};
+
+    /// The rank of the heading that an underline makes of the open paragraph, where the line is in so
+    /// many containers, which are all of them.
+    pub(crate) fn turns(&self, on: &Constructs, depth: usize, rest: Cursor<'a>) -> Option<u8>
+        requires { on.now.definition ≡ false }
+        ensures turned { (around : List Level) (kids : Blocks) (away : Opening) (ending : Option LineEnding) → depth ≡ length around → HasRead self.now (spine_at around kids away) → turns on.now away (rest_of rest.entry) ending ≡ turned_by result away ending }
+        ensures here { (rank : ℕ) (around : List Level) (kids : Blocks) (away : Opening) → depth ≡ length around → HasRead self.now (spine_at around kids away) → result ≡ Some rank → IsText away }
+    {
+        if self.interrupts(depth) {
+            underline(on, rest)
+        } else {
+            None
+        }
+    }
+
+    /// An ATX heading, where no leaf is open.
+    pub(crate) fn heading(
+        &mut self,
+        atx: Atx<'a>,
+        ending: Option<LineEnding>,
+    ) -> Result<(), AllocError>
+        ensures { OnOk result (Adds self.old self.new (tree (ended (HeadingBlock atx.entry.rank (block_line atx.entry.content.now None ∷ [])) ending) nothing)) }
+    {
+        self.pieces.push(Piece {
+            text: atx.content,
+            owed: 0,
+            ending: None,
+        })?;
+        self.rows.block(Row::Heading(atx.rank))?;
+        self.taken += 1;
+        self.rows.ending(ending)
+    }
+
+    /// The open paragraph becomes a heading.
+    pub(crate) fn setext_heading(
+        &mut self,
+        rank: u8,
+        ending: Option<LineEnding>,
+    ) -> Result<(), AllocError>
+        ensures { OnOk result ((around : List Level) (kids : Blocks) (ls : List BlockLine) → HasRead self.old (spine around kids (TextLeaf ls)) → HasRead self.new (spine around (join kids (ended (HeadingBlock rank (own_lines ls)) ending)) (TextLeaf []))) }
+    {
+        let count = self.pieces.len() - self.taken;
+        self.end_leaf(Row::SetextHeading { rank, count }, ending)
+    }
+}

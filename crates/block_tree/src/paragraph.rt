@@ -1,0 +1,128 @@
+//! Paragraphs (CommonMark 4.8).
+//!
+//!     paragraph ::= text_line+, which no other block begins, and after the first no blank one ends
+ghost use Rattle.std.specs.Prelude.{◌≡◌, ◌<◌, true, None, ◌^◌, length};
+ghost use Rattle.markdown_definition.specs.Tree.{block_line};
+ghost use Rattle.markdown_definition.specs.Rows.{piece_line, piece_lines, whole_line, whole_lines};
+ghost use Rattle.markdown_definition.specs.Columns.{bytes_of};
+ghost use Rattle.text_lines.specs.Rest.{view_line};
+
+use crate::leaf::OpenLeaf;
+use crate::parser::{NOTHING, Parser, piece};
+use block_lines::Cursor;
+use markdown_definition::{Piece, Row};
+use markdown_options::{Constructs, LineEnding};
+use std::alloc::{AllocError, Allocator};
+use text_lines::{Line, Lines};
+
+/// How many whole lines a paragraph has at least that is kept as one: a few are printed faster one
+/// by one, many need less memory so.
+const WHOLE_LINES_MIN: usize = 8;
+
+impl<'a, A: Allocator> Parser<'a, A> {
+    ghost use Rattle.std.specs.Prelude.{◌≡◌, OnOk, List, true, false};
+    ghost use Rattle.markdown_definition.specs.Tree.{Blocks, BlockLine, join, ended, close_leaf, last_ending, own_lines};
+    ghost use Rattle.markdown_definition.specs.Tree.{Paragraph as ParagraphBlock, Text as TextLeaf};
+    ghost use Rattle.std.specs.Prelude.{drop};
+    ghost use Rattle.block_tree.specs.Spine.{Level, spine};
+    ghost use Rattle.block_tree.specs.View.{HasRead};
+    ghost use Rattle.std.specs.Prelude.{◌+◌, ◌-◌, ◌++◌, ◌∷◌, [], length};
+    ghost use Rattle.markdown_definition.specs.Tree.{rest_line};
+    ghost use Rattle.markdown_definition.specs.Rows.{piece_lines, whole_lines};
+    ghost use Rattle.block_lines.specs.View.{rest_of};
+
+    /// A line of text goes on the paragraph, or is its first.
+    pub(crate) fn text_line(
+        &mut self,
+        rest: Cursor<'a>,
+        ending: Option<LineEnding>,
+    ) -> Result<(), AllocError>
+        ensures { OnOk result ((around : List Level) (kids : Blocks) (ls : List BlockLine) → HasRead self.old (spine around kids (TextLeaf ls)) → HasRead self.new (spine around kids (TextLeaf (ls ++ rest_line (rest_of rest.entry) ending ∷ [])))) }
+    {
+        if !self.has_text() {
+            self.paragraph = self.rest;
+        }
+        self.pieces.push(piece(rest, ending))?;
+        self.leaf = OpenLeaf::Text { ending };
+        Ok(())
+    }
+
+    pub(crate) fn close_text(
+        &mut self,
+        on: &Constructs,
+        ending: Option<LineEnding>,
+    ) -> Result<(), AllocError>
+        requires definitions { on.now.definition ≡ false }
+        ensures read { OnOk result ((around : List Level) (kids : Blocks) (ls : List BlockLine) → ending ≡ last_ending ls → HasRead self.old (spine around kids (TextLeaf ls)) → HasRead self.new (spine around (join kids (close_leaf on.now (TextLeaf ls))) (TextLeaf []))) }
+        ensures containers { self.new.open ≡ self.old.open }
+    {
+        let count = self.pieces.len() - self.taken;
+        if count == 0 {
+            return Ok(());
+        }
+        if self.has_whole_lines() {
+            return self.close_whole(count, ending);
+        }
+        self.end_leaf(Row::Paragraph(count), ending)
+    }
+
+    /// Whether the lines of the open leaf are many, and whole lines of the text, from that of
+    /// `paragraph` on.
+    pub(crate) fn has_whole_lines(&self) -> bool
+        ensures { result ≡ true → drop self.now.taken (piece_lines self.now.pieces.items) ≡ whole_lines (length self.now.pieces.items - self.now.taken) self.now.paragraph.now }
+    {
+        let lines = &self.pieces[self.taken..];
+        lines.len() >= WHOLE_LINES_MIN && are_whole(self.paragraph, lines)
+    }
+
+    /// The open paragraph ends. Its lines are kept as one.
+    pub(crate) fn close_whole(
+        &mut self,
+        count: usize,
+        ending: Option<LineEnding>,
+    ) -> Result<(), AllocError>
+        ensures read { OnOk result ((around : List Level) (kids : Blocks) (ls : List BlockLine) → ls ≡ whole_lines count self.old.paragraph.now → HasRead self.old (spine around kids (TextLeaf ls)) → HasRead self.new (spine around (join kids (ended (ParagraphBlock (own_lines ls)) ending)) (TextLeaf []))) }
+        ensures containers { self.new.open ≡ self.old.open }
+    {
+        self.leaf = NOTHING;
+        self.pieces.truncate(self.taken);
+        self.pieces.push(whole(self.paragraph))?;
+        self.end_leaf(Row::WholeParagraph(count), ending)
+    }
+}
+
+/// The lines of a paragraph that are whole lines of the text.
+fn whole<'a>(text: &'a str) -> Piece<'a>
+    ensures line { piece_line result ≡ block_line text.now None }
+    ensures bytes { bytes_of text.now ≡ text.now }
+{
+    Piece {
+        text,
+        owed: 0,
+        ending: None,
+    }
+}
+
+/// Whether a text begins with these lines.
+fn are_whole(text: &str, pieces: &[Piece<'_>]) -> bool
+    requires { length text.now < 2 ^ 61 }
+    ensures { result ≡ true → piece_lines pieces.now ≡ whole_lines (length pieces.now) text.now }
+{
+    let mut lines = Lines::new(text);
+    for piece in pieces {
+        let Some(line) = lines.next() else {
+            return false;
+        };
+        if !is_line(*piece, line) {
+            return false;
+        }
+    }
+    true
+}
+
+/// Whether a line of a block is this whole line.
+fn is_line(piece: Piece<'_>, line: Line<'_>) -> bool
+    ensures { result ≡ true → piece_line piece.entry ≡ whole_line (view_line line.entry) }
+{
+    piece.owed == 0 && piece.ending == line.ending && piece.text == line.content
+}
