@@ -4,7 +4,13 @@
 #[cfg(test)]
 mod blocks;
 #[cfg(test)]
+mod containers;
+#[cfg(test)]
 mod devices;
+#[cfg(test)]
+mod headings;
+#[cfg(test)]
+mod html_blocks;
 #[cfg(test)]
 mod memory;
 #[cfg(test)]
