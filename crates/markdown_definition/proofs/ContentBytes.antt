@@ -22,7 +22,7 @@ AreFilled (line ∷ others) = IsInLine line.codes × (0 < length line.codes) × 
 abbrev pub block_line_bytes : BlockLine → List ℕ
 block_line_bytes line = line.codes ++ ending_text line.ending
 
-codes_in_line : (bytes others : List ℕ) → IsInLine bytes → content_codes (bytes ++ others) ≡ bytes ++ content_codes others
+pub codes_in_line : (bytes others : List ℕ) → IsInLine bytes → content_codes (bytes ++ others) ≡ bytes ++ content_codes others
 codes_in_line [] others h = refl
 codes_in_line (b ∷ bs) others h =
     cond-false (eqb b 13) _ _ (or_parts (eqb b 10) (eqb b 13) h.0).1 ∙ ap (λ x. b ∷ x) (codes_in_line bs others h.1)

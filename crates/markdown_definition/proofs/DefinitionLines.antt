@@ -10,22 +10,11 @@ use Rattle.markdown_options.specs.declared.line_ending.LineEnding.{LineEnding}
 use Rattle.markdown_options.specs.declared.line_ending.LineEnding.TheVariants.{CarriageReturnLineFeed, CarriageReturn, LineFeed}
 use Rattle.markdown_definition.specs.Blocks.{BlockLine, Definition, Nil, join, own_lines}
 use Rattle.markdown_definition.specs.Content.{is_eol, line_ending_code, ending_code, content_of}
+use Rattle.markdown_definition.specs.ParagraphLines.{HaveNoEnding, AreLines}
 use Rattle.markdown_definition.specs.LinkDefinition.{Definition as LinkDefinition, definition, definition_at}
 use Rattle.markdown_definition.specs.Definitions.{Cut, cut_into, cut_after, cut_most, defined, line_count, lines_before}
 use Rattle.markdown_definition.specs.Rows.{definition_shown}
 use Rattle.markdown_definition.proofs.DefinitionAlone.{definition_alone}
-
--- codes without a line ending
-abbrev pub HaveNoEnding : List ℕ → Type 0
-HaveNoEnding [] = Unit {0}
-HaveNoEnding (c ∷ cs) = (is_eol c ≡ false) × HaveNoEnding cs
-
--- lines of a paragraph: none is empty, and all but the last have an ending
-abbrev pub AreLines : List BlockLine → Type 0
-AreLines [] = Unit {0}
-AreLines (line ∷ []) = HaveNoEnding line.codes × (0 < length line.codes)
-AreLines (line ∷ next ∷ others) =
-    HaveNoEnding line.codes × (0 < length line.codes) × ((e : LineEnding) × (line.ending ≡ Some e)) × AreLines (next ∷ others)
 
 is_ending_code : (e : LineEnding) → is_eol (line_ending_code e) ≡ true
 is_ending_code LineFeed = refl

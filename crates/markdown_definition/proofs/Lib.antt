@@ -4,6 +4,9 @@ pub mod Plain
 pub mod Visible
 pub mod LinkRenaming
 pub mod ContentBytes
+pub mod CodeBytes
+pub mod OwnLines
 pub mod DefinitionParts
 pub mod DefinitionAlone
 pub mod DefinitionLines
+pub mod OpenLines

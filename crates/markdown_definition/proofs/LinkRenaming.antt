@@ -5,7 +5,7 @@ use Rattle.std.proofs.lemmas.List.{length-map, take-map, drop-map}
 use Rattle.std.specs.List.{prefix_len}
 use Rattle.std.specs.Option.{option_map}
 use Rattle.std.specs.Prelude.{nat_le}
-use Rattle.markdown_definition.specs.Columns.{is_white}
+use Rattle.markdown_definition.specs.Columns.{is_white, code_byte}
 use Rattle.markdown_definition.specs.Content.{Part, part, is_eol, is_space, may_escape, at_line_start, before, up_to, closed_by}
 use Rattle.markdown_definition.specs.LinkSpace.{after_spaces, after_ending, after_white, begins_with_space}
 use Rattle.markdown_definition.specs.LinkLabel.{ends_label, label_end, has_text, label_size, is_label, if_label, label_at}
@@ -306,11 +306,8 @@ module _ (f : ℕ → ℕ) (renames : Renames f) where
       ap (λ x. with_label (label_at x)) (spaces_renamed cs) ∙ ap with_label (label_renamed (after_spaces cs)) ∙ with_label_renamed (label_at (after_spaces cs))
 
 -- a space for each column that is left of a tab
-abbrev pub column_as_space : ℕ → ℕ
-column_as_space c = cond (eqb c 256) 32 c
-
-pub column_as_space-renames : Renames column_as_space
-column_as_space-renames = record {
+pub code_byte-renames : Renames code_byte
+code_byte-renames = record {
   white = λ c. elim (cases_Bool (eqb c 256)) [
     | inl h ↦ ap is_white (cond-true (eqb c 256) _ _ h) ∙ sym (ap is_white (eqb-true c 256 h))
     | inr h ↦ ap is_white (cond-false (eqb c 256) _ _ h)

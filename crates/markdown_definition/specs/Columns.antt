@@ -51,6 +51,10 @@ is_byte code = not (is_tab_column code)
 abbrev pub bytes_of : Rest → List ℕ
 bytes_of rest = filter is_byte rest
 
+-- a column that is left of a tab as a byte: a space
+abbrev pub code_byte : ℕ → ℕ
+code_byte code = if is_tab_column code then 32 else code
+
 -- a rest as it stands in a block: the columns left of a tab that a prefix ended in, and the bytes
 abbrev pub block_codes : Rest → List ℕ
 block_codes rest = take (prefix_len is_tab_column rest) rest ++ bytes_of rest

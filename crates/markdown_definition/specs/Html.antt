@@ -9,7 +9,7 @@ use Rattle.markdown_options.specs.LineEndings.{ending_bytes}
 use Rattle.markdown_definition.specs.declared.container.Container.{Container}
 use Rattle.markdown_definition.specs.declared.container.Container.TheVariants.{Quote, Item}
 use Rattle.markdown_definition.specs.Lines.{ending_text, first_line, without_mark}
-use Rattle.markdown_definition.specs.Columns.{trimmed, is_tab_column, bytes_of}
+use Rattle.markdown_definition.specs.Columns.{trimmed, code_byte, bytes_of}
 use Rattle.markdown_definition.specs.Encode.{encode, plain}
 use Rattle.markdown_definition.specs.TagFilter.{tags_filtered}
 use Rattle.markdown_definition.specs.Tree.{BlockLine, Block, Paragraph, Heading, Break, IndentedCode, FencedCode, Html, Definition, Holds, Items, Ending, Blank, Blocks, Nil, Cons, own_lines, is_ending, blocks}
@@ -25,10 +25,6 @@ line_text line = encode (trimmed line.codes) ++ ending_text line.ending
 -- the text of a paragraph or heading
 abbrev pub text_of : List BlockLine → List ℕ
 text_of ls = flat_map line_text ls
-
--- a code of a line of code: a column left of a tab is a space
-abbrev pub code_byte : ℕ → ℕ
-code_byte code = if is_tab_column code then 32 else code
 
 -- lines of code with their endings
 abbrev pub code_line : BlockLine → List ℕ

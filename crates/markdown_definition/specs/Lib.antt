@@ -14,6 +14,7 @@ pub mod HeadingSetext
 pub mod Encode
 pub mod Blocks
 pub mod Definitions
+pub mod ParagraphLines
 pub mod Tree
 pub mod Lists
 pub mod Pieces

@@ -12,11 +12,12 @@ use Rattle.markdown_definition.specs.Columns.{is_byte}
 use Rattle.markdown_definition.specs.Encode.{encode}
 use Rattle.markdown_definition.specs.Tree.{BlockLine, FencedCode, own_lines, last_ending}
 use Rattle.markdown_definition.specs.Pieces.{Fresh, print}
-use Rattle.markdown_definition.specs.Html.{block_pieces, class_of, code_byte, code_of, fenced_content}
+use Rattle.markdown_definition.specs.Columns.{code_byte}
+use Rattle.markdown_definition.specs.Html.{block_pieces, class_of, code_of, fenced_content}
 use Rattle.markdown_definition.specs.Rows.{piece_line, piece_lines, first_codes}
 use Rattle.tree_html.specs.Printed.{laid}
 use Rattle.tree_html.proofs.Owed.{none_owed}
-use Rattle.tree_html.proofs.Lines.{with_last_ending}
+use Rattle.markdown_definition.proofs.OwnLines.{with_last_ending}
 
 -- the class of an info that isn't empty
 pub class_some : (info : List ℕ) → (length info == 0) ≡ false → class_of info ≡ codes " class=\"language-" ++ encode info ++ codes "\""

@@ -2,10 +2,10 @@
 use Rattle.std.proofs.Common.{◌≡◌, ℕ, ◌+◌, ◌-◌, ◌<◌, zero, suc, List, [], ◌∷◌, ◌++◌, true, false, not, refl, ap, ◌∙◌, take, drop, length, get_or, arith}
 use Rattle.std.specs.Prelude.{map, replicate}
 use Rattle.std.specs.List.{prefix_len, suffix_len, list_all}
-use Rattle.std.proofs.lemmas.Bool.{ne_eqb, cond-true, cond-false}
-use Rattle.markdown_definition.specs.Columns.{tab_column, is_tab_column, is_byte, bytes_of, is_white, trimmed}
+use Rattle.std.proofs.lemmas.Bool.{ne_eqb, cond-true}
+use Rattle.markdown_definition.specs.Columns.{code_byte, tab_column, is_tab_column, is_byte, bytes_of, is_white, trimmed}
 use Rattle.markdown_definition.specs.Encode.{encode}
-use Rattle.markdown_definition.specs.Html.{code_byte}
+use Rattle.markdown_definition.proofs.CodeBytes.{code_bytes}
 
 -- ---- in text they are dropped
 
@@ -21,13 +21,6 @@ pub trimmed_owed : (n : ℕ) (text : List ℕ) → trimmed (replicate n tab_colu
 trimmed_owed n text = ap (λ rest. take (length rest - suffix_len is_white rest) rest) (dropped n text)
 
 -- ---- in code they are spaces
-
-code_bytes : (text : List ℕ) → ((k : ℕ) → get_or text k 0 < 256) → map code_byte text ≡ text
-code_bytes [] h = refl
-code_bytes (b ∷ bs) h =
-    let byte : b < 256 = h 0 in
-    let is : code_byte b ≡ b = cond-false (is_tab_column b) 32 b (ne_eqb b 256 (λ e. omega arith)) in
-    ap (λ x. x ∷ map code_byte bs) is ∙ ap (λ xs. b ∷ xs) (code_bytes bs (λ k. h (suc k)))
 
 pub code_owed : (n : ℕ) (text : List ℕ) → ((k : ℕ) → get_or text k 0 < 256)
     → encode (map code_byte (replicate n tab_column ++ text)) ≡ replicate n 32 ++ encode text

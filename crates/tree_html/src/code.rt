@@ -7,7 +7,8 @@ ghost use Rattle.markdown_definition.specs.Pieces.{Fresh, print};
 ghost use Rattle.markdown_definition.specs.Columns.{tab_column};
 ghost use Rattle.markdown_definition.specs.Encode.{encode};
 ghost use Rattle.markdown_definition.specs.Tree.{IndentedCode, FencedCode, own_lines};
-ghost use Rattle.markdown_definition.specs.Html.{block_pieces, class_of, code_byte, code_of, fenced_content};
+ghost use Rattle.markdown_definition.specs.Columns.{code_byte};
+ghost use Rattle.markdown_definition.specs.Html.{block_pieces, class_of, code_of, fenced_content};
 ghost use Rattle.markdown_definition.specs.Rows.{piece_lines};
 ghost use Rattle.tree_html.specs.Printed.{laid};
 

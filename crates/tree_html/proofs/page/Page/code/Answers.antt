@@ -5,9 +5,10 @@ use Rattle.markdown_definition.specs.Lines.{ending_text}
 use Rattle.std.specs.Prelude.{map}
 use Rattle.markdown_definition.specs.Encode.{encode}
 use Rattle.markdown_definition.specs.Tree.{BlockLine, own_lines, last_ending}
-use Rattle.markdown_definition.specs.Html.{code_byte, code_of}
+use Rattle.markdown_definition.specs.Html.{code_of}
+use Rattle.markdown_definition.specs.Columns.{code_byte}
 use Rattle.markdown_definition.specs.Rows.{piece_line, piece_lines}
-use Rattle.tree_html.proofs.Lines.{lines_printed, last_ending_more}
+use Rattle.markdown_definition.proofs.OwnLines.{lines_printed, last_ending_more}
 use Rattle.tree_html.proofs.page.Page.code.Goals as goal
 
 pub loop-line-preserved : goal.loop-line-preserved
