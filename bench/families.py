@@ -33,6 +33,12 @@ FAMILIES = {
     "HTML blocks": lambda n: "<div>\na\n</div>\n\n" * n,
     "setext headings": lambda n: "a\n===\n\n" * n,
     "breaks": lambda n: "- - -\n" * n,
+    "definitions": lambda n: "[a]: /b 'c'\n" * n,
+    "definitions, each a paragraph": lambda n: "[a]: b\nc\n\n" * n,
+    "definitions and underlines": lambda n: "[a]: b\n=\n" * n,
+    "unclosed titles": lambda n: "[a]: b\n'\n\n" * (n // 2) + "[a]: b\n\"\n" * (n // 2),
+    "unclosed labels": lambda n: "[a\n" * n,
+    "tables of text": lambda n: "| a | b |\n" * n,
     "spaces": lambda n: " " * n + "a\n",
     "tabs": lambda n: "\t" * n + "a\n",
 }
@@ -52,7 +58,7 @@ def main():
     program, n = [sys.argv[1]], int(sys.argv[2]) if len(sys.argv) > 2 else 100000
     with tempfile.TemporaryDirectory() as folder:
         path = folder + "/text"
-        print("%-28s %27s %8s %10s" % ("family", "n, 2n, 4n (ms)", "growth", "cmark 4n"))
+        print("%-30s %27s %8s %10s" % ("family", "n, 2n, 4n (ms)", "growth", "cmark 4n"))
         for name, text in FAMILIES.items():
             times = []
             for k in (1, 2, 4):
@@ -61,7 +67,7 @@ def main():
                 times.append(seconds(program, path))
             growth = times[2] / times[0]
             shown = " ".join("%8.1f" % (t * 1000) for t in times)
-            print("%-28s %27s %8.1f %10.1f" % (name, shown, growth, seconds(["cmark"], path) * 1000))
+            print("%-30s %27s %8.1f %10.1f" % (name, shown, growth, seconds(["cmark"], path) * 1000))
 
 
 main()

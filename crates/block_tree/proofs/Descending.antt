@@ -210,18 +210,18 @@ no_deeper containers around kids now opened all =
     omega (arith, ap length opened, all, length-containers (spine_at around kids now).around, length-around around kids now)
 
 module _ (P Q : Spine → Type 0) (on : Constructs) (e : Option LineEnding) (r : Rest) where
-  pub text_grows : (last : Option LineEnding) (around : List Level) (kids : Blocks) (now : Opening) → opening_depth now ≡ 0 → InText last ≡ state_of (spine_at around kids now).leaf
+  pub text_grows : (around : List Level) (kids : Blocks) (now : Opening) → opening_depth now ≡ 0 → InText ≡ state_of (spine_at around kids now).leaf
       → Q (grown around kids (new (length r) on true now e r)) → Q (grown around kids (grow on e now r))
-  text_grows last around kids (Leaf (Text ls)) none is h = h
-  text_grows last around kids (Leaf (Indented ls pending)) none is h = let wrong : InText last ≡ InIndented _ _ = is in cc
-  text_grows last around kids (Leaf (Fenced f opening ls)) none is h = let wrong : InText last ≡ InFenced _ _ = is in cc
-  text_grows last around kids (Leaf (OpenHtml kind ls)) none is h = let wrong : InText last ≡ InHtml _ _ = is in cc
-  text_grows last around kids (Inside c inner_kids inner) none is h = absurd (omega (arith, none))
+  text_grows around kids (Leaf (Text ls)) none is h = h
+  text_grows around kids (Leaf (Indented ls pending)) none is h = let wrong : InText ≡ InIndented _ _ = is in cc
+  text_grows around kids (Leaf (Fenced f opening ls)) none is h = let wrong : InText ≡ InFenced _ _ = is in cc
+  text_grows around kids (Leaf (OpenHtml kind ls)) none is h = let wrong : InText ≡ InHtml _ _ = is in cc
+  text_grows around kids (Inside c inner_kids inner) none is h = absurd (omega (arith, none))
 
   pub indented_grows : ((around : List Level) (kids : Blocks) (ls pending : List BlockLine) → P (spine around kids (Indented ls pending)) → Q (grown around kids (leaf_grown on e r (Leaf (Indented ls pending)))))
       → (count : ℕ) (last : Option LineEnding) (around : List Level) (kids : Blocks) (now : Opening) → opening_depth now ≡ 0 → InIndented count last ≡ state_of (spine_at around kids now).leaf
       → P (spine_at around kids now) → Q (grown around kids (grow on e now r))
-  indented_grows grows count last around kids (Leaf (Text ls)) none is h = let wrong : InIndented count last ≡ InText _ = is in cc
+  indented_grows grows count last around kids (Leaf (Text ls)) none is h = let wrong : InIndented count last ≡ InText = is in cc
   indented_grows grows count last around kids (Leaf (Indented ls pending)) none is h = grows around kids ls pending h
   indented_grows grows count last around kids (Leaf (Fenced f opening ls)) none is h = let wrong : InIndented count last ≡ InFenced _ _ = is in cc
   indented_grows grows count last around kids (Leaf (OpenHtml kind ls)) none is h = let wrong : InIndented count last ≡ InHtml _ _ = is in cc
@@ -230,7 +230,7 @@ module _ (P Q : Spine → Type 0) (on : Constructs) (e : Option LineEnding) (r :
   pub fenced_grows : (f : Fence) → ((around : List Level) (kids : Blocks) (opening : Option LineEnding) (ls : List BlockLine) → P (spine around kids (Fenced f opening ls)) → Q (grown around kids (leaf_grown on e r (Leaf (Fenced f opening ls)))))
       → (last : Option LineEnding) (around : List Level) (kids : Blocks) (now : Opening) → opening_depth now ≡ 0 → InFenced f last ≡ state_of (spine_at around kids now).leaf
       → P (spine_at around kids now) → Q (grown around kids (grow on e now r))
-  fenced_grows f grows last around kids (Leaf (Text ls)) none is h = let wrong : InFenced f last ≡ InText _ = is in cc
+  fenced_grows f grows last around kids (Leaf (Text ls)) none is h = let wrong : InFenced f last ≡ InText = is in cc
   fenced_grows f grows last around kids (Leaf (Indented ls pending)) none is h = let wrong : InFenced f last ≡ InIndented _ _ = is in cc
   fenced_grows f grows last around kids (Leaf (Fenced fence opening ls)) none is h =
       let same : InFenced f last ≡ InFenced fence (last_ending_or opening ls) = is in
@@ -243,7 +243,7 @@ module _ (P Q : Spine → Type 0) (on : Constructs) (e : Option LineEnding) (r :
   pub html_grows : (kind : ℕ) → ((around : List Level) (kids : Blocks) (ls : List BlockLine) → P (spine around kids (OpenHtml kind ls)) → Q (grown around kids (leaf_grown on e r (Leaf (OpenHtml kind ls)))))
       → (last : Option LineEnding) (around : List Level) (kids : Blocks) (now : Opening) → opening_depth now ≡ 0 → InHtml kind last ≡ state_of (spine_at around kids now).leaf
       → P (spine_at around kids now) → Q (grown around kids (grow on e now r))
-  html_grows kind grows last around kids (Leaf (Text ls)) none is h = let wrong : InHtml kind last ≡ InText _ = is in cc
+  html_grows kind grows last around kids (Leaf (Text ls)) none is h = let wrong : InHtml kind last ≡ InText = is in cc
   html_grows kind grows last around kids (Leaf (Indented ls pending)) none is h = let wrong : InHtml kind last ≡ InIndented _ _ = is in cc
   html_grows kind grows last around kids (Leaf (Fenced f opening ls)) none is h = let wrong : InHtml kind last ≡ InFenced _ _ = is in cc
   html_grows kind grows last around kids (Leaf (OpenHtml other ls)) none is h =

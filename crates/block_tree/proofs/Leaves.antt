@@ -1,24 +1,24 @@
 -- What is shown after a leaf goes on, starts or is closed.
 use Rattle.std.proofs.Common.{◌≡◌, ℕ, suc, not, ◌+◌, ◌-◌, ◌≤◌, ◌<◌, ◌==◌, get_or, List, [], ◌∷◌, ◌++◌, Option, Bool, true, false, refl, sym, ap, ◌∙◌, subst, take, drop, length, append_assoc, arith, ltb}
 use Rattle.std.specs.Prelude.{map}
-use Rattle.std.proofs.lemmas.Bool.{cond-true, cond-false, lt-ltb, le-ltb, eq-eqb, ne_eqb}
-use Rattle.std.proofs.lemmas.List.{append-nil, length-append, length-map, map-append, take_all, drop_all, take-append-le, drop-append-le, take-map, drop-map, drop-drop, take_more, get_or-drop, length-drop, length-take, take-append-drop}
+use Rattle.std.proofs.lemmas.Bool.{cond-true, lt-ltb, le-ltb, eq-eqb, ne_eqb}
+use Rattle.std.proofs.lemmas.List.{append-nil, length-append, length-map, map-append, take_all, drop_all, take-append-le, drop-append-le, take-map, drop-map, drop-drop, take_more, take_rest, get_or-drop, length-drop, length-take, take-append-drop}
 use Rattle.std.proofs.lemmas.List.Sums.{sum_by-append}
 use Rattle.markdown_options.specs.declared.line_ending.LineEnding.{LineEnding}
 use Rattle.markdown_options.specs.declared.configuration.Constructs.{Constructs}
 use Rattle.markdown_definition.specs.Lines.{TextLine}
 use Rattle.markdown_definition.specs.Columns.{is_byte, bytes_of}
-use Rattle.markdown_definition.specs.Definitions.{cut_into, cut_most}
 use Rattle.markdown_definition.specs.declared.container.Container.{Container}
 use Rattle.markdown_definition.specs.declared.container.Container.TheVariants.{Quote, Item}
 use Rattle.markdown_definition.specs.declared.row.Row.{Row}
 use Rattle.markdown_definition.specs.declared.row.Row.TheVariants as row
 use Rattle.markdown_definition.specs.declared.row.Piece.{Piece}
-use Rattle.markdown_definition.specs.Tree.{BlockLine, Block, IndentedCode, Ending, Blank, Blocks, Nil, join, one, ended, holds, OpenLeaf, Text, Indented, Leaf, is_nothing, close_leaf, paragraph_of, with_paragraph, last_ending, last_ending_or, is_some_line, own_lines, blanks, is_ending, front}
+use Rattle.markdown_definition.specs.Tree.{BlockLine, Block, IndentedCode, Ending, Blank, Blocks, Nil, join, one, ended, holds, OpenLeaf, Text, Indented, Leaf, is_nothing, close_leaf, last_ending, last_ending_or, is_some_line, own_lines, blanks, is_ending, front}
 use Rattle.markdown_definition.specs.Rows.{whole_line, Single, entered, block_rows, row_shown, rows_of, shown, shown_as, lines_taken, all_taken, piece_line, piece_lines}
 use Rattle.block_tree.specs.declared.parser.Parser.{Parser}
 use Rattle.block_tree.specs.Spine.{Level, level, spine, rows_around}
 use Rattle.block_tree.specs.Waits.{enter_row, inside, outside}
+use Rattle.block_tree.specs.View.{HasRead}
 use Rattle.block_tree.specs.Shows.{LeafState, state_of, leaf_lines, lone, Written, Shows}
 use Rattle.block_tree.proofs.Trees.{join-assoc, join-nil}
 use Rattle.block_tree.proofs.Shown.{left_count, left_shown}
@@ -202,17 +202,36 @@ blank_as rows waiting bare pool around kids h ending rows2 waiting2 bare2 r w b 
     written_as rows rows2 (waiting ++ row.Blank ending ∷ []) waiting2 bare bare2 pool pool around (join kids (one (Blank ending))) [] [] r w b refl refl
     (with_ending rows waiting bare pool around kids [] h (row.Blank ending) (Blank ending) refl refl)
 
--- ---- a paragraph is closed, where no definitions are cut from it
-
-pub text_closed : (on : Constructs) → on.definition ≡ false → (ls : List BlockLine) → close_leaf on (Text ls) ≡ paragraph_of ls
-text_closed on off ls = ap with_paragraph (cond-false on.definition (cut_most (length ls) ls) (cut_into Nil ls) off)
-
 -- ---- whole lines are kept as one
 
 -- the lines that are left are the last ones
 pub lines_left : (rows waiting : List Row) (bare : Bool) (pool : List BlockLine) (around : List Level) (kids : Blocks) (left : List BlockLine)
     → Written rows waiting bare pool around kids left → left ≡ drop (all_taken rows) pool
 lines_left rows waiting bare pool around kids left h = left_shown rows pool _ h.rows_shown
+
+pub lines_of : {A : Type 0} (p : Parser A) (around : List Level) (kids : Blocks) (leaf : OpenLeaf) → HasRead p (spine around kids leaf)
+    → leaf_lines leaf ≡ drop p.taken (piece_lines p.pieces.items)
+lines_of p around kids leaf h =
+    let pool = piece_lines p.pieces.items in
+    lines_left p.rows.rows.items p.rows.waiting.items p.rows.bare pool around kids (leaf_lines leaf) h.written ∙ ap (λ n. drop n pool) (sym p.counted)
+
+-- they are those of the pieces that are left
+pub lines_from : (n : ℕ) (pieces : List Piece) → piece_lines (take (length pieces - n) (drop n pieces)) ≡ drop n (piece_lines pieces)
+lines_from n pieces = ap piece_lines (take_rest pieces n) ∙ sym (drop-map piece_line n pieces)
+
+-- also where they are a slice
+pub lines_here : {A : Type 0} (p : Parser A) (around : List Level) (kids : Blocks) (leaf : OpenLeaf) → HasRead p (spine around kids leaf) → (pieces : List Piece) → pieces ≡ p.pieces.items
+    → leaf_lines leaf ≡ piece_lines (take (length pieces - p.taken) (drop p.taken pieces))
+lines_here p around kids leaf h pieces same =
+    lines_of p around kids leaf h ∙ ap (λ ps. drop p.taken (piece_lines ps)) (sym same) ∙ sym (lines_from p.taken pieces)
+
+-- and the first of them are a slice
+pub lines_first : {A : Type 0} (p : Parser A) (around : List Level) (kids : Blocks) (leaf : OpenLeaf) → HasRead p (spine around kids leaf) → (pieces : List Piece) → pieces ≡ p.pieces.items
+    → (count n : ℕ) → n ≡ count → take count (leaf_lines leaf) ≡ piece_lines (take n (drop p.taken pieces))
+lines_first p around kids leaf h pieces same count n is =
+    ap (take count) (lines_of p around kids leaf h ∙ ap (λ ps. drop p.taken (piece_lines ps)) (sym same) ∙ drop-map piece_line p.taken pieces)
+    ∙ take-map piece_line count (drop p.taken pieces)
+    ∙ ap (λ k. piece_lines (take k (drop p.taken pieces))) (sym is)
 
 -- another line in their place
 pub whole_written : (rows waiting : List Row) (bare : Bool) (pool : List BlockLine) (around : List Level) (kids : Blocks) (left : List BlockLine)

@@ -1,5 +1,5 @@
 -- The steps of the definition, case by case.
-use Rattle.std.proofs.Common.{◌≡◌, ℕ, List, [], ◌∷◌, ◌++◌, Option, None, Some, true, false, not, ◌&&◌, ◌==◌, refl, sym, ap, ◌∙◌, subst, length, arith}
+use Rattle.std.proofs.Common.{◌≡◌, ℕ, List, [], ◌∷◌, ◌++◌, Option, None, Some, Bool, if◌then◌else◌, true, false, not, ◌&&◌, ◌==◌, refl, sym, ap, ◌∙◌, subst, length, arith}
 use Rattle.std.proofs.lemmas.Bool.{cond-true, cond-false}
 use Rattle.markdown_options.specs.declared.line_ending.LineEnding.{LineEnding}
 use Rattle.markdown_options.specs.declared.configuration.Constructs.{Constructs}
@@ -11,10 +11,11 @@ use Rattle.markdown_definition.specs.HtmlFlow.{html_start, ends_before_blank}
 use Rattle.markdown_definition.specs.HeadingAtx.{Atx, heading_atx}
 use Rattle.markdown_definition.specs.HeadingSetext.{underline}
 use Rattle.markdown_definition.specs.ThematicBreak.{is_break}
-use Rattle.markdown_definition.specs.Definitions.{Cut, cut_into, cut_most}
+use Rattle.markdown_definition.specs.Definitions.{cut, cut_into, cut_most}
+use Rattle.markdown_definition.specs.ParagraphLines.{AreLines}
 use Rattle.markdown_definition.specs.Tree.{BlockLine, block_line, Heading, Break, FencedCode, Blank, Blocks, Nil, join, one, ended, OpenLeaf, Text, Indented, Fenced, OpenHtml, Opening, Leaf, Inside, Tree, tree, nothing, close, after, leaf_text, open_text, text_here, is_some_line, has_text, own_lines, with_line, rest_line, leaf_line, begun, or_fence, or_html, or_heading, html_with, break_or_text, text_line_of, taken, turns, underlined, heading_of, new}
 use Rattle.block_tree.specs.Spine.{Level, level, Spine, spine, spine_at, grown}
-use Rattle.block_tree.specs.Turns.{IsText, turned_by}
+use Rattle.block_tree.specs.Turns.{IsText, headed, turned_by}
 use Rattle.block_tree.specs.View.{leaf_grown}
 use Rattle.block_tree.proofs.Trees.{join-nil}
 use Rattle.block_tree.proofs.Closing.{after_added, opening_depth}
@@ -115,24 +116,38 @@ module _ (on : Constructs) (away : Opening) (r : Rest) (e : Option LineEnding) w
 
 -- ---- an underline
 
-module _ (on : Constructs) (off : on.definition ≡ false) (r : Rest) (e : Option LineEnding) where
-  -- no definitions are cut
-  uncut : (rank : ℕ) (ls : List BlockLine) → underlined on (Some rank) ls e ≡ heading_of rank Nil ls e
-  uncut rank ls = ap (λ (parts : Cut). heading_of rank parts.definitions parts.left e) (cond-false on.definition (cut_most (length ls) ls) (cut_into Nil ls) off)
+module _ (on : Constructs) (r : Rest) (e : Option LineEnding) where
+  -- nothing is cut from nothing
+  none_cut : (b : Bool) → (if b then cut_most 0 [] else cut_into Nil []).left ≡ []
+  none_cut true = refl
+  none_cut false = refl
+
+  not_headed : (rank : ℕ) (definitions : Blocks) (left : List BlockLine) → is_some_line left ≡ false → heading_of rank definitions left e ≡ None
+  not_headed rank definitions [] none = refl
+  not_headed rank definitions (l ∷ ls) none = let wrong : true ≡ false = none in cc
+
+  is_headed : (rank : ℕ) (definitions : Blocks) (left : List BlockLine) → is_some_line left ≡ true
+      → heading_of rank definitions left e ≡ Some (tree (join definitions (ended (Heading rank (own_lines left)) e)) nothing)
+  is_headed rank definitions [] some = let wrong : false ≡ true = some in cc
+  is_headed rank definitions (l ∷ ls) some = refl
 
   none_here : (o : Option ℕ) → underlined on o [] e ≡ None
   none_here None = refl
-  none_here (Some rank) = uncut rank []
+  none_here (Some rank) = not_headed rank (cut on []).definitions (cut on []).left (ap is_some_line (none_cut on.definition))
 
   pub turns_nothing : (away : Opening) → text_here away ≡ [] → turns on away r e ≡ None
   turns_nothing away none = ap (λ ls. underlined on (underline on r) ls e) none ∙ none_here (underline on r)
 
-  turned : (o : Option ℕ) (l : BlockLine) (ls : List BlockLine) → underlined on o (l ∷ ls) e ≡ turned_by o (Leaf (Text (l ∷ ls))) e
-  turned None l ls = refl
-  turned (Some rank) l ls = uncut rank (l ∷ ls)
+  pub turns_not : (away : Opening) → underline on r ≡ None → turns on away r e ≡ None
+  turns_not away is = ap (λ o. underlined on o (text_here away) e) is
 
-  pub turns_text : (l : BlockLine) (ls : List BlockLine) (o : Option ℕ) → underline on r ≡ o → turns on (Leaf (Text (l ∷ ls))) r e ≡ turned_by o (Leaf (Text (l ∷ ls))) e
-  turns_text l ls o is = ap (λ x. underlined on x (l ∷ ls) e) is ∙ turned o l ls
+  -- the definitions take the whole of it, or a heading of what is left
+  pub turns_none : (ls : List BlockLine) (rank : ℕ) → underline on r ≡ Some rank → is_some_line (cut on ls).left ≡ false → turns on (Leaf (Text ls)) r e ≡ None
+  turns_none ls rank is none = ap (λ o. underlined on o ls e) is ∙ not_headed rank (cut on ls).definitions (cut on ls).left none
+
+  pub turns_some : (ls : List BlockLine) (rank : ℕ) → underline on r ≡ Some rank → is_some_line (cut on ls).left ≡ true
+      → turns on (Leaf (Text ls)) r e ≡ turned_by on (Some rank) (Leaf (Text ls)) e
+  turns_some ls rank is some = ap (λ o. underlined on o ls e) is ∙ is_headed rank (cut on ls).definitions (cut on ls).left some
 
 -- whether a paragraph is open where all containers are
 pub here_or_not : (depth count : ℕ) (away : Opening) → (opening_depth away ≡ 0 → (depth == count) ≡ true) → ((depth == count) && has_text away) ≡ false → text_here away ≡ []
@@ -185,11 +200,11 @@ starts_text on Q r e around kids away none h =
     (after_added on Q around kids away t (subst (λ (bs : Blocks). Q (spine around bs (Text (rest_line r e ∷ [])))) (sym (join-nil (join kids (close on away)))) h))
 
 -- a paragraph becomes a heading
-pub turned_here : (P Q : Spine → Type 0) (rank : ℕ) (e : Option LineEnding)
-    → ((around : List Level) (kids : Blocks) (ls : List BlockLine) → P (spine around kids (Text ls)) → Q (spine around (join kids (ended (Heading rank (own_lines ls)) e)) (Text [])))
-    → (around : List Level) (kids : Blocks) (away : Opening) → IsText away → P (spine_at around kids away) → Q (grown around kids (tree (ended (Heading rank (own_lines (text_here away))) e) nothing))
-turned_here P Q rank e reads around kids (Leaf (Text ls)) is h = reads around kids ls h
-turned_here P Q rank e reads around kids (Leaf (Indented ls pending)) is h = absurd is
-turned_here P Q rank e reads around kids (Leaf (Fenced f opening ls)) is h = absurd is
-turned_here P Q rank e reads around kids (Leaf (OpenHtml kind ls)) is h = absurd is
-turned_here P Q rank e reads around kids (Inside c inner_kids inner) is h = absurd is
+pub turned_here : (on : Constructs) (P Q : Spine → Type 0) (rank : ℕ) (e : Option LineEnding)
+    → ((around : List Level) (kids : Blocks) (ls : List BlockLine) → AreLines ls → P (spine around kids (Text ls)) → Q (spine around (join kids (headed on rank ls e)) (Text [])))
+    → (around : List Level) (kids : Blocks) (away : Opening) → IsText away → AreLines (open_text away) → P (spine_at around kids away) → Q (grown around kids (tree (headed on rank (text_here away) e) nothing))
+turned_here on P Q rank e reads around kids (Leaf (Text ls)) is clean h = reads around kids ls clean h
+turned_here on P Q rank e reads around kids (Leaf (Indented ls pending)) is clean h = absurd is
+turned_here on P Q rank e reads around kids (Leaf (Fenced f opening ls)) is clean h = absurd is
+turned_here on P Q rank e reads around kids (Leaf (OpenHtml kind ls)) is clean h = absurd is
+turned_here on P Q rank e reads around kids (Inside c inner_kids inner) is clean h = absurd is

@@ -7,14 +7,14 @@ use Rattle.html_lines.specs.Views.{number_of}
 use Rattle.block_tree.specs.Shows.{LeafState, InText, InIndented, InFenced, InHtml}
 
 abbrev pub leaf_state : OpenLeaf → LeafState
-leaf_state (leaf.Text ending) = InText ending
+leaf_state leaf.Text = InText
 leaf_state (leaf.Indented count ending) = InIndented count ending
 leaf_state (leaf.Fenced fence ending) = InFenced (fence_view fence) ending
 leaf_state (leaf.Html kind ending) = InHtml (number_of kind) ending
 
 -- how many lines an open leaf has at least
 abbrev pub lines_needed : OpenLeaf → ℕ
-lines_needed (leaf.Text ending) = 0
+lines_needed leaf.Text = 0
 lines_needed (leaf.Indented count ending) = count
 lines_needed (leaf.Fenced fence ending) = 1
 lines_needed (leaf.Html kind ending) = 0

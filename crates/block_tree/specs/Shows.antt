@@ -10,13 +10,13 @@ use Rattle.block_tree.specs.Spine.{Level, Spine, rows_around, containers_of}
 
 -- what is kept of an open leaf beside its lines
 pub data LeafState : Type 0 where
-  InText : Option LineEnding → LeafState
+  InText : LeafState
   InIndented : ℕ → Option LineEnding → LeafState
   InFenced : Fence → Option LineEnding → LeafState
   InHtml : ℕ → Option LineEnding → LeafState
 
 abbrev pub state_of : OpenLeaf → LeafState
-state_of (Text ls) = InText (last_ending ls)
+state_of (Text ls) = InText
 state_of (Indented ls pending) = InIndented (length ls) (last_ending ls)
 state_of (Fenced fence opening ls) = InFenced fence (last_ending_or opening ls)
 state_of (OpenHtml kind ls) = InHtml kind (last_ending ls)

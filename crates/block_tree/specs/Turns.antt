@@ -1,12 +1,18 @@
 -- What an underline makes of the open paragraph.
-use Rattle.std.specs.Prelude.{ℕ, Option, None, Some}
+use Rattle.std.specs.Prelude.{ℕ, List, Option, None, Some}
+use Rattle.markdown_options.specs.declared.configuration.Constructs.{Constructs}
 use Rattle.markdown_options.specs.declared.line_ending.LineEnding.{LineEnding}
-use Rattle.markdown_definition.specs.Tree.{Heading, ended, own_lines, Text, Indented, Fenced, OpenHtml, Opening, Leaf, Inside, Tree, tree, nothing, text_here}
+use Rattle.markdown_definition.specs.Definitions.{cut}
+use Rattle.markdown_definition.specs.Tree.{BlockLine, Blocks, Heading, join, ended, own_lines, Text, Indented, Fenced, OpenHtml, Opening, Leaf, Inside, Tree, tree, nothing, text_here}
+
+-- the definitions at the front of a paragraph, and a heading of what is left of it
+abbrev pub headed : Constructs → ℕ → List BlockLine → Option LineEnding → Blocks
+headed on rank ls ending = let parts = cut on ls in join parts.definitions (ended (Heading rank (own_lines parts.left)) ending)
 
 -- a heading of a rank, if there is one
-abbrev pub turned_by : Option ℕ → Opening → Option LineEnding → Option Tree
-turned_by None away ending = None
-turned_by (Some rank) away ending = Some (tree (ended (Heading rank (own_lines (text_here away))) ending) nothing)
+abbrev pub turned_by : Constructs → Option ℕ → Opening → Option LineEnding → Option Tree
+turned_by on None away ending = None
+turned_by on (Some rank) away ending = Some (tree (headed on rank (text_here away) ending) nothing)
 
 -- no container is open, and no leaf but a paragraph
 abbrev pub IsText : Opening → Type 0

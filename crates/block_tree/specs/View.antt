@@ -3,7 +3,8 @@ use Rattle.std.specs.Prelude.{◌≡◌, ℕ, ◌<◌, true, false, List, [], le
 use Rattle.markdown_options.specs.declared.configuration.Constructs.{Constructs}
 use Rattle.markdown_options.specs.declared.line_ending.LineEnding.{LineEnding}
 use Rattle.markdown_definition.specs.Columns.{Rest}
-use Rattle.markdown_definition.specs.Tree.{Blocks, Nil, Text, Opening, Leaf, Inside, Tree, tree, nothing, new, leaf_line, grow}
+use Rattle.markdown_definition.specs.Tree.{Blocks, Nil, Text, Opening, Leaf, Inside, Tree, tree, nothing, open_text, new, leaf_line, grow}
+use Rattle.markdown_definition.specs.ParagraphLines.{AreLines}
 use Rattle.markdown_definition.specs.Rows.{piece_lines}
 use Rattle.block_tree.specs.declared.parser.Parser.{Parser}
 use Rattle.block_tree.specs.Leaves.{leaf_state}
@@ -18,9 +19,9 @@ HasRead p s = Shows p.rows.rows.items p.rows.waiting.items p.rows.bare p.open.it
 abbrev pub Adds : {A : Type 0} → Parser A → Parser A → Tree → Type 0
 Adds old new more = (around : List Level) (kids : Blocks) → HasRead old (spine around kids (Text [])) → HasRead new (grown around kids more)
 
--- so many containers stay open, and what is open in them becomes something else
+-- so many containers stay open, and what is open in them, with the lines of a text, becomes something else
 abbrev pub Grows : {A : Type 0} → Parser A → Parser A → ℕ → (Opening → Tree) → Type 0
-Grows old new depth becomes = (around : List Level) (kids : Blocks) (away : Opening) → depth ≡ length around → HasRead old (spine_at around kids away) → HasRead new (grown around kids (becomes away))
+Grows old new depth becomes = (around : List Level) (kids : Blocks) (away : Opening) → depth ≡ length around → AreLines (open_text away) → HasRead old (spine_at around kids away) → HasRead new (grown around kids (becomes away))
 
 -- what a line that is in all containers makes of the open leaf
 abbrev pub leaf_grown : Constructs → Option LineEnding → Rest → Opening → Tree

@@ -16,7 +16,7 @@ use markdown_options::{Constructs, LineEnding};
 use std::alloc::{AllocError, Allocator};
 
 impl<'a, A: Allocator> Parser<'a, A> {
-    ghost use Rattle.std.specs.Prelude.{◌≡◌, OnOk, List, Option, false};
+    ghost use Rattle.std.specs.Prelude.{◌≡◌, OnOk, List, Option};
     ghost use Rattle.markdown_options.specs.declared.line_ending.LineEnding.{LineEnding};
     ghost use Rattle.markdown_definition.specs.Indents.{outdented};
     ghost use Rattle.markdown_definition.specs.CodeFenced.{Fence as FenceRecord};
@@ -36,7 +36,6 @@ impl<'a, A: Allocator> Parser<'a, A> {
         rest: Cursor<'a>,
         ending: Option<LineEnding>,
     ) -> Result<(), AllocError>
-        requires definitions { on.now.definition ≡ false }
         ensures { OnOk result ((around : List Level) (kids : Blocks) (ls pending : List BlockLine) → HasRead self.old (spine around kids (IndentedLeaf ls pending)) → HasRead self.new (grown around kids (leaf_grown on.now ending (rest_of rest.entry) (OpenedLeaf (IndentedLeaf ls pending))))) }
     {
         if rest.is_blank() {
@@ -61,7 +60,6 @@ impl<'a, A: Allocator> Parser<'a, A> {
         rest: Cursor<'a>,
         ending: Option<LineEnding>,
     ) -> Result<(), AllocError>
-        requires definitions { on.now.definition ≡ false }
         requires lines { self.old.taken + 1 ≤ vec_len self.old.pieces }
         ensures { OnOk result ((around : List Level) (kids : Blocks) (opening : Option LineEnding) (ls : List BlockLine) → HasRead self.old (spine around kids (FencedLeaf (fence_view fence.entry) opening ls)) → HasRead self.new (grown around kids (leaf_grown on.now ending (rest_of rest.entry) (OpenedLeaf (FencedLeaf (fence_view fence.entry) opening ls))))) }
     {

@@ -12,27 +12,40 @@ use markdown_options::{Constructs, LineEnding};
 use std::alloc::{AllocError, Allocator};
 
 impl<'a, A: Allocator> Parser<'a, A> {
-    ghost use Rattle.std.specs.Prelude.{◌≡◌, OnOk, List, Option, ℕ, false, Some};
+    ghost use Rattle.std.specs.Prelude.{◌≡◌, IfOk, OnOk, List, Option, ℕ, Some};
     ghost use Rattle.markdown_options.specs.declared.line_ending.LineEnding.{LineEnding};
-    ghost use Rattle.markdown_definition.specs.Tree.{Blocks, BlockLine, tree, nothing, join, ended, block_line, own_lines, turns};
-    ghost use Rattle.block_tree.specs.Turns.{IsText, turned_by};
+    ghost use Rattle.markdown_definition.specs.Tree.{Blocks, BlockLine, tree, nothing, join, ended, block_line, open_text, turns};
+    ghost use Rattle.markdown_definition.specs.ParagraphLines.{AreLines};
+    ghost use Rattle.block_tree.specs.Turns.{IsText, headed, turned_by};
     ghost use Rattle.markdown_definition.specs.Tree.{Opening, Heading as HeadingBlock, Text as TextLeaf};
-    ghost use Rattle.block_tree.specs.Spine.{Level, spine, spine_at};
+    ghost use Rattle.block_tree.specs.Spine.{Level, Spine, spine, spine_at};
     ghost use Rattle.block_tree.specs.View.{HasRead, Adds};
     ghost use Rattle.std.specs.Prelude.{None, ◌∷◌, [], length};
     ghost use Rattle.block_lines.specs.View.{rest_of};
 
-    /// The rank of the heading that an underline makes of the open paragraph, where the line is in so
-    /// many containers, which are all of them.
-    pub(crate) fn turns(&self, on: &Constructs, depth: usize, rest: Cursor<'a>) -> Option<u8>
-        requires { on.now.definition ≡ false }
-        ensures turned { (around : List Level) (kids : Blocks) (away : Opening) (ending : Option LineEnding) → depth ≡ length around → HasRead self.now (spine_at around kids away) → turns on.now away (rest_of rest.entry) ending ≡ turned_by result away ending }
-        ensures here { (rank : ℕ) (around : List Level) (kids : Blocks) (away : Opening) → depth ≡ length around → HasRead self.now (spine_at around kids away) → result ≡ Some rank → IsText away }
+    /// The rank of the heading that an underline makes of what is left of the open paragraph after
+    /// its definitions, where the line is in so many containers, which are all of them.
+    pub(crate) fn turns(
+        &mut self,
+        on: &Constructs,
+        depth: usize,
+        rest: Cursor<'a>,
+    ) -> Result<Option<u8>, AllocError>
+        ensures turned { IfOk result (λ rank. (around : List Level) (kids : Blocks) (away : Opening) (ending : Option LineEnding) → depth ≡ length around → AreLines (open_text away) → HasRead self.old (spine_at around kids away) → turns on.now away (rest_of rest.entry) ending ≡ turned_by on.now rank away ending) }
+        ensures here { IfOk result (λ found. (rank : ℕ) (around : List Level) (kids : Blocks) (away : Opening) → depth ≡ length around → HasRead self.old (spine_at around kids away) → found ≡ Some rank → IsText away) }
+        ensures kept { (s : Spine) → HasRead self.old s → HasRead self.new s }
+        ensures containers { self.new.open ≡ self.old.open }
     {
-        if self.interrupts(depth) {
-            underline(on, rest)
+        if !self.interrupts(depth) {
+            return Ok(None);
+        }
+        let Some(rank) = underline(on, rest) else {
+            return Ok(None);
+        };
+        if self.leaves_text(on)? {
+            Ok(Some(rank))
         } else {
-            None
+            Ok(None)
         }
     }
 
@@ -54,14 +67,16 @@ impl<'a, A: Allocator> Parser<'a, A> {
         self.rows.ending(ending)
     }
 
-    /// The open paragraph becomes a heading.
+    /// What is left of the open paragraph after its definitions becomes a heading.
     pub(crate) fn setext_heading(
         &mut self,
+        on: &Constructs,
         rank: u8,
         ending: Option<LineEnding>,
     ) -> Result<(), AllocError>
-        ensures { OnOk result ((around : List Level) (kids : Blocks) (ls : List BlockLine) → HasRead self.old (spine around kids (TextLeaf ls)) → HasRead self.new (spine around (join kids (ended (HeadingBlock rank (own_lines ls)) ending)) (TextLeaf []))) }
+        ensures { OnOk result ((around : List Level) (kids : Blocks) (ls : List BlockLine) → AreLines ls → HasRead self.old (spine around kids (TextLeaf ls)) → HasRead self.new (spine around (join kids (headed on.now rank ls ending)) (TextLeaf []))) }
     {
+        self.cut_definitions(on)?;
         let count = self.pieces.len() - self.taken;
         self.end_leaf(Row::SetextHeading { rank, count }, ending)
     }

@@ -18,7 +18,7 @@ use markdown_options::{Constructs, LineEnding};
 use std::alloc::{AllocError, Allocator};
 
 impl<'a, A: Allocator> Parser<'a, A> {
-    ghost use Rattle.std.specs.Prelude.{◌≡◌, OnOk, List, ℕ, false};
+    ghost use Rattle.std.specs.Prelude.{◌≡◌, OnOk, List, ℕ};
     ghost use Rattle.html_lines.specs.Views.{number_of};
     ghost use Rattle.markdown_definition.specs.Tree.{Blocks, BlockLine, join, close_leaf, last_ending, OpenLeaf as OpenLeafOf, html_with};
     ghost use Rattle.markdown_definition.specs.Tree.{Leaf as OpenedLeaf, Text as TextLeaf, OpenHtml as HtmlLeaf};
@@ -36,7 +36,6 @@ impl<'a, A: Allocator> Parser<'a, A> {
         rest: Cursor<'a>,
         ending: Option<LineEnding>,
     ) -> Result<(), AllocError>
-        requires definitions { on.now.definition ≡ false }
         ensures { OnOk result ((around : List Level) (kids : Blocks) (ls : List BlockLine) → HasRead self.old (spine around kids (HtmlLeaf (number_of kind) ls)) → HasRead self.new (grown around kids (leaf_grown on.now ending (rest_of rest.entry) (OpenedLeaf (HtmlLeaf (number_of kind) ls))))) }
     {
         if html_stops(kind, rest) {

@@ -7,9 +7,7 @@ use markdown_options::LineEnding;
 #[derive(Clone, Copy)]
 pub enum OpenLeaf<'a> {
     /// A paragraph, or nothing where there is no line.
-    Text {
-        ending: Option<LineEnding>,
-    },
+    Text,
     /// Indented code of so many lines. The lines after them are blank, and may end it.
     Indented {
         count: usize,

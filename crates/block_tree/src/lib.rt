@@ -2,6 +2,7 @@
 #![tactic(auto)]
 
 mod code;
+mod definition;
 mod heading;
 mod html;
 mod leaf;

@@ -7,6 +7,7 @@ ghost use Rattle.markdown_definition.specs.Rows.{piece_line, piece_lines, whole_
 ghost use Rattle.markdown_definition.specs.Columns.{bytes_of};
 ghost use Rattle.text_lines.specs.Rest.{view_line};
 
+use crate::definition::last_ending;
 use crate::leaf::OpenLeaf;
 use crate::parser::{NOTHING, Parser, piece};
 use block_lines::Cursor;
@@ -21,7 +22,8 @@ const WHOLE_LINES_MIN: usize = 8;
 
 impl<'a, A: Allocator> Parser<'a, A> {
     ghost use Rattle.std.specs.Prelude.{◌≡◌, OnOk, List, true, false};
-    ghost use Rattle.markdown_definition.specs.Tree.{Blocks, BlockLine, join, ended, close_leaf, last_ending, own_lines};
+    ghost use Rattle.markdown_definition.specs.Tree.{Blocks, BlockLine, join, ended, close_leaf, own_lines, paragraph_of};
+    ghost use Rattle.markdown_definition.specs.ParagraphLines.{AreLines};
     ghost use Rattle.markdown_definition.specs.Tree.{Paragraph as ParagraphBlock, Text as TextLeaf};
     ghost use Rattle.std.specs.Prelude.{drop};
     ghost use Rattle.block_tree.specs.Spine.{Level, spine};
@@ -43,23 +45,28 @@ impl<'a, A: Allocator> Parser<'a, A> {
             self.paragraph = self.rest;
         }
         self.pieces.push(piece(rest, ending))?;
-        self.leaf = OpenLeaf::Text { ending };
         Ok(())
     }
 
-    pub(crate) fn close_text(
-        &mut self,
-        on: &Constructs,
-        ending: Option<LineEnding>,
-    ) -> Result<(), AllocError>
-        requires definitions { on.now.definition ≡ false }
-        ensures read { OnOk result ((around : List Level) (kids : Blocks) (ls : List BlockLine) → ending ≡ last_ending ls → HasRead self.old (spine around kids (TextLeaf ls)) → HasRead self.new (spine around (join kids (close_leaf on.now (TextLeaf ls))) (TextLeaf []))) }
+    /// Closes the open paragraph: definitions, and a paragraph of what is left.
+    pub(crate) fn close_text(&mut self, on: &Constructs) -> Result<(), AllocError>
+        ensures read { OnOk result ((around : List Level) (kids : Blocks) (ls : List BlockLine) → AreLines ls → HasRead self.old (spine around kids (TextLeaf ls)) → HasRead self.new (spine around (join kids (close_leaf on.now (TextLeaf ls))) (TextLeaf []))) }
+        ensures containers { self.new.open ≡ self.old.open }
+    {
+        self.cut_definitions(on)?;
+        self.close_paragraph()
+    }
+
+    /// The lines that are left of the open paragraph, if there are any, are a paragraph.
+    fn close_paragraph(&mut self) -> Result<(), AllocError>
+        ensures read { OnOk result ((around : List Level) (kids : Blocks) (ls : List BlockLine) → HasRead self.old (spine around kids (TextLeaf ls)) → HasRead self.new (spine around (join kids (paragraph_of ls)) (TextLeaf []))) }
         ensures containers { self.new.open ≡ self.old.open }
     {
         let count = self.pieces.len() - self.taken;
         if count == 0 {
             return Ok(());
         }
+        let ending = last_ending(&self.pieces[self.taken..]);
         if self.has_whole_lines() {
             return self.close_whole(count, ending);
         }

@@ -31,6 +31,8 @@ pub struct BlockRows<'a, A: Allocator> {
 pub(crate) struct Parser<'a, A: Allocator> {
     pub(crate) rows: Rows<A>,
     pub(crate) pieces: Vec<Piece<'a>, A>,
+    /// The content of a paragraph that definitions are read off.
+    pub(crate) content: String<A>,
     /// How many of the lines the rows take. The others are those of the open leaf.
     pub(crate) taken: usize,
     /// The containers that are open, the outermost first.
@@ -47,13 +49,14 @@ pub(crate) struct Parser<'a, A: Allocator> {
 }
 
 /// No leaf is open.
-pub(crate) const NOTHING: OpenLeaf<'static> = OpenLeaf::Text { ending: None };
+pub(crate) const NOTHING: OpenLeaf<'static> = OpenLeaf::Text;
 
 impl<'a, A: Allocator> Parser<'a, A> {
     ghost use Rattle.std.specs.Prelude.{◌≡◌, ◌==◌, ◌&&◌, OnOk, IfOk, List, Option, false};
     ghost use Rattle.markdown_options.specs.declared.line_ending.LineEnding.{LineEnding};
     ghost use Rattle.markdown_definition.specs.Lines.{text_line};
-    ghost use Rattle.markdown_definition.specs.Tree.{Tree, Block, Blocks, tree, nothing, Nil, join, one, ended, step, new, close, close_leaf, is_ending, is_nothing, is_some_line, leaf_text, began_blank, OpenLeaf as OpenLeafOf};
+    ghost use Rattle.markdown_definition.specs.Tree.{Tree, Block, Blocks, tree, nothing, Nil, join, one, ended, step, new, close, close_leaf, is_ending, is_nothing, is_some_line, leaf_text, open_text, began_blank, OpenLeaf as OpenLeafOf};
+    ghost use Rattle.markdown_definition.specs.ParagraphLines.{AreLines};
     ghost use Rattle.markdown_definition.specs.Tree.{Opening, leaf_line as line_of_leaf, has_text as is_text_open, Blank as BlankBlock, Break as BreakBlock, Leaf as OpenedLeaf, Inside, Text as TextLeaf};
     ghost use Rattle.markdown_definition.specs.Rows.{block_rows, row_shown, lines_taken};
     ghost use Rattle.block_tree.specs.Spine.{Level, Spine, level, spine, spine_at, spine_of, exited};
@@ -64,8 +67,7 @@ impl<'a, A: Allocator> Parser<'a, A> {
 
     /// Reads a line: the containers that go on, then the leaf that takes the rest, or what is new.
     pub(crate) fn line(&mut self, on: &Constructs, line: Line<'a>) -> Result<(), AllocError>
-        requires definitions { on.now.definition ≡ false }
-        ensures { OnOk result ((t : Tree) → HasRead self.old (spine_of t) → HasRead self.new (spine_of (step on.now t (text_line line.entry.content.now line.entry.ending)))) }
+        ensures { OnOk result ((t : Tree) → AreLines (open_text t.now) → HasRead self.old (spine_of t) → HasRead self.new (spine_of (step on.now t (text_line line.entry.content.now line.entry.ending)))) }
     {
         self.rest = line.text;
         let (depth, rest) = self.descend(on, Cursor::new(line.content));
@@ -73,7 +75,7 @@ impl<'a, A: Allocator> Parser<'a, A> {
             return self.start_line(on, depth, rest, line.ending);
         }
         match self.leaf {
-            OpenLeaf::Text { .. } => self.start_line(on, depth, rest, line.ending),
+            OpenLeaf::Text => self.start_line(on, depth, rest, line.ending),
             OpenLeaf::Indented { .. } => self.indented_line(on, rest, line.ending),
             OpenLeaf::Fenced { fence, .. } => self.fenced_line(on, fence, rest, line.ending),
             OpenLeaf::Html { kind, .. } => self.html_line(on, kind, rest, line.ending),
@@ -111,7 +113,7 @@ impl<'a, A: Allocator> Parser<'a, A> {
         ensures { (s : Spine) → HasRead self.now s → result ≡ is_nothing (OpenedLeaf s.leaf) }
     {
         match self.leaf {
-            OpenLeaf::Text { .. } => self.taken == self.pieces.len(),
+            OpenLeaf::Text => self.taken == self.pieces.len(),
             OpenLeaf::Indented { .. } => false,
             OpenLeaf::Fenced { .. } => false,
             OpenLeaf::Html { .. } => false,
@@ -123,7 +125,7 @@ impl<'a, A: Allocator> Parser<'a, A> {
         ensures { (s : Spine) → HasRead self.now s → result ≡ is_some_line (leaf_text s.leaf) }
     {
         match self.leaf {
-            OpenLeaf::Text { .. } => self.taken < self.pieces.len(),
+            OpenLeaf::Text => self.taken < self.pieces.len(),
             OpenLeaf::Indented { .. } => false,
             OpenLeaf::Fenced { .. } => false,
             OpenLeaf::Html { .. } => false,
@@ -145,7 +147,6 @@ impl<'a, A: Allocator> Parser<'a, A> {
         rest: Cursor<'a>,
         ending: Option<LineEnding>,
     ) -> Result<(), AllocError>
-        requires definitions { on.now.definition ≡ false }
         requires depth { depth ≤ vec_len self.old.open }
         ensures { OnOk result (Grows self.old self.new depth (λ away. new (length (rest_of rest.entry)) on.now (depth == vec_len self.old.open) away ending (rest_of rest.entry))) }
     {
@@ -179,7 +180,6 @@ impl<'a, A: Allocator> Parser<'a, A> {
         rest: Cursor<'a>,
         ending: Option<LineEnding>,
     ) -> Result<(), AllocError>
-        requires definitions { on.now.definition ≡ false }
         requires depth { depth ≤ vec_len self.old.open }
         ensures { OnOk result (Grows self.old self.new depth (λ away. line_of_leaf on.now away (rest_of rest.entry) ending)) }
     {
@@ -204,8 +204,8 @@ impl<'a, A: Allocator> Parser<'a, A> {
             self.close_to(on, depth)?;
             return self.heading(atx, ending);
         }
-        if let Some(rank) = self.turns(on, depth, rest) {
-            return self.setext_heading(rank, ending);
+        if let Some(rank) = self.turns(on, depth, rest)? {
+            return self.setext_heading(on, rank, ending);
         }
         if is_break(on, rest) {
             self.close_to(on, depth)?;
@@ -244,7 +244,6 @@ impl<'a, A: Allocator> Parser<'a, A> {
 
     /// Closes the open leaf, and all containers but so many.
     pub(crate) fn close_to(&mut self, on: &Constructs, depth: usize) -> Result<(), AllocError>
-        requires definitions { on.now.definition ≡ false }
         requires depth { depth ≤ vec_len self.old.open }
         ensures read { OnOk result (Grows self.old self.new depth (λ away. tree (close on.now away) nothing)) }
         ensures count { OnOk result (vec_len self.new.open ≡ depth) }
@@ -270,12 +269,11 @@ impl<'a, A: Allocator> Parser<'a, A> {
 
     /// Closes the open leaf, if there is one.
     fn close_leaf(&mut self, on: &Constructs) -> Result<(), AllocError>
-        requires definitions { on.now.definition ≡ false }
-        ensures read { OnOk result ((around : List Level) (kids : Blocks) (leaf : OpenLeafOf) → HasRead self.old (spine around kids leaf) → HasRead self.new (spine around (join kids (close_leaf on.now leaf)) (TextLeaf []))) }
+        ensures read { OnOk result ((around : List Level) (kids : Blocks) (leaf : OpenLeafOf) → AreLines (leaf_text leaf) → HasRead self.old (spine around kids leaf) → HasRead self.new (spine around (join kids (close_leaf on.now leaf)) (TextLeaf []))) }
         ensures containers { self.new.open ≡ self.old.open }
     {
         match self.leaf {
-            OpenLeaf::Text { ending } => self.close_text(on, ending),
+            OpenLeaf::Text => self.close_text(on),
             OpenLeaf::Indented { count, ending } => self.close_indented(count, ending),
             OpenLeaf::Fenced { ending, .. } => self.close_fenced(ending),
             OpenLeaf::Html { ending, .. } => self.close_html(ending),
@@ -317,7 +315,6 @@ pub fn block_rows<'a, A: Allocator + Clone>(
     on: &Constructs,
 ) -> Result<BlockRows<'a, A>, AllocError>
     requires fits { length text.now < 2 ^ 61 }
-    requires definitions { on.now.definition ≡ false }
     ensures shown { IfOk result (λ r. shown r.rows.items (piece_lines r.pieces.items) ≡ shown_as (rows_of (blocks on.now text.entry.now)) []) }
     ensures enough { IfOk result (λ r. all_taken r.rows.items ≤ length r.pieces.items) }
 {
@@ -325,6 +322,7 @@ pub fn block_rows<'a, A: Allocator + Clone>(
     let mut parser = Parser {
         rows,
         pieces: Vec::new(alloc.clone()?),
+        content: String::new(alloc.clone()?),
         taken: 0,
         open: Vec::new(alloc),
         leaf: NOTHING,

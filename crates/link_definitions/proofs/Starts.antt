@@ -1,5 +1,5 @@
 -- A definition begins with a bracket.
-use Rattle.std.proofs.Common.{◌≡◌, ℕ, ◌<◌, zero, suc, List, [], ◌∷◌, ◌++◌, eqb, false, true, Bool, Option, None, Some, length, refl, sym, ap, ◌∙◌, append_assoc, arith, inl, inr, get_or}
+use Rattle.std.proofs.Common.{◌≡◌, ℕ, zero, suc, List, [], ◌∷◌, ◌++◌, eqb, false, Option, None, Some, refl, sym, ap, ◌∙◌, append_assoc, inl, inr}
 use Rattle.std.specs.Prelude.{replicate}
 use Rattle.std.specs.List.{slice_get}
 use Rattle.std.proofs.lemmas.Bool.{cases_Bool, cond-false, or_parts}
@@ -11,8 +11,8 @@ use Rattle.markdown_definition.specs.declared.row.Piece.{Piece}
 use Rattle.markdown_definition.specs.Lines.{ends_line}
 use Rattle.markdown_definition.specs.Rows.{piece_line, piece_lines}
 use Rattle.markdown_definition.specs.Columns.{is_white, tab_column}
-use Rattle.markdown_definition.specs.Blocks.{BlockLine, block_line, own_lines}
-use Rattle.markdown_definition.specs.Content.{is_eol, line_ending_code, ending_code, content_codes, content_of}
+use Rattle.markdown_definition.specs.Blocks.{BlockLine, own_lines}
+use Rattle.markdown_definition.specs.Content.{line_ending_code, ending_code, content_codes, content_of}
 use Rattle.markdown_definition.specs.LinkSpace.{after_spaces}
 use Rattle.markdown_definition.specs.LinkLabel.{label_at}
 use Rattle.markdown_definition.specs.LinkDefinition.{with_label, definition_at}

@@ -1,5 +1,5 @@
 -- Where a definition at the front of a paragraph ends.
-use Rattle.std.specs.Prelude.{◌≡◌, ◌≤◌, ℕ, List, Some, drop, length}
+use Rattle.std.specs.Prelude.{◌≡◌, ◌≤◌, ℕ, List, Some, drop}
 use Rattle.markdown_definition.specs.Blocks.{BlockLine, own_lines}
 use Rattle.markdown_definition.specs.Content.{content_of}
 use Rattle.markdown_definition.specs.Definitions.{lines_before}

@@ -10,7 +10,7 @@ options_with on = record default_options { parse = record default_parse_options 
 
 -- the default constructs that can be read so far
 abbrev pub default_built : Constructs
-default_built = record no_constructs { block_quote = true; code_fenced = true; code_indented = true; heading_atx = true; heading_setext = true; html_flow = true; list_item = true; thematic_break = true }
+default_built = record no_constructs { block_quote = true; code_fenced = true; code_indented = true; definition = true; heading_atx = true; heading_setext = true; html_flow = true; list_item = true; thematic_break = true }
 
 -- no words ask for the defaults, `--plain` for no constructs
 abbrev pub options_of : List (List ℕ) → Options

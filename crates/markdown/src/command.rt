@@ -106,6 +106,7 @@ fn default_built() -> Constructs
         block_quote: true,
         code_fenced: true,
         code_indented: true,
+        definition: true,
         heading_atx: true,
         heading_setext: true,
         html_flow: true,

@@ -1,9 +1,11 @@
 -- One more line of a block, and its last ending.
-use Rattle.std.proofs.Common.{◌≡◌, List, [], ◌∷◌, ◌++◌, ℕ, Option, None, refl, sym, ap, ◌∙◌, append_assoc}
+use Rattle.std.proofs.Common.{◌≡◌, ◌<◌, ◌-◌, suc, length, get_or, arith, List, [], ◌∷◌, ◌++◌, ℕ, Option, None, refl, sym, ap, ◌∙◌, append_assoc}
 use Rattle.std.specs.List.{flat_map}
 use Rattle.std.proofs.lemmas.List.{append-nil}
 use Rattle.markdown_options.specs.declared.line_ending.LineEnding.{LineEnding}
+use Rattle.markdown_definition.specs.declared.row.Piece.{Piece}
 use Rattle.markdown_definition.specs.Lines.{ending_text}
+use Rattle.markdown_definition.specs.Rows.{piece_lines}
 use Rattle.markdown_definition.specs.Blocks.{BlockLine, own_lines, last_ending, last_ending_or}
 
 last_ending_or-more : (e : Option LineEnding) (ls : List BlockLine) (l : BlockLine) → last_ending_or e (ls ++ l ∷ []) ≡ l.ending
@@ -51,3 +53,11 @@ module _ (body : List ℕ → List ℕ) where
   with_last_ending (a ∷ b ∷ bs) =
       ap (λ x. line a ++ x) (with_last_ending (b ∷ bs))
       ∙ sym (append_assoc (line a) (flat_map line (own_lines (b ∷ bs))) (ending_text (last_ending (b ∷ bs))))
+
+-- the last line of pieces
+pub last_piece_ending : (pieces : List Piece) (d : Piece) → 0 < length pieces → (get_or pieces (length pieces - 1) d).ending ≡ last_ending (piece_lines pieces)
+last_piece_ending [] d some = absurd (omega arith)
+last_piece_ending (a ∷ []) d some = refl
+last_piece_ending (a ∷ b ∷ others) d some =
+    let at : length (a ∷ b ∷ others) - 1 ≡ suc (length (b ∷ others) - 1) = omega arith in
+    ap (λ i. (get_or (a ∷ b ∷ others) i d).ending) at ∙ last_piece_ending (b ∷ others) d (omega arith)

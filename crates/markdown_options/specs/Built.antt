@@ -2,10 +2,6 @@
 use Rattle.std.specs.Prelude.{Bool, not, ◌||◌}
 use Rattle.markdown_options.specs.declared.configuration.Constructs.{Constructs}
 
--- some of the blocks of CommonMark that can't be read so far are on
-abbrev pub has_blocks : Constructs → Bool
-has_blocks on = on.definition
-
 -- some of the inline constructs of CommonMark are on
 abbrev pub has_texts : Constructs → Bool
 has_texts on =
@@ -28,4 +24,4 @@ has_mdx on =
 
 -- nothing is on that can't be read so far
 abbrev pub is_built : Constructs → Bool
-is_built on = not (has_blocks on || has_texts on || has_extensions on || has_mdx on)
+is_built on = not (has_texts on || has_extensions on || has_mdx on)

@@ -3,7 +3,7 @@ ghost use Rattle.std.specs.Prelude.{◌≡◌, true};
 ghost use Rattle.markdown_options.specs.Defaults.{no_constructs, default_constructs, gfm_constructs, mdx_constructs};
 ghost use Rattle.markdown_options.specs.Defaults.{default_parse_options, gfm_parse_options, mdx_parse_options};
 ghost use Rattle.markdown_options.specs.Defaults.{default_compile_options, gfm_compile_options, default_options, gfm_options};
-ghost use Rattle.markdown_options.specs.Built.{has_blocks, has_texts, has_extensions, has_mdx, is_built};
+ghost use Rattle.markdown_options.specs.Built.{has_texts, has_extensions, has_mdx, is_built};
 
 use crate::line_ending::LineEnding;
 
@@ -157,13 +157,6 @@ impl Constructs {
         }
     }
 
-    /// Whether some of the blocks of CommonMark that can't be read so far are on.
-    fn has_blocks(&self) -> bool
-        ensures { result ≡ has_blocks self.now }
-    {
-        self.definition
-    }
-
     /// Whether some of the inline constructs of CommonMark are on.
     fn has_texts(&self) -> bool
         ensures { result ≡ has_texts self.now }
@@ -269,7 +262,7 @@ impl ParseOptions {
         ensures { result ≡ is_built self.now.constructs }
     {
         let on = &self.constructs;
-        !(on.has_blocks() || on.has_texts() || on.has_extensions() || on.has_mdx())
+        !(on.has_texts() || on.has_extensions() || on.has_mdx())
     }
 
     /// Reads what GitHub has.

@@ -49,6 +49,7 @@ pub fn blocks() -> Options
                 block_quote: true,
                 code_fenced: true,
                 code_indented: true,
+                definition: true,
                 heading_atx: true,
                 heading_setext: true,
                 html_flow: true,

@@ -6,6 +6,8 @@ mod blocks;
 #[cfg(test)]
 mod containers;
 #[cfg(test)]
+mod definitions;
+#[cfg(test)]
 mod devices;
 #[cfg(test)]
 mod headings;

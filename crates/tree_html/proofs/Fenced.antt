@@ -1,5 +1,5 @@
 -- Fenced code, and what it takes from the lines.
-use Rattle.std.proofs.Common.{Option, Some, ◌≡◌, ℕ, ◌+◌, ◌-◌, ◌<◌, ◌≤◌, suc, take, drop, None, List, [], ◌∷◌, ◌++◌, Bool, true, false, ◌==◌, codes, sym, refl, ap, ◌∙◌, length, get_or, arith, append_assoc}
+use Rattle.std.proofs.Common.{Option, Some, ◌≡◌, ℕ, ◌+◌, ◌-◌, ◌<◌, ◌≤◌, take, drop, None, List, [], ◌∷◌, ◌++◌, Bool, true, false, ◌==◌, codes, sym, refl, ap, ◌∙◌, length, get_or, arith, append_assoc}
 use Rattle.std.specs.Prelude.{map, if◌then◌else◌, ◌||◌}
 use Rattle.std.specs.List.{list_all}
 use Rattle.std.proofs.lemmas.List.{take-map, drop-map, take_rest}
@@ -42,14 +42,6 @@ content_laid e out top closed [] some = absurd (omega arith)
 content_laid e out true closed (l ∷ ls) some = whole_laid e out (l ∷ ls)
 content_laid e out false true (l ∷ ls) some = whole_laid e out (l ∷ ls)
 content_laid e out false false (l ∷ ls) some = refl
-
--- the last line of pieces
-pub last_piece_ending : (pieces : List Piece) (d : Piece) → 0 < length pieces → (get_or pieces (length pieces - 1) d).ending ≡ last_ending (piece_lines pieces)
-last_piece_ending [] d some = absurd (omega arith)
-last_piece_ending (a ∷ []) d some = refl
-last_piece_ending (a ∷ b ∷ others) d some =
-    let at : length (a ∷ b ∷ others) - 1 ≡ suc (length (b ∷ others) - 1) = omega arith in
-    ap (λ i. (get_or (a ∷ b ∷ others) i d).ending) at ∙ last_piece_ending (b ∷ others) d (omega arith)
 
 -- ---- what a row takes
 

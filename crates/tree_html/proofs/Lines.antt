@@ -1,5 +1,5 @@
 -- The first line of a block.
-use Rattle.std.proofs.Common.{◌≡◌, ℕ, ◌≤◌, arith, length, take, get_or, List, [], ◌∷◌, refl}
+use Rattle.std.proofs.Common.{◌≡◌, ◌≤◌, arith, length, take, get_or, List, [], ◌∷◌, refl}
 use Rattle.markdown_definition.specs.declared.row.Piece.{Piece}
 use Rattle.markdown_definition.specs.Rows.{first_codes, piece_line, piece_lines}
 

@@ -3,7 +3,7 @@ use Rattle.std.proofs.Common.{◌≡◌, ℕ, ◌+◌, ◌-◌, ◌<◌, zero, s
 use Rattle.std.specs.Prelude.{map, replicate}
 use Rattle.std.specs.List.{prefix_len, suffix_len, list_all}
 use Rattle.std.proofs.lemmas.Bool.{ne_eqb, cond-true}
-use Rattle.markdown_definition.specs.Columns.{code_byte, tab_column, is_tab_column, is_byte, bytes_of, is_white, trimmed}
+use Rattle.markdown_definition.specs.Columns.{code_byte, tab_column, is_byte, bytes_of, is_white, trimmed}
 use Rattle.markdown_definition.specs.Encode.{encode}
 use Rattle.markdown_definition.proofs.CodeBytes.{code_bytes}
 

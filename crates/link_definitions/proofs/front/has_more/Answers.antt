@@ -10,7 +10,7 @@ use Rattle.markdown_definition.specs.Tree.{is_some_line}
 use Rattle.markdown_definition.specs.Rows.{piece_line, piece_lines}
 use Rattle.link_definitions.specs.Contents.{content_text}
 use Rattle.link_definitions.specs.Ends.{EndsAt}
-use Rattle.link_definitions.proofs.Cuts.{cut_all, cut_none, left_after, some_left}
+use Rattle.link_definitions.proofs.Cuts.{cut_none, left_after, some_left}
 use Rattle.link_definitions.proofs.front.has_more.Goals as goal
 
 lines_after : (n : ℕ) (pieces : List Piece) → piece_lines (take (length pieces - n) (drop n pieces)) ≡ drop n (piece_lines pieces)

@@ -1,4 +1,4 @@
-use Rattle.std.proofs.Common.{◌≡◌, ◌≤◌, ◌<◌, ◌+◌, ◌-◌, ℕ, suc, length, take, get_or, Option, None, List, [], sym, ap, arith, inl, inr}
+use Rattle.std.proofs.Common.{◌≡◌, suc, take, None, [], ap, arith, inl, inr}
 use Rattle.std.proofs.lemmas.Bool.{cases_lt}
 use Rattle.markdown_definition.specs.Rows.{piece_lines}
 use Rattle.link_definitions.specs.Contents.{total}

@@ -11,11 +11,7 @@ use Rattle.markdown_definition.specs.Rows.{Shown, piece_lines, shown}
 use Rattle.tree_html.specs.Printable.{ArePrintable}
 use Rattle.tree_html.proofs.RowsOf.{printable_rows_of}
 use Rattle.tree_html.proofs.Printable.{blocks_printable}
-use Rattle.markdown.proofs.Built.{no_definitions}
 use Rattle.markdown.proofs.to_html.print.Goals as goal
-
-pub block_rows-requires-clause-definitions : goal.block_rows-requires-clause-definitions
-block_rows-requires-clause-definitions g c = no_definitions c.args.options.now.parse.constructs c.requires.built
 
 pub print_rows-requires-clause-printable : goal.print_rows-requires-clause-printable
 print_rows-requires-clause-printable g c =

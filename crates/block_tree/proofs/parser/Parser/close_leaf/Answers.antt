@@ -2,7 +2,8 @@ use Rattle.std.proofs.Common.{◌≡◌, ℕ, [], List, Option, sym, ap, ◌∙�
 use Rattle.std.proofs.lemmas.Result.{on_ok_weaker}
 use Rattle.markdown_options.specs.declared.line_ending.LineEnding.{LineEnding}
 use Rattle.markdown_definition.specs.CodeFenced.{Fence}
-use Rattle.markdown_definition.specs.Tree.{BlockLine, Blocks, join, OpenLeaf, Text, Indented, Fenced, OpenHtml, close_leaf, last_ending, last_ending_or}
+use Rattle.markdown_definition.specs.Tree.{BlockLine, Blocks, join, OpenLeaf, Text, Indented, Fenced, OpenHtml, close_leaf, leaf_text, last_ending, last_ending_or}
+use Rattle.markdown_definition.specs.ParagraphLines.{AreLines}
 use Rattle.block_lines.specs.Fences.{fence_view}
 use Rattle.html_lines.specs.Views.{number_of}
 use Rattle.block_tree.specs.Spine.{Level, spine}
@@ -13,18 +14,18 @@ use Rattle.block_tree.proofs.parser.Parser.close_leaf.Goals as goal
 
 pub returns-in-Text-clause-read : goal.returns-in-Text-clause-read
 returns-in-Text-clause-read g c =
-    on_ok_weaker c.close_text.result (λ reads. λ around kids leaf h. text_case reads around kids leaf (sym (ap leaf_state c.in-Text.is) ∙ h.same_state) h) c.close_text.ensures.read
+    on_ok_weaker c.close_text.result (λ reads. λ around kids leaf clean h. text_case reads around kids leaf clean (sym (ap leaf_state c.in-Text.is) ∙ h.same_state) h) c.close_text.ensures.read
   where
-    text_case : ((around : List Level) (kids : Blocks) (ls : List BlockLine) → c.in-Text.ending ≡ last_ending ls → HasRead c.args.self.now (spine around kids (Text ls)) → HasRead c.close_text.new.self (spine around (join kids (close_leaf c.args.on.now (Text ls))) (Text [])))
-        → (around : List Level) (kids : Blocks) (leaf : OpenLeaf) → InText c.in-Text.ending ≡ state_of leaf → HasRead c.args.self.now (spine around kids leaf) → HasRead c.close_text.new.self (spine around (join kids (close_leaf c.args.on.now leaf)) (Text []))
-    text_case reads around kids (Text ls) is h = reads around kids ls (cc) h
-    text_case reads around kids (Indented ls pending) is h = let wrong = is in cc
-    text_case reads around kids (Fenced fence opening ls) is h = let wrong = is in cc
-    text_case reads around kids (OpenHtml kind ls) is h = let wrong = is in cc
+    text_case : ((around : List Level) (kids : Blocks) (ls : List BlockLine) → AreLines ls → HasRead c.args.self.now (spine around kids (Text ls)) → HasRead c.close_text.new.self (spine around (join kids (close_leaf c.args.on.now (Text ls))) (Text [])))
+        → (around : List Level) (kids : Blocks) (leaf : OpenLeaf) → AreLines (leaf_text leaf) → InText ≡ state_of leaf → HasRead c.args.self.now (spine around kids leaf) → HasRead c.close_text.new.self (spine around (join kids (close_leaf c.args.on.now leaf)) (Text []))
+    text_case reads around kids (Text ls) clean is h = reads around kids ls clean h
+    text_case reads around kids (Indented ls pending) clean is h = let wrong = is in cc
+    text_case reads around kids (Fenced fence opening ls) clean is h = let wrong = is in cc
+    text_case reads around kids (OpenHtml kind ls) clean is h = let wrong = is in cc
 
 pub returns-in-Indented-clause-read : goal.returns-in-Indented-clause-read
 returns-in-Indented-clause-read g c =
-    on_ok_weaker c.close_indented.result (λ reads. λ around kids leaf h. indented_case (λ around kids. reads around kids c.args.on.now) around kids leaf (sym (ap leaf_state c.in-Indented.is) ∙ h.same_state) h) c.close_indented.ensures.read
+    on_ok_weaker c.close_indented.result (λ reads. λ around kids leaf clean h. indented_case (λ around kids. reads around kids c.args.on.now) around kids leaf (sym (ap leaf_state c.in-Indented.is) ∙ h.same_state) h) c.close_indented.ensures.read
   where
     indented_case : ((around : List Level) (kids : Blocks) (ls pending : List BlockLine) → c.in-Indented.count ≡ length ls → c.in-Indented.ending ≡ last_ending ls → HasRead c.args.self.now (spine around kids (Indented ls pending)) → HasRead c.close_indented.new.self (spine around (join kids (close_leaf c.args.on.now (Indented ls pending))) (Text [])))
         → (around : List Level) (kids : Blocks) (leaf : OpenLeaf) → InIndented c.in-Indented.count c.in-Indented.ending ≡ state_of leaf → HasRead c.args.self.now (spine around kids leaf) → HasRead c.close_indented.new.self (spine around (join kids (close_leaf c.args.on.now leaf)) (Text []))
@@ -35,7 +36,7 @@ returns-in-Indented-clause-read g c =
 
 pub returns-in-Fenced-clause-read : goal.returns-in-Fenced-clause-read
 returns-in-Fenced-clause-read g c =
-    on_ok_weaker c.close_fenced.result (λ reads. λ around kids leaf h. fenced_case (λ around kids. reads around kids c.args.on.now) around kids leaf (sym (ap leaf_state c.in-Fenced.is) ∙ h.same_state) h) c.close_fenced.ensures.read
+    on_ok_weaker c.close_fenced.result (λ reads. λ around kids leaf clean h. fenced_case (λ around kids. reads around kids c.args.on.now) around kids leaf (sym (ap leaf_state c.in-Fenced.is) ∙ h.same_state) h) c.close_fenced.ensures.read
   where
     fenced_case : ((around : List Level) (kids : Blocks) (fence : Fence) (opening : Option LineEnding) (ls : List BlockLine) → c.in-Fenced.ending ≡ last_ending_or opening ls → HasRead c.args.self.now (spine around kids (Fenced fence opening ls)) → HasRead c.close_fenced.new.self (spine around (join kids (close_leaf c.args.on.now (Fenced fence opening ls))) (Text [])))
         → (around : List Level) (kids : Blocks) (leaf : OpenLeaf) → InFenced (fence_view c.in-Fenced.fence) c.in-Fenced.ending ≡ state_of leaf → HasRead c.args.self.now (spine around kids leaf) → HasRead c.close_fenced.new.self (spine around (join kids (close_leaf c.args.on.now leaf)) (Text []))
@@ -46,7 +47,7 @@ returns-in-Fenced-clause-read g c =
 
 pub returns-in-Html-clause-read : goal.returns-in-Html-clause-read
 returns-in-Html-clause-read g c =
-    on_ok_weaker c.close_html.result (λ reads. λ around kids leaf h. html_case (λ around kids. reads around kids c.args.on.now) around kids leaf (sym (ap leaf_state c.in-Html.is) ∙ h.same_state) h) c.close_html.ensures.read
+    on_ok_weaker c.close_html.result (λ reads. λ around kids leaf clean h. html_case (λ around kids. reads around kids c.args.on.now) around kids leaf (sym (ap leaf_state c.in-Html.is) ∙ h.same_state) h) c.close_html.ensures.read
   where
     html_case : ((around : List Level) (kids : Blocks) (kind : ℕ) (ls : List BlockLine) → c.in-Html.ending ≡ last_ending ls → HasRead c.args.self.now (spine around kids (OpenHtml kind ls)) → HasRead c.close_html.new.self (spine around (join kids (close_leaf c.args.on.now (OpenHtml kind ls))) (Text [])))
         → (around : List Level) (kids : Blocks) (leaf : OpenLeaf) → InHtml (number_of c.in-Html.kind) c.in-Html.ending ≡ state_of leaf → HasRead c.args.self.now (spine around kids leaf) → HasRead c.close_html.new.self (spine around (join kids (close_leaf c.args.on.now leaf)) (Text []))

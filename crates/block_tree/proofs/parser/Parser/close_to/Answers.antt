@@ -1,7 +1,9 @@
-use Rattle.std.proofs.Common.{◌≡◌, ◌-◌, ap, ◌∙◌, subst, refl, length, arith}
+use Rattle.std.proofs.Common.{◌≡◌, ◌-◌, sym, ap, ◌∙◌, subst, refl, length, arith}
+use Rattle.markdown_definition.specs.ParagraphLines.{AreLines}
 use Rattle.block_tree.specs.Spine.{spine_at}
 use Rattle.block_tree.specs.View.{HasRead}
 use Rattle.block_tree.proofs.Closing as closing
+use Rattle.block_tree.proofs.Steps.{text_at}
 use Rattle.std.proofs.Common.{suc, vec_len}
 use Rattle.block_tree.proofs.parser.Parser.close_to.Goals as goal
 
@@ -18,11 +20,11 @@ loop-self-preserved g c =
     }
 
 pub returns-clause-read : goal.returns-clause-read
-returns-clause-read g c = λ around kids away deep h.
+returns-clause-read g c = λ around kids away deep clean h.
     let p = c.args.self.now in
     let k = c.loop-self.invariant in
     let s = spine_at around kids away in
-    let closed_leaf = c.in_ok-close_leaf.ensures.read s.around s.kids s.leaf h in
+    let closed_leaf = c.in_ok-close_leaf.ensures.read s.around s.kids s.leaf (subst AreLines (sym (text_at around kids away)) clean) h in
     let n : vec_len c.close_leaf.new.self.open - vec_len c.loop-self.self.open ≡ closing.opening_depth away =
     omega (arith, c.loop-self-test.false, c.len.ensures, k.more, deep, ap vec_len c.in_ok-close_leaf.ensures.containers, p.open.ok.0, ap length h.opened, closing.length-containers s.around, closing.length-around around kids away) in
     subst (HasRead c.loop-self.self) (closing.closed-spine c.args.on.now around kids away)

@@ -24,7 +24,7 @@ returns-then-html_stops g c =
     let deep : c.len-depth.result ≡ length around = omega (arith, c.len-depth.ensures, p.open.ok.0, ap length h.opened, closing.length-containers around) in
     subst (λ (t : Tree). HasRead c.start_line.new.self (grown around kids t))
     (ap (λ all. new (length r) on all leaf e r) last ∙ sym (steps.html_stops on e r kind ls (sym c.html_stops.ensures ∙ c.if-html_stops.true)))
-    (grows around kids leaf deep h))
+    (grows around kids leaf deep tt h))
     c.start_line.ensures
 
 pub returns : goal.returns

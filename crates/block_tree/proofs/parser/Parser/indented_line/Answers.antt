@@ -67,5 +67,5 @@ returns g c =
     let deep : c.len-depth.result ≡ length around = omega (arith, c.len-depth.ensures, p.open.ok.0, ap length h.opened, closing.length-containers around) in
     subst (λ (t : Tree). HasRead c.start_line.new.self (grown around kids t))
     (ap (λ all. new (length r) on all leaf e r) last ∙ sym (steps.indented_other on e r ls pending (sym c.is_blank.ensures ∙ c.if-is_blank.false) (sym c.starts_code_indented.ensures ∙ c.if-starts_code_indented.false)))
-    (grows around kids leaf deep h))
+    (grows around kids leaf deep tt h))
     c.start_line.ensures

@@ -1,21 +1,23 @@
 use Rattle.std.proofs.Common.{◌≡◌, [], false, ◌==◌, sym, ap, ◌∙◌, subst, length, arith}
 use Rattle.std.proofs.lemmas.Result.{on_ok_weaker}
 use Rattle.markdown_definition.specs.Columns.{Rest}
-use Rattle.markdown_definition.specs.Tree.{new, grow}
+use Rattle.markdown_definition.specs.ParagraphLines.{AreLines}
+use Rattle.markdown_definition.specs.Tree.{new, grow, leaf_text}
 use Rattle.block_lines.specs.View.{rest_of}
 use Rattle.block_lines.specs.Fences.{fence_view}
 use Rattle.html_lines.specs.Views.{number_of}
-use Rattle.block_tree.specs.Spine.{grown}
+use Rattle.block_tree.specs.Spine.{Spine, grown}
 use Rattle.block_tree.specs.Leaves.{leaf_state}
 use Rattle.block_tree.specs.View.{HasRead}
 use Rattle.block_tree.proofs.Descending as descending
+use Rattle.block_tree.proofs.Steps.{text_at}
 use Rattle.std.proofs.Common.{vec_len}
 use Rattle.std.proofs.lemmas.Bool.{eq-eqb, ne_eqb}
 use Rattle.block_tree.proofs.parser.Parser.line.Goals as goal
 
 pub returns-then-depth-len : goal.returns-then-depth-len
 returns-then-depth-len g c =
-    on_ok_weaker c.start_line.result (λ grows. λ t h.
+    on_ok_weaker c.start_line.result (λ grows. λ t clean h.
     let p = c.args.self.now in
     let on = c.args.on.now in
     let e = c.args.line.ending in
@@ -24,17 +26,18 @@ returns-then-depth-len g c =
     let r = rest_of c.descend-depth.result.1 in
     let whole_line = ap (λ (x : Rest). grown [] t.done (grow on e t.now x)) c.new.ensures in
     let here = subst (HasRead p) (sym d.same) h in
+    let clean_here = subst AreLines (ap (λ (s : Spine). leaf_text s.leaf) (sym d.same) ∙ text_at d.around d.kids d.now) (subst AreLines (sym (text_at [] t.done t.now)) clean) in
     let outer : (depth == vec_len p.open) ≡ false = ne_eqb depth (vec_len p.open) (λ same. omega (arith, same, c.if-depth-len.true, c.len.ensures)) in
     subst (HasRead c.start_line.new.self)
     (ap (λ all. grown d.around d.kids (new (length r) on all d.now e r)) outer
     ∙ ap (grown d.around d.kids) (sym (d.stuck (omega (arith, c.if-depth-len.true, c.len.ensures))))
     ∙ sym d.grows ∙ whole_line)
-    (grows d.around d.kids d.now d.deep here))
+    (grows d.around d.kids d.now d.deep clean_here here))
     c.start_line.ensures
 
 pub returns-in-Text : goal.returns-in-Text
 returns-in-Text g c =
-    on_ok_weaker c.start_line-in-Text.result (λ grows. λ t h.
+    on_ok_weaker c.start_line-in-Text.result (λ grows. λ t clean h.
     let p = c.args.self.now in
     let on = c.args.on.now in
     let e = c.args.line.ending in
@@ -43,16 +46,17 @@ returns-in-Text g c =
     let r = rest_of c.descend-depth.result.1 in
     let whole_line = ap (λ (x : Rest). grown [] t.done (grow on e t.now x)) c.new.ensures in
     let here = subst (HasRead p) (sym d.same) h in
+    let clean_here = subst AreLines (ap (λ (s : Spine). leaf_text s.leaf) (sym d.same) ∙ text_at d.around d.kids d.now) (subst AreLines (sym (text_at [] t.done t.now)) clean) in
     let none = descending.no_deeper p.open.items d.around d.kids d.now here.opened (omega (arith, d.deep, c.if-depth-len.false, c.len.ensures, c.descend-depth.ensures.within, p.open.ok.0)) in
     subst (HasRead c.start_line-in-Text.new.self) (sym d.grows ∙ whole_line)
-    (descending.text_grows (HasRead p) (HasRead c.start_line-in-Text.new.self) on e r c.in-Text.ending d.around d.kids d.now none (sym (ap leaf_state c.in-Text.is) ∙ here.same_state)
+    (descending.text_grows (HasRead p) (HasRead c.start_line-in-Text.new.self) on e r d.around d.kids d.now none (sym (ap leaf_state c.in-Text.is) ∙ here.same_state)
     (subst (λ all. HasRead c.start_line-in-Text.new.self (grown d.around d.kids (new (length r) on all d.now e r))) (eq-eqb depth (vec_len p.open) (omega (arith, c.if-depth-len.false, c.len.ensures, c.descend-depth.ensures.within)))
-    (grows d.around d.kids d.now d.deep here))))
+    (grows d.around d.kids d.now d.deep clean_here here))))
     c.start_line-in-Text.ensures
 
 pub returns-in-Indented : goal.returns-in-Indented
 returns-in-Indented g c =
-    on_ok_weaker c.indented_line.result (λ grows. λ t h.
+    on_ok_weaker c.indented_line.result (λ grows. λ t clean h.
     let p = c.args.self.now in
     let on = c.args.on.now in
     let e = c.args.line.ending in
@@ -68,7 +72,7 @@ returns-in-Indented g c =
 
 pub returns-in-Fenced : goal.returns-in-Fenced
 returns-in-Fenced g c =
-    on_ok_weaker c.fenced_line.result (λ grows. λ t h.
+    on_ok_weaker c.fenced_line.result (λ grows. λ t clean h.
     let p = c.args.self.now in
     let on = c.args.on.now in
     let e = c.args.line.ending in
@@ -84,7 +88,7 @@ returns-in-Fenced g c =
 
 pub returns-in-Html : goal.returns-in-Html
 returns-in-Html g c =
-    on_ok_weaker c.html_line.result (λ grows. λ t h.
+    on_ok_weaker c.html_line.result (λ grows. λ t clean h.
     let p = c.args.self.now in
     let on = c.args.on.now in
     let e = c.args.line.ending in

@@ -11,7 +11,8 @@ use Rattle.markdown_definition.specs.Tree.{own_lines, last_ending}
 use Rattle.markdown_definition.specs.Pieces.{Fresh, print}
 use Rattle.markdown_definition.specs.Html.{code_of}
 use Rattle.markdown_definition.specs.Rows.{piece_line, piece_lines}
-use Rattle.tree_html.proofs.Fenced.{content_ending, content_laid, last_piece_ending}
+use Rattle.markdown_definition.proofs.OwnLines.{last_piece_ending}
+use Rattle.tree_html.proofs.Fenced.{content_ending, content_laid}
 use Rattle.tree_html.proofs.page.Page.fenced_content.Goals as goal
 use Rattle.tree_html.proofs.page.Page.fenced_content.Goals.{then-top, else-top, then-whole, else-whole}
 

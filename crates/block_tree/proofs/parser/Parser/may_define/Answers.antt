@@ -1,0 +1,14 @@
+use Rattle.std.proofs.Common.{List, ap, ◌∙◌, subst}
+use Rattle.markdown_definition.specs.Content.{content_of}
+use Rattle.markdown_definition.specs.LinkDefinition.{definition_at}
+use Rattle.markdown_definition.specs.ParagraphLines.{AreLines}
+use Rattle.markdown_definition.specs.Tree.{BlockLine, Text, own_lines}
+use Rattle.block_tree.proofs.Definitions.{cut_not}
+use Rattle.block_tree.proofs.Leaves as leaves
+use Rattle.block_tree.proofs.parser.Parser.may_define.Goals as goal
+
+pub returns-then-on-clause-uncut : goal.returns-then-on-clause-uncut
+returns-then-on-clause-uncut g c = λ none around kids ls clean h.
+    let p = c.args.self.now in
+    let lines = leaves.lines_here p around kids (Text ls) h c.deref.result.now c.deref.ensures.value in
+    cut_not c.args.on.now ls (ap (λ (x : List BlockLine). definition_at (content_of (own_lines x))) lines ∙ c.may_begin.ensures none (subst AreLines lines clean))
