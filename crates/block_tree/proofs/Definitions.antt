@@ -1,5 +1,5 @@
 -- Definitions that are cut from the front of the open paragraph.
-use Rattle.std.proofs.Common.{◌≡◌, ◌∷◌, [], ◌<◌, ℕ, zero, suc, if◌then◌else◌, Bool, true, false, List, Option, None, refl, sym, ap, ◌∙◌, subst, take, drop, length, arith}
+use Rattle.std.proofs.Common.{◌≡◌, ◌∷◌, [], ◌<◌, ◌≤◌, ℕ, zero, suc, if◌then◌else◌, Bool, true, false, List, Option, None, Some, refl, sym, ap, ◌∙◌, subst, take, drop, length, arith}
 use Rattle.std.proofs.lemmas.Bool.{cond-true, cond-false}
 use Rattle.std.proofs.lemmas.List.{length-map}
 use Rattle.markdown_options.specs.declared.line_ending.LineEnding.{LineEnding}
@@ -7,15 +7,18 @@ use Rattle.markdown_options.specs.declared.configuration.Constructs.{Constructs}
 use Rattle.markdown_definition.specs.declared.row.Row.TheVariants as row
 use Rattle.markdown_definition.specs.declared.row.Piece.{Piece}
 use Rattle.markdown_definition.specs.Tree.{BlockLine, Blocks, Nil, join, Definition, Text, last_ending, last_ending_or, is_some_line, own_lines}
-use Rattle.markdown_definition.specs.Content.{content_of}
-use Rattle.markdown_definition.specs.LinkDefinition.{definition_at}
-use Rattle.markdown_definition.specs.Definitions.{Cut, cut_into, cut_most, cut, defined}
+use Rattle.std.specs.Option.{option_map}
+use Rattle.markdown_definition.specs.Columns.{code_byte}
+use Rattle.markdown_definition.specs.Content.{content_of, content_text}
+use Rattle.markdown_definition.specs.LinkDefinition.{definition, definition_at}
+use Rattle.markdown_definition.specs.Definitions.{Cut, cut_into, cut_most, cut, defined, lines_before}
 use Rattle.markdown_definition.specs.ParagraphLines.{AreLines}
-use Rattle.markdown_definition.specs.Rows.{Single, row_shown, block_rows, piece_line, piece_lines}
-use Rattle.markdown_definition.proofs.DefinitionLines.{definition_row}
+use Rattle.markdown_definition.specs.Rows.{Single, definition_on, definition_shown, row_shown, block_rows, piece_line, piece_lines}
+use Rattle.markdown_definition.proofs.DefinitionLines.{definition_cuts}
+use Rattle.markdown_definition.proofs.LinkRenaming.{renamed_definition, definition_renamed, code_byte-renames}
 use Rattle.link_definitions.specs.declared.front.DefinitionEnd.{DefinitionEnd}
-use Rattle.link_definitions.specs.Contents.{content_text}
 use Rattle.link_definitions.specs.Ends.{EndsAt}
+use Rattle.link_definitions.proofs.Contents.{content_is}
 use Rattle.link_definitions.proofs.Cuts.{cut_all, cut_none, cut_one}
 use Rattle.block_tree.specs.declared.parser.Parser.{Parser}
 use Rattle.block_tree.specs.Spine.{Level, spine}
@@ -83,11 +86,26 @@ pub ends_as : (content content2 : List ℕ) (ls ls2 : List BlockLine) (end : Def
 ends_as content content2 ls ls2 end c l h =
     subst (λ (x : List ℕ). EndsAt x ls2 end) c (subst (λ (x : List BlockLine). EndsAt content x end) (sym l) h)
 
+-- the first of a paragraph's lines
+first_lines : (n : ℕ) (ls : List BlockLine) → AreLines ls → 1 ≤ n → AreLines (take n ls)
+first_lines zero ls h some = absurd (omega (arith, some))
+first_lines (suc n) [] h some = tt
+first_lines (suc zero) (line ∷ []) h some = h
+first_lines (suc (suc n)) (line ∷ []) h some = h
+first_lines (suc zero) (line ∷ next ∷ others) h some = (h.0, h.1)
+first_lines (suc (suc n)) (line ∷ next ∷ others) h some = (h.0, h.1, h.2, first_lines (suc n) (next ∷ others) h.3 (omega arith))
+
 -- the row of a definition
 pub row_of_definition : (content : List ℕ) (ls : List BlockLine) (end : DefinitionEnd) → AreLines ls → (h : EndsAt content ls end)
     → block_rows (Definition h.read.label h.read.destination h.read.title) ≡ row_shown (row.Definition end.lines) ls ∷ []
 row_of_definition content ls end clean h =
-    ap (λ b. Single b ∷ []) (sym (definition_row ls h.read clean h.found))
+    let count = lines_before h.read.rest ls in
+    let cuts = definition_cuts ls h.read clean h.found in
+    let own = take count ls in
+    let own_clean = first_lines count ls clean cuts.some in
+    let read : definition_on own ≡ Some (renamed_definition code_byte (definition h.read.label h.read.destination h.read.title [])) =
+    ap definition_at (content_is own own_clean) ∙ definition_renamed code_byte code_byte-renames (content_of (own_lines own)) ∙ ap (option_map (renamed_definition code_byte)) cuts.again in
+    ap (λ o. Single (definition_shown o) ∷ []) (sym read)
     ∙ ap (λ n. row_shown (row.Definition n) ls ∷ []) (sym h.count)
 
 pub one_more : {A : Type 0} (p q : Parser A) (content : List ℕ) (around : List Level) (kids : Blocks) (ls : List BlockLine) (k : Cutting p content around kids ls) (end : DefinitionEnd)

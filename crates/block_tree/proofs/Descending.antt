@@ -11,10 +11,9 @@ use Rattle.markdown_definition.specs.declared.row.Row.TheVariants as row
 use Rattle.markdown_definition.specs.Columns.{Rest}
 use Rattle.markdown_definition.specs.Containers.{continues}
 use Rattle.markdown_definition.specs.CodeFenced.{Fence}
-use Rattle.markdown_definition.specs.Content.{content_of}
-use Rattle.markdown_definition.specs.LinkDefinition.{Definition as LinkDefinition, definition_at}
-use Rattle.markdown_definition.specs.Tree.{BlockLine, Block, Paragraph, Heading, Break, IndentedCode, FencedCode, Html, Definition, Holds, Items, Ending, Blank, Blocks, Nil, Cons, join, all_endings, front, trailing, Text, Indented, Fenced, OpenHtml, Opening, Leaf, Inside, Tree, grow, goes_on, new, began_blank, is_nothing, is_one_blank, last_ending_or, own_lines}
-use Rattle.markdown_definition.specs.Rows.{definition_shown, BlockRow, Single, rows_of}
+use Rattle.markdown_definition.specs.LinkDefinition.{Definition as LinkDefinition}
+use Rattle.markdown_definition.specs.Tree.{BlockLine, Block, Paragraph, Heading, Break, IndentedCode, FencedCode, Html, Definition, Holds, Items, Ending, Blank, Blocks, Nil, Cons, join, all_endings, front, trailing, Text, Indented, Fenced, OpenHtml, Opening, Leaf, Inside, Tree, grow, goes_on, new, began_blank, is_nothing, is_one_blank, last_ending_or}
+use Rattle.markdown_definition.specs.Rows.{definition_on, definition_shown, BlockRow, Single, rows_of}
 use Rattle.block_tree.specs.Spine.{Level, level, Spine, spine, spine_at, spine_of, grown, containers_of}
 use Rattle.block_tree.specs.Waits.{is_one_blank_row}
 use Rattle.block_tree.specs.Shows.{InText, InIndented, InFenced, InHtml, state_of, lone, is_nil, Written}
@@ -160,7 +159,7 @@ one-row (row.UnclosedCode n ∷ []) = refl
 one-row (row.WholeParagraph n ∷ []) = refl
 one-row (row.SetextHeading rank n ∷ []) = refl
 one-row (row.Html n ∷ []) = refl
-one-row (row.Definition n ∷ []) = sym (not-blank (definition_at (content_of (own_lines (take n [])))) [])
+one-row (row.Definition n ∷ []) = sym (not-blank (definition_on (take n [])) [])
 one-row (row.EnterQuote ∷ []) = refl
 one-row (row.EnterItem marker number ∷ []) = refl
 one-row (row.Exit ∷ []) = refl
@@ -178,7 +177,7 @@ one-row (a ∷ b ∷ rows) = two a
     two (row.WholeParagraph n) = refl
     two (row.SetextHeading rank n) = refl
     two (row.Html n) = refl
-    two (row.Definition n) = sym (not-blank (definition_at (content_of (own_lines (take n [])))) (lone b ∷ map lone rows))
+    two (row.Definition n) = sym (not-blank (definition_on (take n [])) (lone b ∷ map lone rows))
     two row.EnterQuote = refl
     two (row.EnterItem marker number) = refl
     two row.Exit = refl

@@ -22,7 +22,7 @@ ending_rows Break h = refl
 ending_rows (IndentedCode ls) h = refl
 ending_rows (FencedCode info closed ls) h = refl
 ending_rows (Html ls) h = refl
-ending_rows (Definition label destination title) h = refl
+ending_rows (Definition label destination title) h = let wrong : false ≡ true = h in cc
 ending_rows (Holds c kids) h = let wrong : false ≡ true = h in cc
 ending_rows (Items items) h = let wrong : false ≡ true = h in cc
 ending_rows (Ending ending) h = refl

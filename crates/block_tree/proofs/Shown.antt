@@ -8,11 +8,9 @@ use Rattle.markdown_definition.specs.declared.row.Row.{Row}
 use Rattle.markdown_definition.specs.declared.row.Row.TheVariants as row
 use Rattle.markdown_definition.specs.declared.row.Piece.{Piece}
 use Rattle.markdown_definition.specs.Columns.{bytes_of}
-use Rattle.markdown_definition.specs.Content.{content_of}
-use Rattle.markdown_definition.specs.LinkDefinition.{definition_at}
 use Rattle.markdown_definition.specs.Tree.{BlockLine, Paragraph, Heading, IndentedCode, FencedCode, Html, own_lines}
 use Rattle.block_tree.specs.Shows.{lone}
-use Rattle.markdown_definition.specs.Rows.{whole_lines, definition_shown, BlockRow, Single, Shown, shown, shown_as, show_row, row_shown, lines_taken, all_taken, piece_line, piece_lines}
+use Rattle.markdown_definition.specs.Rows.{whole_lines, definition_on, definition_shown, BlockRow, Single, Shown, shown, shown_as, show_row, row_shown, lines_taken, all_taken, piece_line, piece_lines}
 
 -- ---- more lines beside the rows
 
@@ -49,8 +47,8 @@ row_longer (row.Html n) out ls more le =
     ap (λ front. shown_as (out ++ Single (Html (own_lines front)) ∷ []) (drop n (ls ++ more))) (take-append-le n ls more le)
     ∙ ap (shown_as (out ++ Single (Html (own_lines (take n ls))) ∷ [])) (drop-append-le n ls more le)
 row_longer (row.Definition n) out ls more le =
-    ap (λ front. shown_as (out ++ Single (definition_shown (definition_at (content_of (own_lines front)))) ∷ []) (drop n (ls ++ more))) (take-append-le n ls more le)
-    ∙ ap (shown_as (out ++ Single (definition_shown (definition_at (content_of (own_lines (take n ls))))) ∷ [])) (drop-append-le n ls more le)
+    ap (λ front. shown_as (out ++ Single (definition_shown (definition_on front)) ∷ []) (drop n (ls ++ more))) (take-append-le n ls more le)
+    ∙ ap (shown_as (out ++ Single (definition_shown (definition_on (take n ls))) ∷ [])) (drop-append-le n ls more le)
 row_longer row.EnterQuote out ls more le = refl
 row_longer (row.EnterItem marker number) out ls more le = refl
 row_longer row.Exit out ls more le = refl
@@ -97,8 +95,8 @@ none_taken (row.WholeParagraph n) left h = absurd (omega (arith, h))
 none_taken (row.SetextHeading rank n) left h = ap (λ (k : ℕ). Single (Heading rank (own_lines (take k left)))) h ∙ sym (ap (λ (k : ℕ). Single (Heading rank (own_lines (take k [])))) h)
 none_taken (row.Html n) left h = ap (λ (k : ℕ). Single (Html (own_lines (take k left)))) h ∙ sym (ap (λ (k : ℕ). Single (Html (own_lines (take k [])))) h)
 none_taken (row.Definition n) left h =
-    ap (λ (k : ℕ). Single (definition_shown (definition_at (content_of (own_lines (take k left)))))) h
-    ∙ sym (ap (λ (k : ℕ). Single (definition_shown (definition_at (content_of (own_lines (take k [])))))) h)
+    ap (λ (k : ℕ). Single (definition_shown (definition_on (take k left)))) h
+    ∙ sym (ap (λ (k : ℕ). Single (definition_shown (definition_on (take k [])))) h)
 none_taken row.Break left h = refl
 none_taken (row.IndentedCode n) left h = ap (λ (k : ℕ). Single (IndentedCode (own_lines (take k left)))) h ∙ sym (ap (λ (k : ℕ). Single (IndentedCode (own_lines (take k [])))) h)
 none_taken (row.FencedCode n) left h = absurd (omega (arith, h))

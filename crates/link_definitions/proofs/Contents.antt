@@ -9,10 +9,9 @@ use Rattle.markdown_options.specs.declared.line_ending.LineEnding.TheVariants.{C
 use Rattle.markdown_definition.specs.Lines.{ends_line}
 use Rattle.markdown_definition.specs.Columns.{code_byte}
 use Rattle.markdown_definition.specs.Blocks.{BlockLine, block_line, own_lines}
-use Rattle.markdown_definition.specs.Content.{is_eol, content_codes, ending_code, content_of}
+use Rattle.markdown_definition.specs.Content.{is_eol, content_codes, ending_code, content_of, line_text, content_text}
 use Rattle.markdown_definition.specs.ParagraphLines.{HaveNoEnding, AreLines}
 use Rattle.markdown_definition.proofs.ContentBytes.{IsInLine, AreFilled, block_line_bytes, content_codes_of}
-use Rattle.link_definitions.specs.Contents.{line_text, content_text}
 
 abbrev spaced : BlockLine → BlockLine
 spaced line = block_line (map code_byte line.codes) line.ending

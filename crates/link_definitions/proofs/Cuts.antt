@@ -4,14 +4,13 @@ use Rattle.std.proofs.lemmas.Bool.{lt-ltb, le-ltb}
 use Rattle.std.proofs.lemmas.Option.{none-some}
 use Rattle.std.proofs.lemmas.List.{length-drop, drop-drop}
 use Rattle.markdown_definition.specs.Blocks.{BlockLine, Nil, join, own_lines}
-use Rattle.markdown_definition.specs.Content.{content_of}
+use Rattle.markdown_definition.specs.Content.{content_of, content_text}
 use Rattle.markdown_definition.specs.Tree.{is_some_line}
 use Rattle.markdown_definition.specs.Definitions.{Cut, cut_into, cut_after, cut_most, defined}
 use Rattle.markdown_definition.specs.LinkDefinition.{definition_at}
 use Rattle.markdown_definition.specs.ParagraphLines.{AreLines}
 use Rattle.markdown_definition.proofs.DefinitionLines.{cut_enough}
 use Rattle.link_definitions.specs.declared.front.DefinitionEnd.{DefinitionEnd}
-use Rattle.link_definitions.specs.Contents.{content_text}
 use Rattle.link_definitions.specs.Ends.{EndsAt}
 
 -- all definitions that these lines can have

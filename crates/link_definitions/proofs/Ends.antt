@@ -6,14 +6,14 @@ use Rattle.std.proofs.lemmas.Option.{none-some}
 use Rattle.std.proofs.lemmas.List.{length-append, drop-append-le, drop_all}
 use Rattle.markdown_definition.specs.Columns.{code_byte}
 use Rattle.markdown_definition.specs.Blocks.{BlockLine, own_lines}
-use Rattle.markdown_definition.specs.Content.{content_codes, content_of}
+use Rattle.markdown_definition.specs.Content.{content_codes, content_of, content_text}
 use Rattle.markdown_definition.specs.Definitions.{lines_before}
 use Rattle.markdown_definition.specs.LinkDefinition.{Definition, definition_at}
 use Rattle.markdown_definition.specs.ParagraphLines.{AreLines}
 use Rattle.markdown_definition.proofs.DefinitionParts.{the_same}
 use Rattle.markdown_definition.proofs.DefinitionLines.{definition_cuts}
 use Rattle.markdown_definition.proofs.LinkRenaming.{renamed_definition, definition_renamed, code_byte-renames}
-use Rattle.link_definitions.specs.Contents.{content_text, total}
+use Rattle.link_definitions.specs.Contents.{total}
 use Rattle.link_definitions.proofs.Codes.{AreBytes, same_bytes, later_bytes}
 use Rattle.link_definitions.proofs.Contents.{content_is}
 use Rattle.link_definitions.proofs.Splits.{split_at}

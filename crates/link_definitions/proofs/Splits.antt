@@ -9,7 +9,8 @@ use Rattle.markdown_definition.specs.Blocks.{BlockLine}
 use Rattle.markdown_definition.specs.ParagraphLines.{AreLines}
 use Rattle.markdown_definition.specs.declared.row.Piece.{Piece}
 use Rattle.markdown_definition.specs.Rows.{piece_line, piece_lines}
-use Rattle.link_definitions.specs.Contents.{line_text, content_text, room, total}
+use Rattle.markdown_definition.specs.Content.{line_text, content_text}
+use Rattle.link_definitions.specs.Contents.{room, total}
 
 -- so many lines and one more of a content: the last of all has its ending outside
 pub record Split (n : ℕ) (ls : List BlockLine) : Type 0 where

@@ -1,12 +1,11 @@
 -- Where a definition at the front of a paragraph ends.
 use Rattle.std.specs.Prelude.{◌≡◌, ◌≤◌, ℕ, List, Some, drop}
 use Rattle.markdown_definition.specs.Blocks.{BlockLine, own_lines}
-use Rattle.markdown_definition.specs.Content.{content_of}
+use Rattle.markdown_definition.specs.Content.{content_of, content_text}
 use Rattle.markdown_definition.specs.Definitions.{lines_before}
 use Rattle.markdown_definition.specs.LinkDefinition.{Definition, definition_at}
 use Rattle.markdown_definition.specs.ParagraphLines.{AreLines}
 use Rattle.link_definitions.specs.declared.front.DefinitionEnd.{DefinitionEnd}
-use Rattle.link_definitions.specs.Contents.{content_text}
 
 -- a definition is on the first lines, and the content of the others is what is left of that of all
 pub record EndsAt (content : List ℕ) (ls : List BlockLine) (end : DefinitionEnd) : Type 0 where

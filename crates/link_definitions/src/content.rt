@@ -6,7 +6,7 @@ ghost use Rattle.std.specs.Prelude.{◌≡◌, ◌++◌, OnOk, map, replicate, s
 ghost use Rattle.markdown_definition.specs.Columns.{tab_column, code_byte};
 ghost use Rattle.markdown_definition.specs.Lines.{ending_text};
 ghost use Rattle.markdown_definition.specs.Rows.{piece_lines};
-ghost use Rattle.link_definitions.specs.Contents.{content_text};
+ghost use Rattle.markdown_definition.specs.Content.{content_text};
 
 use markdown_definition::Piece;
 use markdown_options::LineEnding;

@@ -5,14 +5,14 @@
 //! A definition ends where a line does.
 ghost use Rattle.std.specs.Prelude.{◌≡◌, ◌≤◌, ◌<◌, ℕ, suc, None, false, IfSome, MatchOption, length, take};
 ghost use Rattle.markdown_definition.specs.Blocks.{own_lines};
-ghost use Rattle.markdown_definition.specs.Content.{content_codes, content_of};
+ghost use Rattle.markdown_definition.specs.Content.{content_codes, content_of, content_text};
 ghost use Rattle.markdown_definition.specs.Definitions.{cut_most};
 ghost use Rattle.markdown_definition.specs.LinkDefinition.{definition_at};
 ghost use Rattle.markdown_definition.specs.LinkSpace.{after_spaces};
 ghost use Rattle.markdown_definition.specs.ParagraphLines.{AreLines};
 ghost use Rattle.markdown_definition.specs.Rows.{piece_lines, piece_line};
 ghost use Rattle.markdown_definition.specs.Tree.{is_some_line};
-ghost use Rattle.link_definitions.specs.Contents.{content_text, room, total, begins_label};
+ghost use Rattle.link_definitions.specs.Contents.{room, total, begins_label};
 ghost use Rattle.link_definitions.specs.Ends.{EndsAt};
 
 use link_parts::code::next_code;

@@ -8,12 +8,11 @@ use Rattle.std.proofs.Math.Seq.{take-length, drop-length}
 use Rattle.std.specs.List.{count_by}
 use Rattle.markdown_options.specs.declared.line_ending.LineEnding.{LineEnding}
 use Rattle.markdown_options.specs.declared.line_ending.LineEnding.TheVariants.{CarriageReturnLineFeed, CarriageReturn, LineFeed}
-use Rattle.markdown_definition.specs.Blocks.{BlockLine, Definition, Nil, join, own_lines}
+use Rattle.markdown_definition.specs.Blocks.{BlockLine, Nil, join, own_lines}
 use Rattle.markdown_definition.specs.Content.{is_eol, line_ending_code, ending_code, content_of}
 use Rattle.markdown_definition.specs.ParagraphLines.{HaveNoEnding, AreLines}
 use Rattle.markdown_definition.specs.LinkDefinition.{Definition as LinkDefinition, definition, definition_at}
 use Rattle.markdown_definition.specs.Definitions.{Cut, cut_into, cut_after, cut_most, defined, line_count, lines_before}
-use Rattle.markdown_definition.specs.Rows.{definition_shown}
 use Rattle.markdown_definition.proofs.DefinitionAlone.{definition_alone}
 
 is_ending_code : (e : LineEnding) → is_eol (line_ending_code e) ≡ true
@@ -192,11 +191,6 @@ definition_cuts ls d h found =
           omega arith in
           cuts_at ls d own n count (omega arith) parts.some parts.left parts.own_same parts.after_same whole.1
     ]
-
--- the row of a definition stands for it
-pub definition_row : (ls : List BlockLine) (d : LinkDefinition) → AreLines ls → definition_at (content_of (own_lines ls)) ≡ Some d
-    → definition_shown (definition_at (content_of (own_lines (take (lines_before d.rest ls) ls)))) ≡ Definition d.label d.destination d.title
-definition_row ls d h found = ap definition_shown (definition_cuts ls d h found).again
 
 -- as many definitions as there are lines are enough
 no_lines : (most : ℕ) → cut_most most [] ≡ cut_into Nil []

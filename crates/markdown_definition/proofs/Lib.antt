@@ -10,3 +10,6 @@ pub mod DefinitionParts
 pub mod DefinitionAlone
 pub mod DefinitionLines
 pub mod OpenLines
+pub mod RowSteps
+pub mod DefinitionRows
+pub mod LabelWords

@@ -37,7 +37,7 @@ no_space : (k c : ℕ) → is_space k ≡ false → is_space c ≡ true → eqb 
 no_space k c plain h = ne_eqb c k (λ e. true≢false (sym h ∙ ap is_space e ∙ plain))
 
 module _ (f : ℕ → ℕ) (renames : Renames f) where
-  space_same : (c : ℕ) → is_space (f c) ≡ is_space c
+  pub space_same : (c : ℕ) → is_space (f c) ≡ is_space c
   space_same c = ap (λ b. b || is_eol (f c)) (renames.white c) ∙ ap (λ b. is_white c || b) (renames.ending c)
 
   -- a code that is no space is found where it was

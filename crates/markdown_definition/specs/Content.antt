@@ -1,10 +1,11 @@
 -- The content of a block as codes (CommonMark 2.1 and 4.8).
-use Rattle.std.specs.Prelude.{ℕ, ◌-◌, Bool, if◌then◌else◌, not, ◌==◌, ◌&&◌, ◌||◌, List, [], ◌∷◌, ◌++◌, Option, None, Some, drop, take, length}
+use Rattle.std.specs.Prelude.{ℕ, ◌-◌, Bool, if◌then◌else◌, not, ◌==◌, ◌&&◌, ◌||◌, List, [], ◌∷◌, ◌++◌, Option, None, Some, drop, take, length, map}
 use Rattle.std.specs.List.{flat_map}
 use Rattle.markdown_options.specs.declared.line_ending.LineEnding.{LineEnding}
 use Rattle.markdown_options.specs.declared.line_ending.LineEnding.TheVariants.{CarriageReturnLineFeed, CarriageReturn, LineFeed}
-use Rattle.markdown_definition.specs.Columns.{is_white}
-use Rattle.markdown_definition.specs.Blocks.{BlockLine}
+use Rattle.markdown_definition.specs.Lines.{ending_text}
+use Rattle.markdown_definition.specs.Columns.{is_white, code_byte}
+use Rattle.markdown_definition.specs.Blocks.{BlockLine, own_lines}
 
 -- A code of a content is a byte, 256 for a column that is left of a tab, or the one code of a line ending.
 
@@ -44,6 +45,14 @@ line_codes line = line.codes ++ ending_code line.ending
 -- the content of the lines of a block (CommonMark 4.8)
 abbrev pub content_of : List BlockLine → List ℕ
 content_of block_lines = flat_map line_codes block_lines
+
+-- the bytes of a line with its ending: a column that is left of a tab is a space
+abbrev pub line_text : BlockLine → List ℕ
+line_text line = map code_byte line.codes ++ ending_text line.ending
+
+-- the bytes of lines, without the last ending
+abbrev pub content_text : List BlockLine → List ℕ
+content_text ls = flat_map line_text (own_lines ls)
 
 -- what was read of a content, and the rest of it
 pub record Part : Type 0 where

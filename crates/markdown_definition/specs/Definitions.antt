@@ -1,10 +1,10 @@
 -- Link reference definitions at the front of a paragraph (CommonMark 4.7).
-use Rattle.std.specs.Prelude.{ℕ, suc, zero, ◌+◌, ◌-◌, if◌then◌else◌, List, [], ◌∷◌, ◌++◌, Option, None, Some, take, drop, length}
+use Rattle.std.specs.Prelude.{ℕ, suc, zero, ◌+◌, ◌-◌, if◌then◌else◌, List, [], ◌∷◌, ◌++◌, Option, None, Some, take, drop, length, map}
 use Rattle.std.specs.List.{count_by}
 use Rattle.markdown_options.specs.declared.configuration.Constructs.{Constructs}
 use Rattle.markdown_definition.specs.Blocks.{BlockLine, Block, Paragraph, Heading, Break, IndentedCode, FencedCode, Html, Definition, Holds, Items, Ending, Blank, Blocks, Nil, Cons, join, ended, last_ending, own_lines}
 use Rattle.markdown_definition.specs.Content.{is_eol, content_of}
-use Rattle.markdown_definition.specs.LinkDefinition.{Definition as LinkDefinition, definition_at}
+use Rattle.markdown_definition.specs.LinkDefinition.{Definition as LinkDefinition, definition, definition_at}
 
 -- the definitions at the front of a paragraph, each with the ending of its last line, and the lines after them
 pub record Cut : Type 0 where
@@ -44,21 +44,25 @@ cut_most (suc most) ls = cut_after (definition_at (content_of (own_lines ls))) l
 abbrev pub cut : Constructs → List BlockLine → Cut
 cut on ls = if on.definition then cut_most (length ls) ls else cut_into Nil ls
 
--- the labels of the definitions in a document, in the order of the text, repeats kept (CommonMark 4.7)
+-- the definitions in a document, in the order of the text, repeats kept; each is alone, so that nothing follows it (CommonMark 4.7)
 abbrev mutual
-  pub block_labels : Block → List (List ℕ)
-  block_labels (Paragraph ls) = []
-  block_labels (Heading rank ls) = []
-  block_labels Break = []
-  block_labels (IndentedCode ls) = []
-  block_labels (FencedCode info closed ls) = []
-  block_labels (Html ls) = []
-  block_labels (Definition label destination title) = label ∷ []
-  block_labels (Holds c kids) = labels kids
-  block_labels (Items items) = labels items
-  block_labels (Ending ending) = []
-  block_labels (Blank ending) = []
+  pub block_definitions : Block → List LinkDefinition
+  block_definitions (Paragraph ls) = []
+  block_definitions (Heading rank ls) = []
+  block_definitions Break = []
+  block_definitions (IndentedCode ls) = []
+  block_definitions (FencedCode info closed ls) = []
+  block_definitions (Html ls) = []
+  block_definitions (Definition label destination title) = definition label destination title [] ∷ []
+  block_definitions (Holds c kids) = definitions kids
+  block_definitions (Items items) = definitions items
+  block_definitions (Ending ending) = []
+  block_definitions (Blank ending) = []
 
-  pub labels : Blocks → List (List ℕ)
-  labels Nil = []
-  labels (Cons b bs) = block_labels b ++ labels bs
+  pub definitions : Blocks → List LinkDefinition
+  definitions Nil = []
+  definitions (Cons b bs) = block_definitions b ++ definitions bs
+
+-- their labels
+abbrev pub labels : Blocks → List (List ℕ)
+labels bs = map (λ d. d.label) (definitions bs)

@@ -32,3 +32,4 @@ pub mod LinkLabel
 pub mod LinkDestination
 pub mod LinkTitle
 pub mod LinkDefinition
+pub mod Labels

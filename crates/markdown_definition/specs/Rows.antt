@@ -1,15 +1,17 @@
 -- The rows of a block tree: what the block parser hands to the printer.
 use Rattle.std.specs.Prelude.{ℕ, ◌+◌, true, false, Option, None, Some, List, [], ◌∷◌, ◌++◌, map, take, drop, replicate}
 use Rattle.std.specs.List.{fold, sum_by}
+use Rattle.std.specs.Option.{option_map}
 use Rattle.markdown_definition.specs.declared.container.Container.{Container}
 use Rattle.markdown_definition.specs.declared.container.Container.TheVariants.{Quote, Item}
 use Rattle.markdown_definition.specs.declared.row.Row.{Row}
 use Rattle.markdown_definition.specs.declared.row.Row.TheVariants as row
 use Rattle.markdown_definition.specs.declared.row.Piece.{Piece}
 use Rattle.markdown_definition.specs.Lines.{TextLine, lines}
-use Rattle.markdown_definition.specs.Columns.{bytes_of, tab_column}
+use Rattle.markdown_definition.specs.Columns.{bytes_of, code_byte, tab_column}
 use Rattle.markdown_definition.specs.Tree.{BlockLine, block_line, Block, Paragraph, Heading, Break, IndentedCode, FencedCode, Html, Definition, Holds, Items, Ending, Blank, Blocks, Nil, Cons, own_lines}
-use Rattle.markdown_definition.specs.Content.{content_of}
+use Rattle.markdown_definition.specs.Content.{content_codes, content_text}
+use Rattle.markdown_definition.specs.Definitions.{block_definitions}
 use Rattle.markdown_definition.specs.LinkDefinition.{Definition as LinkDefinition, definition_at}
 
 -- a block that holds no other, or an ending; the start of a quote; the start of an item, with the byte of its marker and its number; the end of the innermost container
@@ -23,6 +25,10 @@ abbrev pub entered : Container → BlockRow
 entered Quote = EnterQuote
 entered (Item item) = EnterItem item.marker item.number
 
+-- a definition whose columns that are left of a tab are spaces
+abbrev pub spaced_definition : List ℕ → List ℕ → Option (List ℕ) → Block
+spaced_definition label destination title = Definition (map code_byte label) (map code_byte destination) (option_map (map code_byte) title)
+
 -- the rows of blocks, before their items are put into lists
 abbrev mutual
   pub block_rows : Block → List BlockRow
@@ -32,7 +38,7 @@ abbrev mutual
   block_rows (IndentedCode ls) = Single (IndentedCode ls) ∷ []
   block_rows (FencedCode info closed ls) = Single (FencedCode info closed ls) ∷ []
   block_rows (Html ls) = Single (Html ls) ∷ []
-  block_rows (Definition label destination title) = Single (Definition label destination title) ∷ []
+  block_rows (Definition label destination title) = Single (spaced_definition label destination title) ∷ []
   block_rows (Holds c kids) = entered c ∷ (rows_of kids ++ Exit ∷ [])
   block_rows (Items items) = rows_of items
   block_rows (Ending ending) = Single (Ending ending) ∷ []
@@ -41,6 +47,13 @@ abbrev mutual
   pub rows_of : Blocks → List BlockRow
   rows_of Nil = []
   rows_of (Cons b bs) = block_rows b ++ rows_of bs
+
+-- the definition that a row stands for, if it is one
+abbrev pub row_definitions : BlockRow → List LinkDefinition
+row_definitions (Single b) = block_definitions b
+row_definitions EnterQuote = []
+row_definitions (EnterItem marker number) = []
+row_definitions Exit = []
 
 -- rows, and the lines that they leave
 pub record Shown : Type 0 where
@@ -83,7 +96,10 @@ whole_line line = block_line line.content line.ending
 abbrev pub whole_lines : ℕ → List ℕ → List BlockLine
 whole_lines count text = map whole_line (take count (lines text))
 
--- a definition as it was read off its lines
+-- the definition that is read off the bytes of these lines
+abbrev pub definition_on : List BlockLine → Option LinkDefinition
+definition_on ls = definition_at (content_codes (content_text ls))
+
 abbrev pub definition_shown : Option LinkDefinition → Block
 definition_shown None = Definition [] [] None
 definition_shown (Some d) = Definition d.label d.destination d.title
@@ -99,7 +115,7 @@ row_shown (row.IndentedCode count) left = Single (IndentedCode (own_lines (take 
 row_shown (row.FencedCode count) left = Single (FencedCode (first_codes left) true (take count (drop 1 left)))
 row_shown (row.UnclosedCode count) left = Single (FencedCode (first_codes left) false (take count (drop 1 left)))
 row_shown (row.Html count) left = Single (Html (own_lines (take count left)))
-row_shown (row.Definition count) left = Single (definition_shown (definition_at (content_of (own_lines (take count left)))))
+row_shown (row.Definition count) left = Single (definition_shown (definition_on (take count left)))
 row_shown row.EnterQuote left = EnterQuote
 row_shown (row.EnterItem marker number) left = EnterItem marker number
 row_shown row.Exit left = Exit

@@ -1,4 +1,7 @@
 //! What the block parser hands to the printer.
+ghost use Rattle.std.specs.Prelude.{◌≡◌, ◌<◌, ◌^◌};
+ghost use Rattle.markdown_definition.specs.Rows.{lines_taken};
+
 use markdown_options::LineEnding;
 
 /// A line of a block: a piece of the text.
@@ -50,4 +53,28 @@ pub enum Row {
     Ending(Option<LineEnding>),
     /// The ending of a blank line (CommonMark 4.9).
     Blank(Option<LineEnding>),
+}
+
+impl Row {
+    /// How many lines a row takes from the list beside the rows.
+    pub fn lines_taken(self) -> usize
+        requires { lines_taken self < 2 ^ 64 }
+        ensures { result ≡ lines_taken self }
+    {
+        match self {
+            Row::Paragraph(count)
+            | Row::SetextHeading { count, .. }
+            | Row::IndentedCode(count)
+            | Row::Html(count)
+            | Row::Definition(count) => count,
+            Row::Heading(_) | Row::WholeParagraph(_) => 1,
+            Row::FencedCode(count) | Row::UnclosedCode(count) => 1 + count,
+            Row::Break
+            | Row::EnterQuote
+            | Row::EnterItem { .. }
+            | Row::Exit
+            | Row::Ending(_)
+            | Row::Blank(_) => 0,
+        }
+    }
 }

@@ -3,7 +3,7 @@ use Rattle.std.proofs.Common.{◌≡◌, ◌++◌, Bool, true, false, if◌then�
 use Rattle.std.proofs.lemmas.Bool.{cond-true, cond_both}
 use Rattle.markdown_definition.specs.declared.container.Container.TheVariants.{Quote}
 use Rattle.markdown_definition.specs.Tree.{Block, Holds, Blocks, Nil, Cons, join, one, is_ending, without_last, last_of, holds}
-use Rattle.markdown_definition.specs.Definitions.{block_labels, labels}
+use Rattle.markdown_definition.specs.Definitions.{block_definitions, definitions}
 use Rattle.quote_law.specs.Laws.{quote_of}
 
 -- a block alone, which may be an ending
@@ -33,10 +33,11 @@ pub last_of-quote : (kids bs : Blocks) → last_of (join (quote_of kids) (last_o
 last_of-quote kids bs =
     at_last (λ last. last_of (join (quote_of kids) last) ≡ last) bs refl (λ b e. cond-true (is_ending b) (one b) Nil e)
 
--- labels
-labels-join : (bs cs : Blocks) → labels (join bs cs) ≡ labels bs ++ labels cs
-labels-join Nil cs = refl
-labels-join (Cons b bs) cs = ap (λ ls. block_labels b ++ ls) (labels-join bs cs) ∙ sym (append_assoc (block_labels b) (labels bs) (labels cs))
+-- definitions
+definitions-join : (bs cs : Blocks) → definitions (join bs cs) ≡ definitions bs ++ definitions cs
+definitions-join Nil cs = refl
+definitions-join (Cons b bs) cs =
+    ap (λ ds. block_definitions b ++ ds) (definitions-join bs cs) ∙ sym (append_assoc (block_definitions b) (definitions bs) (definitions cs))
 
-pub labels-holds : (kids : Blocks) → labels (holds Quote kids) ≡ labels kids
-labels-holds kids = sym (labels-join (without_last kids) (last_of kids)) ∙ ap labels (join-without_last kids)
+pub definitions-holds : (kids : Blocks) → definitions (holds Quote kids) ≡ definitions kids
+definitions-holds kids = sym (definitions-join (without_last kids) (last_of kids)) ∙ ap definitions (join-without_last kids)

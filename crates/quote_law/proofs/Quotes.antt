@@ -7,13 +7,13 @@ use Rattle.markdown_options.specs.declared.configuration.Constructs.{Constructs}
 use Rattle.markdown_definition.specs.declared.container.Container.TheVariants.{Quote}
 use Rattle.markdown_definition.specs.Lines.{TextLine, lines}
 use Rattle.markdown_definition.specs.Tree.{join, without_last, last_of, holds, empty_tree, step, closed, blocks}
-use Rattle.markdown_definition.specs.Definitions.{labels}
+use Rattle.markdown_definition.specs.Definitions.{definitions}
 use Rattle.quote_law.specs.Quoted.{marked_after_endings, quoted}
-use Rattle.quote_law.specs.Laws.{quoted_line, quote_of, QuoteLaw, QuotesLaw, QuoteLabelsLaw}
+use Rattle.quote_law.specs.Laws.{quoted_line, quote_of, QuoteLaw, QuotesLaw, QuoteDefinitionsLaw}
 use Rattle.quote_law.proofs.Tabs.{Tabless, Tabless-from_All, LinesTabless, lines_tabless, quoted_tabless}
 use Rattle.quote_law.proofs.Lines.{HasLine, lines_some, quoted_lines_law}
 use Rattle.quote_law.proofs.Grown.{in_quote, step-quoted, fold-in_quote}
-use Rattle.quote_law.proofs.Endings.{join-without_last, without_last-quote, last_of-quote, labels-holds}
+use Rattle.quote_law.proofs.Endings.{join-without_last, without_last-quote, last_of-quote, definitions-holds}
 
 module _ (on : Constructs) (quotes : on.block_quote ≡ true) where
   -- the tree of lines with `> ` before their contents
@@ -40,10 +40,10 @@ module _ (on : Constructs) (quotes : on.block_quote ≡ true) where
       ∙ ap (λ before. join (iterate quote_of n before) (last_of (holds Quote kids))) (without_last-quote (without_last kids) kids)
       ∙ ap (λ last. join (iterate quote_of n (quote_of (without_last kids))) last) (last_of-quote (without_last kids) kids)
 
-  -- the labels, also those of the empty text, which are none
-  text_labels : (text : List ℕ) → Tabless text → labels (blocks on (quoted text)) ≡ labels (blocks on text)
-  text_labels [] no_tab = refl
-  text_labels (b ∷ bs) no_tab = ap labels (text_quote b bs no_tab) ∙ labels-holds (blocks on (b ∷ bs))
+  -- the definitions, also those of the empty text, which has none
+  text_definitions : (text : List ℕ) → Tabless text → definitions (blocks on (quoted text)) ≡ definitions (blocks on text)
+  text_definitions [] no_tab = refl
+  text_definitions (b ∷ bs) no_tab = ap definitions (text_quote b bs no_tab) ∙ definitions-holds (blocks on (b ∷ bs))
 
 pub quote_law : QuoteLaw
 quote_law on [] quotes some no_tab = absurd (some refl)
@@ -53,5 +53,5 @@ pub quotes_law : QuotesLaw
 quotes_law on [] n quotes some no_tab = absurd (some refl)
 quotes_law on (b ∷ bs) n quotes some no_tab = text_quotes on quotes n b bs (Tabless-from_All (b ∷ bs) no_tab)
 
-pub quote_labels_law : QuoteLabelsLaw
-quote_labels_law on text quotes no_tab = text_labels on quotes text (Tabless-from_All text no_tab)
+pub quote_definitions_law : QuoteDefinitionsLaw
+quote_definitions_law on text quotes no_tab = text_definitions on quotes text (Tabless-from_All text no_tab)

@@ -6,7 +6,7 @@ use Rattle.markdown_options.specs.declared.configuration.Constructs.{Constructs}
 use Rattle.markdown_definition.specs.declared.container.Container.TheVariants.{Quote}
 use Rattle.markdown_definition.specs.Lines.{TextLine, text_line, lines}
 use Rattle.markdown_definition.specs.Tree.{Blocks, Holds, join, one, without_last, last_of, blocks}
-use Rattle.markdown_definition.specs.Definitions.{labels}
+use Rattle.markdown_definition.specs.Definitions.{definitions}
 use Rattle.quote_law.specs.Quoted.{quoted}
 
 -- a line with the same ending, and `> ` before its content
@@ -37,7 +37,7 @@ QuotesLaw =
     (on : Constructs) (text : List ℕ) (n : ℕ) → on.block_quote ≡ true → text ≢ [] → HasNoTab text
     → let kids = blocks on text in blocks on (iterate quoted n text) ≡ join (iterate quote_of n (without_last kids)) (last_of kids)
 
--- link reference definitions have the same labels in a quote
-abbrev pub QuoteLabelsLaw : Type 0
-QuoteLabelsLaw =
-    (on : Constructs) (text : List ℕ) → on.block_quote ≡ true → HasNoTab text → labels (blocks on (quoted text)) ≡ labels (blocks on text)
+-- the link reference definitions are the same in a quote
+abbrev pub QuoteDefinitionsLaw : Type 0
+QuoteDefinitionsLaw =
+    (on : Constructs) (text : List ℕ) → on.block_quote ≡ true → HasNoTab text → definitions (blocks on (quoted text)) ≡ definitions (blocks on text)

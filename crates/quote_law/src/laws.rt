@@ -1,5 +1,5 @@
 //! Laws of a text with `> ` before every line.
-ghost use Rattle.quote_law.specs.Laws.{QuotedLinesLaw, QuoteLaw, QuotesLaw, QuoteLabelsLaw};
+ghost use Rattle.quote_law.specs.Laws.{QuotedLinesLaw, QuoteLaw, QuotesLaw, QuoteDefinitionsLaw};
 
 /// A text with `> ` before every line has the text's lines, each with `> ` before its content and with the same ending.
 #[tactic(auto, using(crate::proofs::Lines::quoted_lines_law))]
@@ -19,8 +19,8 @@ pub fn quotes_law()
     ensures { QuotesLaw }
 {}
 
-/// The link reference definitions of such a text have the same labels, in the same order, with `> ` before every line.
-#[tactic(auto, using(crate::proofs::Quotes::quote_labels_law))]
-pub fn quote_labels_law()
-    ensures { QuoteLabelsLaw }
+/// The link reference definitions of such a text are the same, in the same order, with `> ` before every line.
+#[tactic(auto, using(crate::proofs::Quotes::quote_definitions_law))]
+pub fn quote_definitions_law()
+    ensures { QuoteDefinitionsLaw }
 {}

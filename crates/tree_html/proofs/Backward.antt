@@ -1,15 +1,14 @@
 -- The pass from the last row to the first needs no lines.
-use Rattle.std.proofs.Common.{◌≡◌, ℕ, List, [], ◌∷◌, Option, None, Some, reverse, refl, sym, ap, ◌∙◌, take, drop, true, false}
+use Rattle.std.proofs.Common.{◌≡◌, List, [], ◌∷◌, Option, None, Some, reverse, refl, sym, ap, ◌∙◌, take, drop, true, false}
 use Rattle.std.specs.List.{fold, list_any}
 use Rattle.std.proofs.lemmas.Bool.{or_parts}
 use Rattle.std.proofs.lemmas.Grind.{reverse_onto}
 use Rattle.std.proofs.lemmas.List.Sums.{fold_push}
 use Rattle.markdown_definition.specs.declared.row.Row.{Row}
 use Rattle.markdown_definition.specs.declared.row.Row.TheVariants as row
-use Rattle.markdown_definition.specs.Tree.{BlockLine, own_lines, is_ending}
-use Rattle.markdown_definition.specs.Content.{content_of}
-use Rattle.markdown_definition.specs.LinkDefinition.{Definition, definition_at}
-use Rattle.markdown_definition.specs.Rows.{definition_shown, row_shown, shown, shown_as, lines_taken}
+use Rattle.markdown_definition.specs.Tree.{BlockLine, is_ending}
+use Rattle.markdown_definition.specs.LinkDefinition.{Definition}
+use Rattle.markdown_definition.specs.Rows.{definition_on, definition_shown, row_shown, shown, shown_as, lines_taken}
 use Rattle.tree_html.specs.Loose.{Passed, passed_at, nothing_passed, before_if, pass_row, pass_rows, places_of, starts_item}
 use Rattle.tree_html.proofs.RowSteps.{shown_after}
 
@@ -22,10 +21,6 @@ no_ending : (o : Option Definition) → is_ending (definition_shown o) ≡ false
 no_ending None = refl
 no_ending (Some d) = refl
 
--- the definition on the first lines
-abbrev read_off : ℕ → List BlockLine → Option Definition
-read_off count ls = definition_at (content_of (own_lines (take count ls)))
-
 same_without_lines : (p : Passed) (r : Row) (ls : List BlockLine) → pass_row p (row_shown r ls) ≡ pass_bare p r
 same_without_lines p (row.Paragraph count) ls = refl
 same_without_lines p (row.Heading rank) ls = refl
@@ -37,7 +32,7 @@ same_without_lines p (row.FencedCode count) ls = refl
 same_without_lines p (row.UnclosedCode count) ls = refl
 same_without_lines p (row.Html count) ls = refl
 same_without_lines p (row.Definition count) ls =
-    ap (λ ending. passed_at (before_if ending p.ahead) p.outer p.places) (no_ending (read_off count ls) ∙ sym (no_ending (read_off count [])))
+    ap (λ ending. passed_at (before_if ending p.ahead) p.outer p.places) (no_ending (definition_on (take count ls)) ∙ sym (no_ending (definition_on (take count []))))
 same_without_lines p row.EnterQuote ls = refl
 same_without_lines p (row.EnterItem marker number) ls = refl
 same_without_lines p row.Exit ls = refl

@@ -6,7 +6,7 @@ use Rattle.markdown_definition.specs.declared.row.Row.{Row}
 use Rattle.markdown_definition.specs.Tree.{BlockLine}
 use Rattle.markdown_definition.specs.Rows.{Shown, BlockRow, row_shown, shown}
 use Rattle.tree_html.specs.Printed.{is_blank_row, ends_blank_rows}
-use Rattle.tree_html.proofs.RowSteps.{shown_more}
+use Rattle.markdown_definition.proofs.RowSteps.{shown_more}
 
 -- the last row alone says it
 pub last_row : (rows : List Row) (ls : List BlockLine) (i : ℕ) (d : Row) → i + 1 ≡ length rows

@@ -1,33 +1,20 @@
 -- One more row.
 use Rattle.std.proofs.Common.{◌≡◌, ℕ, ◌+◌, ◌<◌, List, [], ◌∷◌, ◌++◌, ap, sym, ◌∙◌, subst, take, drop, get_or, length}
-use Rattle.std.specs.Prelude.{map}
 use Rattle.std.specs.List.{fold, All}
-use Rattle.std.proofs.lemmas.List.{append-nil, append_assoc, drop-drop, drop-map, drop_more, take-append-drop}
+use Rattle.std.proofs.lemmas.List.{append-nil, append_assoc, drop_more, take-append-drop}
 use Rattle.std.proofs.lemmas.List.Elements.{All-head, All-tail}
-use Rattle.std.proofs.lemmas.List.Sums.{fold_more, fold_push, fold-append, sum_by-drop_more}
+use Rattle.std.proofs.lemmas.List.Sums.{fold_push, fold-append}
 use Rattle.markdown_options.specs.declared.configuration.CompileOptions.{CompileOptions}
 use Rattle.markdown_definition.specs.declared.row.Row.{Row}
 use Rattle.markdown_definition.specs.Tree.{BlockLine}
-use Rattle.markdown_definition.specs.Rows.{BlockRow, Shown, shown, shown_as, show_row, row_shown, lines_taken, all_taken}
+use Rattle.markdown_definition.specs.Rows.{BlockRow, Shown, shown, shown_as, show_row, row_shown, lines_taken}
 use Rattle.tree_html.specs.Printable.{IsPrintableRow, ArePrintable}
 use Rattle.tree_html.specs.Printed.{Printed, row_printed, printed}
-
-pub shown_more : (rows : List Row) (ls : List BlockLine) (i : ℕ) (d : Row) → i < length rows
-    → shown (take (i + 1) rows) ls ≡ show_row (shown (take i rows) ls) (get_or rows i d)
-shown_more rows ls i d lt = fold_more show_row (shown_as [] ls) rows i d lt
 
 -- a row is printed after those before it
 pub printed_more : (options : CompileOptions) (default : List ℕ) (p : Printed) (rows : List BlockRow) (row : BlockRow)
     → printed options default p (rows ++ row ∷ []) ≡ row_printed options default (printed options default p rows) row
 printed_more options default p rows row = fold_push (row_printed options default) p rows row
-
--- the lines that a row takes, and those of the rows after it
-pub taken_more : (rows : List Row) (i : ℕ) (d : Row) → i < length rows → all_taken (drop i rows) ≡ lines_taken (get_or rows i d) + all_taken (drop (i + 1) rows)
-taken_more rows i d lt = sum_by-drop_more lines_taken rows i d lt
-
--- the lines that a row leaves
-pub left_more : {X : Type 0} (f : X → BlockLine) (n taken : ℕ) (lines : List X) → drop n (map f (drop taken lines)) ≡ map f (drop (taken + n) lines)
-left_more f n taken lines = drop-map f n (drop taken lines) ∙ ap (map f) (drop-drop n taken lines)
 
 -- ---- a row that is shown
 

@@ -10,7 +10,7 @@ use Rattle.markdown_definition.specs.Tree.{Block, Paragraph, Heading, Break, Ind
 use Rattle.markdown_definition.specs.Lists.{grouped}
 use Rattle.markdown_definition.specs.Pieces.{print, layout}
 use Rattle.markdown_definition.specs.Html.{children_pieces, ends_blank, is_blank_ending, last_piece, document_pieces}
-use Rattle.markdown_definition.specs.Rows.{BlockRow, Single, Exit, entered, rows_of, block_rows}
+use Rattle.markdown_definition.specs.Rows.{BlockRow, Single, Exit, entered, rows_of, block_rows, spaced_definition}
 use Rattle.tree_html.specs.declared.level.Kind.TheVariants as kind
 use Rattle.tree_html.specs.declared.loose.Place.{Place}
 use Rattle.tree_html.specs.Printable.{IsPrintable, IsPrintableRow, ArePrintable, CanBePrinted}
@@ -80,7 +80,7 @@ mutual
   printable_block (IndentedCode ls) h = all_one (Single (IndentedCode ls)) h
   printable_block (FencedCode info closed ls) h = all_one (Single (FencedCode info closed ls)) h
   printable_block (Html ls) h = all_one (Single (Html ls)) h
-  printable_block (Definition label destination title) h = all_one (Single (Definition label destination title)) h
+  printable_block (Definition label destination title) h = all_one (Single (spaced_definition label destination title)) h
   printable_block (Holds c kids) h =
       All-cons IsPrintableRow (entered c) (rows_of kids ++ Exit ∷ []) (entered_printable c) (all_append IsPrintableRow (rows_of kids) (Exit ∷ []) (printable_rows_of kids h.1) (all_one Exit tt))
   printable_block (Items items) h = absurd h

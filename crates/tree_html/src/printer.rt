@@ -81,7 +81,7 @@ pub fn print_rows<A: Allocator + Clone>(
     let mut taken = 0;
     for row in rows {
         printer.row(options, *row, &pieces[taken..])?;
-        taken += lines_taken(*row);
+        taken += row.lines_taken();
     }
     if ends_blank(rows) {
         printer.page.fresh()?;
@@ -89,28 +89,6 @@ pub fn print_rows<A: Allocator + Clone>(
     let Printer { page, .. } = printer;
     let Page { html, .. } = page;
     Ok(html)
-}
-
-/// How many lines a row takes.
-fn lines_taken(row: Row) -> usize
-    requires { lines_taken row < 2 ^ 64 }
-    ensures { result ≡ lines_taken row }
-{
-    match row {
-        Row::Paragraph(count)
-        | Row::SetextHeading { count, .. }
-        | Row::IndentedCode(count)
-        | Row::Html(count)
-        | Row::Definition(count) => count,
-        Row::Heading(_) | Row::WholeParagraph(_) => 1,
-        Row::FencedCode(count) | Row::UnclosedCode(count) => 1 + count,
-        Row::Break
-        | Row::EnterQuote
-        | Row::EnterItem { .. }
-        | Row::Exit
-        | Row::Ending(_)
-        | Row::Blank(_) => 0,
-    }
 }
 
 /// Whether the last row is the ending of a blank line.

@@ -7,7 +7,7 @@ use Rattle.markdown_definition.specs.Columns.{code_byte}
 use Rattle.markdown_definition.specs.Blocks.{BlockLine, last_ending}
 use Rattle.markdown_definition.specs.Rows.{piece_line, piece_lines}
 use Rattle.markdown_definition.proofs.OwnLines.{last_ending_more, lines_more}
-use Rattle.link_definitions.specs.Contents.{content_text}
+use Rattle.markdown_definition.specs.Content.{content_text}
 use Rattle.link_definitions.proofs.content.join_lines.Goals as goal
 
 pub loop-line-preserved : goal.loop-line-preserved

@@ -1,7 +1,7 @@
 use Rattle.std.proofs.Common.{◌≡◌, string_bytes, take}
 use Rattle.markdown_definition.specs.Blocks.{last_ending}
 use Rattle.markdown_definition.specs.Rows.{piece_lines}
-use Rattle.link_definitions.specs.Contents.{content_text}
+use Rattle.markdown_definition.specs.Content.{content_text}
 use Rattle.link_definitions.proofs.content.join_lines.Given as goal
 
 -- the lines so far are there, and the ending of the last one waits

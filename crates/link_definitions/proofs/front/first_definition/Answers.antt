@@ -2,12 +2,11 @@ use Rattle.std.proofs.Common.{◌≡◌, ◌-◌, length, drop, sym, ap, ◌∙�
 use Rattle.std.specs.Prelude.{MatchOption, None}
 use Rattle.std.proofs.lemmas.List.{length-map}
 use Rattle.markdown_definition.specs.Blocks.{own_lines}
-use Rattle.markdown_definition.specs.Content.{content_of}
+use Rattle.markdown_definition.specs.Content.{content_of, content_text}
 use Rattle.markdown_definition.specs.LinkDefinition.{definition_at}
 use Rattle.markdown_definition.specs.ParagraphLines.{AreLines}
 use Rattle.markdown_definition.specs.Rows.{piece_line, piece_lines}
 use Rattle.link_parts.specs.View.{definition_of}
-use Rattle.link_definitions.specs.Contents.{content_text}
 use Rattle.link_definitions.specs.Ends.{EndsAt}
 use Rattle.link_definitions.proofs.Codes.{AreBytes, later_bytes}
 use Rattle.link_definitions.proofs.Ends.{not_found, ended}

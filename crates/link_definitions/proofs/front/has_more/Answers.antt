@@ -2,13 +2,12 @@ use Rattle.std.proofs.Common.{◌≡◌, ◌-◌, ℕ, ltb, List, None, length, 
 use Rattle.std.proofs.lemmas.List.{length-map, drop-map, take_rest}
 use Rattle.markdown_definition.specs.declared.row.Piece.{Piece}
 use Rattle.markdown_definition.specs.Blocks.{BlockLine, own_lines}
-use Rattle.markdown_definition.specs.Content.{content_of}
+use Rattle.markdown_definition.specs.Content.{content_of, content_text}
 use Rattle.markdown_definition.specs.Definitions.{Cut, cut_most}
 use Rattle.markdown_definition.specs.LinkDefinition.{definition_at}
 use Rattle.markdown_definition.specs.ParagraphLines.{AreLines}
 use Rattle.markdown_definition.specs.Tree.{is_some_line}
 use Rattle.markdown_definition.specs.Rows.{piece_line, piece_lines}
-use Rattle.link_definitions.specs.Contents.{content_text}
 use Rattle.link_definitions.specs.Ends.{EndsAt}
 use Rattle.link_definitions.proofs.Cuts.{cut_none, left_after, some_left}
 use Rattle.link_definitions.proofs.front.has_more.Goals as goal

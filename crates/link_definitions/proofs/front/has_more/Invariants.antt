@@ -1,7 +1,7 @@
 use Rattle.std.proofs.Common.{◌≡◌, ◌≤◌, ◌-◌, length}
 use Rattle.markdown_definition.specs.ParagraphLines.{AreLines}
 use Rattle.markdown_definition.specs.Rows.{piece_lines}
-use Rattle.link_definitions.specs.Contents.{content_text}
+use Rattle.markdown_definition.specs.Content.{content_text}
 use Rattle.link_definitions.proofs.Cuts.{LeftOver}
 use Rattle.link_definitions.proofs.front.has_more.Given as goal
 

@@ -13,7 +13,8 @@ use Rattle.markdown_definition.specs.Pieces.{Fresh, print}
 use Rattle.markdown_definition.specs.Html.{last_piece}
 use Rattle.tree_html.specs.declared.printer.Printer.{Printer}
 use Rattle.tree_html.proofs.RowsOf.{rows_html_of}
-use Rattle.tree_html.proofs.RowSteps.{shown_more, printed_more, taken_more, left_more, printable_at}
+use Rattle.markdown_definition.proofs.RowSteps.{shown_more, taken_more, left_more}
+use Rattle.tree_html.proofs.RowSteps.{printed_more, printable_at}
 use Rattle.tree_html.proofs.printer.print_rows.Goals as goal
 use Rattle.tree_html.proofs.printer.print_rows.Goals.{then-ends_blank+in_ok-fresh, else-ends_blank}
 

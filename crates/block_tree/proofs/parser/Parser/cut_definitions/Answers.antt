@@ -1,11 +1,10 @@
 use Rattle.std.proofs.Common.{◌≡◌, ◌+◌, ℕ, List, None, refl, sym, ap, ◌∙◌, subst, drop, length, string_bytes, arith}
 use Rattle.std.proofs.lemmas.List.{drop-drop, length-drop, take_rest}
-use Rattle.markdown_definition.specs.Content.{content_of}
+use Rattle.markdown_definition.specs.Content.{content_of, content_text}
 use Rattle.markdown_definition.specs.LinkDefinition.{definition_at}
 use Rattle.markdown_definition.specs.ParagraphLines.{AreLines}
 use Rattle.markdown_definition.specs.Tree.{BlockLine, Blocks, Definition, Text, join, own_lines}
 use Rattle.markdown_definition.specs.Definitions.{Cut}
-use Rattle.link_definitions.specs.Contents.{content_text}
 use Rattle.block_tree.specs.Spine.{spine}
 use Rattle.block_tree.specs.View.{HasRead}
 use Rattle.block_tree.proofs.Definitions.{Cutting, none_yet, ends_as, row_of_definition, one_more, all_cut}

@@ -2,7 +2,7 @@ use Rattle.std.proofs.Common.{sym, ap, ◌∙◌, subst, take, drop, length, ◌
 use Rattle.markdown_definition.specs.Tree.{Text, is_some_line}
 use Rattle.markdown_definition.specs.Definitions.{Cut}
 use Rattle.markdown_definition.specs.ParagraphLines.{AreLines}
-use Rattle.link_definitions.specs.Contents.{content_text}
+use Rattle.markdown_definition.specs.Content.{content_text}
 use Rattle.block_tree.specs.Spine.{spine}
 use Rattle.block_tree.proofs.Definitions.{more_left}
 use Rattle.block_tree.proofs.Leaves as leaves

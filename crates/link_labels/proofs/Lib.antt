@@ -1,0 +1,4 @@
+pub mod Chunks
+pub mod FirstWord
+pub mod Joined
+pub mod Places

@@ -1,0 +1,36 @@
+//! The labels of documents: texts, a label, and the place of the first definition that has it.
+
+use block_tree::block_rows;
+use link_table::document_labels;
+use markdown::Constructs;
+use std::alloc::AllocError;
+
+const LABELS: [(&str, &str, Option<usize>); 16] = [
+    ("", "a", None),
+    ("[a]", "a", None),
+    ("[a]: b", "a", Some(0)),
+    ("[a]: b\n[c]: d\n\n> [e]: f", "e", Some(2)),
+    ("[a]: b\n[A]: c\n[d]: e", "a", Some(0)),
+    ("[a]: b\n[A]: c\n[d]: e", "D", Some(2)),
+    ("> [a\n> b]: c", "a b", Some(0)),
+    ("> [a\n> b]: c", "a > b", None),
+    ("> [a\nb]: c", "A\tB", Some(0)),
+    ("-\t[a\n\n\t[b]: c", "b", Some(0)),
+    ("- [a\r\n\tb]: c", " a  b ", Some(0)),
+    ("[ẞ]: c", "SS", Some(0)),
+    ("[ΑΓΩ]: φ", "αγω", Some(0)),
+    ("[a]: b\n=\n[c]: d", "c", None),
+    ("    [a]: b\n\n```\n[c]: d\n```\n[e]: f", "e", Some(0)),
+    ("[a\\]b]: c", "a]b", None),
+];
+
+#[test]
+fn finds_labels(rt: HostRuntime) -> Result<(), AllocError> {
+    let on = Constructs::default();
+    for (text, label, place) in LABELS {
+        let blocks = block_rows(rt.alloc(), text, &on)?;
+        let labels = document_labels(rt.alloc(), &blocks.rows, &blocks.pieces)?;
+        assert_eq!(rt; labels.find(label.as_bytes())?, place, "at {text:?}");
+    }
+    Ok(())
+}
