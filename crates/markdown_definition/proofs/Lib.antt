@@ -13,3 +13,5 @@ pub mod OpenLines
 pub mod RowSteps
 pub mod DefinitionRows
 pub mod LabelWords
+pub mod NearestOpener
+pub mod ClosingRuns

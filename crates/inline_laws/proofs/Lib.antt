@@ -1,0 +1,4 @@
+pub mod Occurs
+mod RunPairs
+mod NextPair
+pub mod Pairs

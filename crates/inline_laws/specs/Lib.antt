@@ -1,0 +1,2 @@
+pub mod Occurs
+pub mod Pairs

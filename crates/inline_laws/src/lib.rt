@@ -1,0 +1,5 @@
+//! Laws of the definition of inline structure: what follows from it for every content.
+#![tactic(auto)]
+
+pub mod constructs;
+pub mod emphasis;

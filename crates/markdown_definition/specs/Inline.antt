@@ -1,0 +1,46 @@
+-- The inline structure of a content (CommonMark 6).
+use Rattle.std.specs.Prelude.{ℕ, Bool, List, Option, None, Some}
+
+-- What a link or an image leads to: the destination and the title of a resource, or the label of a definition; each is given by its codes as they are written.
+pub data Target : Type 0 where
+  Resource : List ℕ → Option (List ℕ) → Target
+  Reference : List ℕ → Target
+
+-- A part of a text: a byte; a byte after the backslash that escapes it; the text that a character reference stands for; the text of a code span; an autolink to an email address or not, with what stands between its brackets; raw HTML by its codes; a hard line break by a backslash; one by spaces; the code of a line ending; emphasis; strong emphasis; a link; an image with its description.
+mutual
+  pub data Inline : Type 0 where
+    Data : ℕ → Inline
+    Escape : ℕ → Inline
+    Character : List ℕ → Inline
+    Code : List ℕ → Inline
+    Autolink : Bool → List ℕ → Inline
+    Html : List ℕ → Inline
+    EscapedBreak : Inline
+    TrailingBreak : Inline
+    LineEnd : ℕ → Inline
+    Emphasis : Inlines → Inline
+    Strong : Inlines → Inline
+    Link : Target → Inlines → Inline
+    Image : Target → Inlines → Inline
+
+  pub data Inlines : Type 0 where
+    Nil : Inlines
+    Cons : Inline → Inlines → Inlines
+
+-- parts, and one more after them
+abbrev pub followed_by : Inlines → Inline → Inlines
+followed_by Nil last = Cons last Nil
+followed_by (Cons i is) last = Cons i (followed_by is last)
+
+-- a construct that holds no other: the parts that it makes, and how many codes it takes
+pub record Leaf : Type 0 where
+  pub parts : List Inline
+  pub size : ℕ
+
+abbrev pub leaf : List Inline → ℕ → Leaf
+leaf parts size = record { parts = parts; size = size }
+
+-- a construct, or else another one
+abbrev pub or_else : Option Leaf → Option Leaf → Option Leaf
+or_else None other = other
+or_else (Some found) other = Some found
