@@ -4,6 +4,7 @@ use Rattle.std.specs.List.{fold, prefix_len}
 use Rattle.std.proofs.lemmas.Bool.{cond_both, and_parts, or_parts, or_from, or_left, or_right, or_cases, both_ways, not_from_true}
 use Rattle.markdown_options.specs.declared.line_ending.LineEnding.{LineEnding}
 use Rattle.markdown_options.specs.declared.configuration.Constructs.{Constructs}
+use Rattle.markdown_definition.specs.declared.beside.Beside.{Beside}
 use Rattle.markdown_definition.specs.declared.container.Container.{Container}
 use Rattle.markdown_definition.specs.declared.container.Container.TheVariants.{Quote, Item}
 use Rattle.markdown_definition.specs.Lines.{TextLine, lines}
@@ -25,7 +26,7 @@ use Rattle.markdown_definition.specs.Content.{content_of}
 use Rattle.markdown_definition.specs.Definitions.{lines_before, Cut, cut_into, cut_after, cut_most, cut}
 use Rattle.markdown_definition.specs.Tree.{one, ended, own_lines, empty_tree, nothing, tree, blanks, paragraph_of, close_leaf, is_ending, all_endings, front, trailing, without_last, last_of, holds, close}
 use Rattle.markdown_definition.specs.Tree.{has_text, leaf_with_line, with_line, rest_line, indented_takes, fenced_takes, html_with, html_takes, takes}
-use Rattle.markdown_definition.specs.Tree.{or_heading, or_fence, or_html, begins, after, text_line_of, break_or_text, text_here, heading_of, underlined, turns, begun, taken, leaf_line, start, new, began_blank, goes_on, grow, step, closed}
+use Rattle.markdown_definition.specs.Tree.{or_heading, or_fence, or_html, begins, after, text_line_of, break_or_text, text_here, heading_of, underlined, turns, begun, taken, leaf_line, beside_in, start, new, began_blank, goes_on, grow, beside_line, step, closed}
 use Rattle.markdown_definition.specs.Tree.{BlockLine, Block, Paragraph, Heading, Break, IndentedCode, FencedCode, Html, Definition, Holds, Items, Ending, Blank, Blocks, Nil, Cons, join, blocks}
 use Rattle.markdown_definition.specs.Tree.{OpenLeaf, Text, Indented, Fenced, OpenHtml, Opening, Leaf, Inside, Tree as BlockTree}
 use Rattle.markdown_definition.specs.Lists.{before, grouped_block, grouped}
@@ -179,30 +180,30 @@ module _ (on : Constructs) where
   abbrev SomeTreeMayStand : Option BlockTree → Type 0
   SomeTreeMayStand o = WhereSome (TreeMayStand on) o
 
-  may_take_indented : (ls pending : List BlockLine) (rest : Rest) (ending : Option LineEnding) → on.code_indented ≡ true
-      → SomeTreeMayStand (indented_takes on ls pending rest ending)
-  may_take_indented ls pending rest ending h =
+  may_take_indented : (ls pending : List BlockLine) (rest : Rest) (beside : Beside) → on.code_indented ≡ true
+      → SomeTreeMayStand (indented_takes on ls pending rest beside)
+  may_take_indented ls pending rest beside h =
       cond_both (is_blank rest) _ _ SomeTreeMayStand (λ _. (tt, h))
       (λ _. cond_both (starts_code_indented on rest) _ _ SomeTreeMayStand (λ _. (tt, h)) (λ _. tt))
 
-  may_take_fenced : (fence : Fence) (opening : Option LineEnding) (ls : List BlockLine) (rest : Rest) (ending : Option LineEnding) → on.code_fenced ≡ true
-      → SomeTreeMayStand (fenced_takes on fence opening ls rest ending)
-  may_take_fenced fence opening ls rest ending h =
+  may_take_fenced : (fence : Fence) (opening : Option LineEnding) (ls : List BlockLine) (rest : Rest) (beside : Beside) → on.code_fenced ≡ true
+      → SomeTreeMayStand (fenced_takes on fence opening ls rest beside)
+  may_take_fenced fence opening ls rest beside h =
       cond_both (is_fence_end on fence rest) _ _ SomeTreeMayStand (λ _. ((h, (tt, tt)), tt)) (λ _. (tt, h))
 
-  may_html : (kind : ℕ) (ls : List BlockLine) (rest : Rest) (ending : Option LineEnding) → on.html_flow ≡ true → TreeMayStand on (html_with kind ls rest ending)
-  may_html kind ls rest ending h = cond_both (html_ends_here kind rest) _ _ (TreeMayStand on) (λ _. ((h, (tt, tt)), tt)) (λ _. (tt, h))
+  may_html : (kind : ℕ) (ls : List BlockLine) (rest : Rest) (beside : Beside) → on.html_flow ≡ true → TreeMayStand on (html_with kind ls rest beside)
+  may_html kind ls rest beside h = cond_both (html_ends_here kind rest) _ _ (TreeMayStand on) (λ _. ((h, (tt, tt)), tt)) (λ _. (tt, h))
 
-  may_take_html : (kind : ℕ) (ls : List BlockLine) (rest : Rest) (ending : Option LineEnding) → on.html_flow ≡ true
-      → SomeTreeMayStand (html_takes kind ls rest ending)
-  may_take_html kind ls rest ending h =
-      cond_both (ends_before_blank kind && is_blank rest) _ _ SomeTreeMayStand (λ _. tt) (λ _. may_html kind ls rest ending h)
+  may_take_html : (kind : ℕ) (ls : List BlockLine) (rest : Rest) (beside : Beside) → on.html_flow ≡ true
+      → SomeTreeMayStand (html_takes kind ls rest beside)
+  may_take_html kind ls rest beside h =
+      cond_both (ends_before_blank kind && is_blank rest) _ _ SomeTreeMayStand (λ _. tt) (λ _. may_html kind ls rest beside h)
 
-  may_take : (leaf : OpenLeaf) (rest : Rest) (ending : Option LineEnding) → LeafMayStand on leaf → SomeTreeMayStand (takes on leaf rest ending)
-  may_take (Text ls) rest ending p = tt
-  may_take (Indented ls pending) rest ending p = may_take_indented ls pending rest ending p
-  may_take (Fenced fence opening ls) rest ending p = may_take_fenced fence opening ls rest ending p
-  may_take (OpenHtml kind ls) rest ending p = may_take_html kind ls rest ending p
+  may_take : (leaf : OpenLeaf) (rest : Rest) (beside : Beside) → LeafMayStand on leaf → SomeTreeMayStand (takes on leaf rest beside)
+  may_take (Text ls) rest beside p = tt
+  may_take (Indented ls pending) rest beside p = may_take_indented ls pending rest beside p
+  may_take (Fenced fence opening ls) rest beside p = may_take_fenced fence opening ls rest beside p
+  may_take (OpenHtml kind ls) rest beside p = may_take_html kind ls rest beside p
 
   -- a heading, a fence and an HTML block are read where they are on
   may_or_heading : (ending : Option LineEnding) (o : Option Atx) → WhereSome (λ (a : Atx). on.heading_atx ≡ true) o → SomeTreeMayStand (or_heading ending o)
@@ -214,18 +215,18 @@ module _ (on : Constructs) where
   may_or_fence ending None other p q = q
   may_or_fence ending (Some f) other p q = (tt, p)
 
-  may_or_html : (rest : Rest) (ending : Option LineEnding) (o : Option ℕ) (other : Option BlockTree) → WhereSome (λ (k : ℕ). on.html_flow ≡ true) o
-      → SomeTreeMayStand other → SomeTreeMayStand (or_html rest ending o other)
-  may_or_html rest ending None other p q = q
-  may_or_html rest ending (Some kind) other p q = may_html kind [] rest ending p
+  may_or_html : (rest : Rest) (beside : Beside) (o : Option ℕ) (other : Option BlockTree) → WhereSome (λ (k : ℕ). on.html_flow ≡ true) o
+      → SomeTreeMayStand other → SomeTreeMayStand (or_html rest beside o other)
+  may_or_html rest beside None other p q = q
+  may_or_html rest beside (Some kind) other p q = may_html kind [] rest beside p
 
-  may_begin : (paragraph : Bool) (rest : Rest) (ending : Option LineEnding) → SomeTreeMayStand (begins on paragraph rest ending)
-  may_begin paragraph rest ending =
+  may_begin : (paragraph : Bool) (rest : Rest) (beside : Beside) → SomeTreeMayStand (begins on paragraph rest beside)
+  may_begin paragraph rest beside =
       cond_both (starts_code_indented on rest && not paragraph) _ _ SomeTreeMayStand
       (λ e. (tt, (and_parts on.code_indented _ (and_parts (starts_code_indented on rest) (not paragraph) e).0).0))
-      (λ _. may_or_fence ending (fence_start on rest) _ (guarded on.code_fenced (small_indent on rest) _)
-      (may_or_html rest ending (html_start on paragraph rest) _ (guarded on.html_flow (small_indent on rest) _)
-      (may_or_heading ending (heading_atx on rest) (guarded on.heading_atx (small_indent on rest) _))))
+      (λ _. may_or_fence beside.ending (fence_start on rest) _ (guarded on.code_fenced (small_indent on rest) _)
+      (may_or_html rest beside (html_start on paragraph rest) _ (guarded on.html_flow (small_indent on rest) _)
+      (may_or_heading beside.ending (heading_atx on rest) (guarded on.heading_atx (small_indent on rest) _))))
 
   may_after : (away : Opening) (t : BlockTree) → OpeningMayStand on away → TreeMayStand on t → TreeMayStand on (after on away t)
   may_after away t p q = (may-join (close on away) t.done (may_close away p) q.0, q.1)
@@ -240,16 +241,16 @@ module _ (on : Constructs) where
   may_with_line line (Leaf leaf) p = may_leaf_with_line line leaf p
   may_with_line line (Inside c kids inner) p = (p.0, p.1, may_with_line line inner p.2)
 
-  may_text : (away : Opening) (rest : Rest) (ending : Option LineEnding) → OpeningMayStand on away → TreeMayStand on (text_line_of on away rest ending)
-  may_text away rest ending p =
-      cond_both (has_text away) _ _ (TreeMayStand on) (λ _. (tt, may_with_line (rest_line rest ending) away p))
-      (λ _. may_after away (tree Nil (Leaf (Text (rest_line rest ending ∷ [])))) p (tt, tt))
+  may_text : (away : Opening) (rest : Rest) (beside : Beside) → OpeningMayStand on away → TreeMayStand on (text_line_of on away rest beside)
+  may_text away rest beside p =
+      cond_both (has_text away) _ _ (TreeMayStand on) (λ _. (tt, may_with_line (rest_line rest beside) away p))
+      (λ _. may_after away (tree Nil (Leaf (Text (rest_line rest beside ∷ [])))) p (tt, tt))
 
-  may_break : (away : Opening) (rest : Rest) (ending : Option LineEnding) → OpeningMayStand on away → TreeMayStand on (break_or_text on away rest ending)
-  may_break away rest ending p =
+  may_break : (away : Opening) (rest : Rest) (beside : Beside) → OpeningMayStand on away → TreeMayStand on (break_or_text on away rest beside)
+  may_break away rest beside p =
       cond_both (is_break on rest) _ _ (TreeMayStand on)
-      (λ e. may_after away (tree (ended Break ending) nothing) p (((and_parts on.thematic_break _ (and_parts (on.thematic_break && small_indent on rest) _ e).0).0, (tt, tt)), tt))
-      (λ _. may_text away rest ending p)
+      (λ e. may_after away (tree (ended Break beside.ending) nothing) p (((and_parts on.thematic_break _ (and_parts (on.thematic_break && small_indent on rest) _ e).0).0, (tt, tt)), tt))
+      (λ _. may_text away rest beside p)
 
   -- an underline gives the rank 1 or 2
   may_underline : (rest : Rest) → WhereSome (λ rank. (on.heading_setext ≡ true) × (leb rank 2 ≡ true)) (underline on rest)
@@ -281,12 +282,12 @@ module _ (on : Constructs) where
   may_taken None other p q = q
   may_taken (Some t) other p q = p
 
-  may_leaf_line : (away : Opening) (rest : Rest) (ending : Option LineEnding) → OpeningMayStand on away → TreeMayStand on (leaf_line on away rest ending)
-  may_leaf_line away rest ending p =
+  may_leaf_line : (away : Opening) (rest : Rest) (beside : Beside) → OpeningMayStand on away → TreeMayStand on (leaf_line on away rest beside)
+  may_leaf_line away rest beside p =
       cond_both (is_blank rest) _ _ (TreeMayStand on)
-      (λ _. may_after away (tree (one (Blank ending)) nothing) p ((tt, tt), tt))
-      (λ _. may_begun (begins on (has_text away) rest ending) away _ (may_begin (has_text away) rest ending) p
-      (may_taken (turns on away rest ending) _ (may_underlined (underline on rest) (text_here away) ending (may_underline rest)) (may_break away rest ending p)))
+      (λ _. may_after away (tree (one (Blank beside.ending)) nothing) p ((tt, tt), tt))
+      (λ _. may_begun (begins on (has_text away) rest beside) away _ (may_begin (has_text away) rest beside) p
+      (may_taken (turns on away rest beside.ending) _ (may_underlined (underline on rest) (text_here away) beside.ending (may_underline rest)) (may_break away rest beside p)))
 
   -- ---- containers
 
@@ -314,39 +315,39 @@ module _ (on : Constructs) where
   may_start_one interrupts rest =
       may_quote_or (item_start on interrupts rest) (quote_prefix on rest) (may_item_start interrupts rest) (guarded on.block_quote (small_indent on rest) _)
 
-  may_start : (o : Option Started) (away : Opening) (other : BlockTree) (more : Rest → BlockTree) → StartedMayStand o → OpeningMayStand on away
-      → TreeMayStand on other → ((rest : Rest) → TreeMayStand on (more rest)) → TreeMayStand on (start on o away other more)
+  may_start : (o : Option Started) (away : Opening) (other : BlockTree) (more : Started → BlockTree) → StartedMayStand o → OpeningMayStand on away
+      → TreeMayStand on other → ((s : Started) → TreeMayStand on (more s)) → TreeMayStand on (start on o away other more)
   may_start None away other more p a q m = q
   may_start (Some s) away other more p a q m =
-      let t = more s.rest in
-      may_after away (tree Nil (Inside s.container t.done t.now)) a (tt, (p, (m s.rest).0, (m s.rest).1))
+      let t = more s in
+      may_after away (tree Nil (Inside s.container t.done t.now)) a (tt, (p, (m s).0, (m s).1))
 
-  may_new : (most : ℕ) (all : Bool) (away : Opening) (ending : Option LineEnding) (rest : Rest) → OpeningMayStand on away
-      → TreeMayStand on (new most on all away ending rest)
-  may_new zero all away ending rest p = may_leaf_line away rest ending p
-  may_new (suc most) all away ending rest p =
-      may_start (starts on (all && has_text away) rest) away (leaf_line on away rest ending) (new most on true nothing ending)
-      (may_start_one (all && has_text away) rest) p (may_leaf_line away rest ending p) (λ others. may_new most true nothing ending others tt)
+  may_new : (most : ℕ) (all : Bool) (away : Opening) (beside : Beside) (rest : Rest) → OpeningMayStand on away
+      → TreeMayStand on (new most on all away beside rest)
+  may_new zero all away beside rest p = may_leaf_line away rest beside p
+  may_new (suc most) all away beside rest p =
+      may_start (starts on (all && has_text away) rest) away (leaf_line on away rest beside) _
+      (may_start_one (all && has_text away) rest) p (may_leaf_line away rest beside p) (λ s. may_new most true nothing (beside_in s.container rest beside) s.rest tt)
 
-  may_go_on : (o : Option Rest) (c : Container) (kids : Blocks) (inner : Opening) (ending : Option LineEnding) (rest : Rest) (more : Rest → BlockTree)
+  may_go_on : (o : Option Rest) (c : Container) (kids : Blocks) (inner : Opening) (beside : Beside) (rest : Rest) (more : Rest → BlockTree)
       → ContainerMayStand on c → MayStand on kids → OpeningMayStand on inner → ((others : Rest) → TreeMayStand on (more others))
-      → TreeMayStand on (goes_on o on c kids inner ending rest more)
-  may_go_on None c kids inner ending rest more h p q m = may_new (length rest) false (Inside c kids inner) ending rest (h, p, q)
-  may_go_on (Some others) c kids inner ending rest more h p q m = (tt, (h, may-join kids (more others).done p (m others).0, (m others).1))
+      → TreeMayStand on (goes_on o on c kids inner beside rest more)
+  may_go_on None c kids inner beside rest more h p q m = may_new (length rest) false (Inside c kids inner) beside rest (h, p, q)
+  may_go_on (Some others) c kids inner beside rest more h p q m = (tt, (h, may-join kids (more others).done p (m others).0, (m others).1))
 
   -- ---- the lines of a text
 
-  may_grow : (ending : Option LineEnding) (now : Opening) (rest : Rest) → OpeningMayStand on now → TreeMayStand on (grow on ending now rest)
-  may_grow ending (Leaf leaf) rest p =
-      may_taken (takes on leaf rest ending) _ (may_take leaf rest ending p) (may_new (length rest) true (Leaf leaf) ending rest p)
-  may_grow ending (Inside c kids inner) rest p =
-      may_go_on (continues on c (began_blank kids inner) rest) c kids inner ending rest (grow on ending inner) p.0 p.1 p.2
-      (λ others. may_grow ending inner others p.2)
+  may_grow : (beside : Beside) (now : Opening) (rest : Rest) → OpeningMayStand on now → TreeMayStand on (grow on beside now rest)
+  may_grow beside (Leaf leaf) rest p =
+      may_taken (takes on leaf rest beside) _ (may_take leaf rest beside p) (may_new (length rest) true (Leaf leaf) beside rest p)
+  may_grow beside (Inside c kids inner) rest p =
+      may_go_on (continues on c (began_blank kids inner) rest) c kids inner beside rest (grow on (beside_in c rest beside) inner) p.0 p.1 p.2
+      (λ others. may_grow (beside_in c rest beside) inner others p.2)
 
   may_step : (t : BlockTree) (line : TextLine) → TreeMayStand on t → TreeMayStand on (step on t line)
   may_step t line p =
-      let more = may_grow line.ending t.now (whole line.content) p.1 in
-      (may-join t.done (grow on line.ending t.now (whole line.content)).done p.0 more.0, more.1)
+      let more = may_grow (beside_line line) t.now (whole line.content) p.1 in
+      (may-join t.done (grow on (beside_line line) t.now (whole line.content)).done p.0 more.0, more.1)
 
   may_steps : (ls : List TextLine) (t : BlockTree) → TreeMayStand on t → TreeMayStand on (fold (step on) t ls)
   may_steps [] t p = p

@@ -16,7 +16,7 @@ use Rattle.block_lines.specs.Marks.{NoMark, is_mark}
 other_byte : (b byte : ℕ) → is_mark b ≡ false → is_mark byte ≡ true → eqb b byte ≡ false
 other_byte b byte never mark = ne_eqb b byte (λ e. let wrong : false ≡ true = sym never ∙ ap is_mark e ∙ mark in cc)
 
-after_byte_none : (byte : ℕ) (rest : Rest) → is_mark byte ≡ true → NoMark rest → after_byte byte rest ≡ None
+pub after_byte_none : (byte : ℕ) (rest : Rest) → is_mark byte ≡ true → NoMark rest → after_byte byte rest ≡ None
 after_byte_none byte [] mark never = refl
 after_byte_none byte (b ∷ bs) mark never = cond-false (eqb b byte) _ _ (other_byte b byte (never b bs refl) mark)
 

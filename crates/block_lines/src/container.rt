@@ -3,12 +3,13 @@
 //!     start ::= quote_prefix | item_start
 ghost use Rattle.std.specs.Prelude.{◌≡◌};
 ghost use Rattle.markdown_definition.specs.Containers.{continues as goes_on, starts as starts_here};
+ghost use Rattle.markdown_definition.specs.Tree.{kind_after as kind_inside};
 ghost use Rattle.block_lines.specs.View.{rest_of, rest_if, started_if};
 
-use crate::block_quote::quote_prefix;
+use crate::block_quote::{kind_after_mark, quote_prefix};
 use crate::cursor::Cursor;
 use crate::list_item::{item_continues, item_start};
-use markdown_definition::Container;
+use markdown_definition::{Container, Kind};
 use markdown_options::Constructs;
 
 /// The rest after what the container has on this line, if it goes on. `began_blank` says of an item
@@ -39,5 +40,15 @@ pub fn starts<'a>(
     match quote_prefix(on, rest) {
         Some(after) => Some((Container::Quote, after)),
         None => item_start(on, interrupts, rest),
+    }
+}
+
+/// The kind of the character before what a container's prefix leaves of this rest.
+pub fn kind_after(container: Container, rest: Cursor<'_>) -> Kind
+    ensures { result ≡ kind_inside container (rest_of rest.entry) }
+{
+    match container {
+        Container::Quote => kind_after_mark(rest),
+        Container::Item(_) => Kind::Whitespace,
     }
 }

@@ -5,6 +5,7 @@ use Rattle.std.proofs.lemmas.List.{append-nil}
 use Rattle.std.specs.Prelude.{map, if◌then◌else◌}
 use Rattle.markdown_options.specs.declared.line_ending.LineEnding.{LineEnding}
 use Rattle.markdown_options.specs.declared.configuration.Constructs.{Constructs}
+use Rattle.markdown_definition.specs.declared.beside.Beside.{Beside}
 use Rattle.markdown_definition.specs.declared.container.Container.{Container}
 use Rattle.markdown_definition.specs.declared.row.Row.{Row}
 use Rattle.markdown_definition.specs.declared.row.Row.TheVariants as row
@@ -12,7 +13,7 @@ use Rattle.markdown_definition.specs.Columns.{Rest}
 use Rattle.markdown_definition.specs.Containers.{continues}
 use Rattle.markdown_definition.specs.CodeFenced.{Fence}
 use Rattle.markdown_definition.specs.LinkDefinition.{Definition as LinkDefinition}
-use Rattle.markdown_definition.specs.Tree.{BlockLine, Block, Paragraph, Heading, Break, IndentedCode, FencedCode, Html, Definition, Holds, Items, Ending, Blank, Blocks, Nil, Cons, join, all_endings, front, trailing, Text, Indented, Fenced, OpenHtml, Opening, Leaf, Inside, Tree, grow, goes_on, new, began_blank, is_nothing, is_one_blank, last_ending_or}
+use Rattle.markdown_definition.specs.Tree.{BlockLine, Block, Paragraph, Heading, Break, IndentedCode, FencedCode, Html, Definition, Holds, Items, Ending, Blank, Blocks, Nil, Cons, join, all_endings, front, trailing, Text, Indented, Fenced, OpenHtml, Opening, Leaf, Inside, Tree, beside_in, grow, goes_on, new, began_blank, is_nothing, is_one_blank, last_ending_or}
 use Rattle.markdown_definition.specs.Rows.{definition_on, definition_shown, BlockRow, Single, rows_of}
 use Rattle.block_tree.specs.Spine.{Level, level, Spine, spine, spine_at, spine_of, grown, containers_of}
 use Rattle.block_tree.specs.Waits.{is_one_blank_row}
@@ -52,10 +53,10 @@ container-at around kids inner_kids c d inner =
 abbrev pub Began : Tree → ℕ → Bool → Type 0
 Began t depth b = (around : List Level) (kids inner_kids : Blocks) (c : Container) (inner : Opening) → depth ≡ length around → spine_at around kids (Inside c inner_kids inner) ≡ spine_of t → b ≡ began_blank inner_kids inner
 
-module _ (on : Constructs) (ending : Option LineEnding) (line : Rest) (t : Tree) (depth : ℕ) (rest : Rest) (containers : List Container)
+module _ (on : Constructs) (beside : Beside) (line : Rest) (t : Tree) (depth : ℕ) (rest : Rest) (here : Beside) (containers : List Container)
     (opened : containers ≡ containers_of (spine_of t).around) (lt : depth < length containers) (c : Container) (is : c ≡ get_or containers depth c) (b : Bool) (began : Began t depth b) where
   goes-inside : (after : Rest) → continues on c b rest ≡ Some after → (around : List Level) (kids : Blocks) (now : Opening) → depth ≡ length around → spine_at around kids now ≡ spine_of t
-      → grown [] t.done (grow on ending t.now line) ≡ grown around kids (grow on ending now rest) → Descent on ending line t 0 (depth + 1) after
+      → grown [] t.done (grow on beside t.now line) ≡ grown around kids (grow on here now rest) → Descent on beside line t 0 (depth + 1) after (beside_in c rest here)
   goes-inside after h around kids (Leaf leaf) deep same grows =
       absurd (omega (arith, ap length opened, length-containers (spine_of t).around, ap (λ (s : Spine). length s.around) same))
   goes-inside after h around kids (Inside inner_c inner_kids inner) deep same grows =
@@ -72,16 +73,17 @@ module _ (on : Constructs) (ending : Option LineEnding) (line : Rest) (t : Tree)
         same = same;
         grows =
             grows
-            ∙ ap (λ o. grown around kids (goes_on o on inner_c inner_kids inner ending rest (grow on ending inner))) goes
-            ∙ ap (λ (bs : Blocks). spine_at (level inner_c bs ∷ around) (join inner_kids (grow on ending inner after).done) (grow on ending inner after).now) (join-nil kids);
+            ∙ ap (λ o. grown around kids (goes_on o on inner_c inner_kids inner here rest (grow on (beside_in inner_c rest here) inner))) goes
+            ∙ ap (λ (bs : Blocks). spine_at (level inner_c bs ∷ around) (join inner_kids (grow on (beside_in inner_c rest here) inner after).done) (grow on (beside_in inner_c rest here) inner after).now) (join-nil kids)
+            ∙ ap (λ x. grown (level inner_c kids ∷ around) inner_kids (grow on (beside_in x rest here) inner after)) (sym same_c);
         stuck = λ wrong. absurd (omega arith);
       }
 
-  pub goes_inside : (after : Rest) → continues on c b rest ≡ Some after → Descent on ending line t 0 depth rest → Descent on ending line t 0 (depth + 1) after
+  pub goes_inside : (after : Rest) → continues on c b rest ≡ Some after → Descent on beside line t 0 depth rest here → Descent on beside line t 0 (depth + 1) after (beside_in c rest here)
   goes_inside after h d = goes-inside after h d.around d.kids d.now d.deep d.same d.grows
 
   stays-outside : continues on c b rest ≡ None → (around : List Level) (kids : Blocks) (now : Opening) → depth ≡ length around → spine_at around kids now ≡ spine_of t
-      → grow on ending now rest ≡ new (length rest) on false now ending rest
+      → grow on here now rest ≡ new (length rest) on false now here rest
   stays-outside h around kids (Leaf leaf) deep same =
       absurd (omega (arith, ap length opened, length-containers (spine_of t).around, ap (λ (s : Spine). length s.around) same))
   stays-outside h around kids (Inside inner_c inner_kids inner) deep same =
@@ -90,9 +92,9 @@ module _ (on : Constructs) (ending : Option LineEnding) (line : Rest) (t : Tree)
       ∙ container-at around kids inner_kids inner_c c inner in
       let stops : continues on inner_c (began_blank inner_kids inner) rest ≡ None =
       ap (λ x. continues on x (began_blank inner_kids inner) rest) (sym same_c) ∙ ap (λ x. continues on c x rest) (sym (began around kids inner_kids inner_c inner deep same)) ∙ h in
-      ap (λ o. goes_on o on inner_c inner_kids inner ending rest (grow on ending inner)) stops
+      ap (λ o. goes_on o on inner_c inner_kids inner here rest (grow on (beside_in inner_c rest here) inner)) stops
 
-  pub stays_outside : continues on c b rest ≡ None → Descent on ending line t 0 depth rest → Descent on ending line t (length containers) depth rest
+  pub stays_outside : continues on c b rest ≡ None → Descent on beside line t 0 depth rest here → Descent on beside line t (length containers) depth rest here
   stays_outside h d = record { around = d.around; kids = d.kids; now = d.now; deep = d.deep; same = d.same; grows = d.grows; stuck = λ lt. stays-outside h d.around d.kids d.now d.deep d.same }
 
 -- ---- whether a container began with a blank line
@@ -208,7 +210,7 @@ pub no_deeper : (containers : List Container) (around : List Level) (kids : Bloc
 no_deeper containers around kids now opened all =
     omega (arith, ap length opened, all, length-containers (spine_at around kids now).around, length-around around kids now)
 
-module _ (P Q : Spine → Type 0) (on : Constructs) (e : Option LineEnding) (r : Rest) where
+module _ (P Q : Spine → Type 0) (on : Constructs) (e : Beside) (r : Rest) where
   pub text_grows : (around : List Level) (kids : Blocks) (now : Opening) → opening_depth now ≡ 0 → InText ≡ state_of (spine_at around kids now).leaf
       → Q (grown around kids (new (length r) on true now e r)) → Q (grown around kids (grow on e now r))
   text_grows around kids (Leaf (Text ls)) none is h = h

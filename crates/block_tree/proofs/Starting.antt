@@ -3,8 +3,8 @@ use Rattle.std.proofs.Common.{◌≡◌, ℕ, zero, suc, ◌+◌, ◌≤◌, ◌
 use Rattle.std.proofs.lemmas.List.{length-drop}
 use Rattle.std.specs.Prelude.{min}
 use Rattle.std.specs.List.{prefix_len}
-use Rattle.markdown_options.specs.declared.line_ending.LineEnding.{LineEnding}
 use Rattle.markdown_options.specs.declared.configuration.Constructs.{Constructs}
+use Rattle.markdown_definition.specs.declared.beside.Beside.{Beside}
 use Rattle.markdown_definition.specs.declared.container.Container.{Container}
 use Rattle.markdown_definition.specs.Columns.{Rest, bare, indent}
 use Rattle.markdown_definition.specs.Indents.{small_indent}
@@ -13,7 +13,7 @@ use Rattle.markdown_definition.specs.ThematicBreak.{is_break}
 use Rattle.markdown_definition.specs.BlockQuote.{after_byte, after_mark, quote_prefix}
 use Rattle.markdown_definition.specs.ListItem.{Marker, marker_of, is_digit, number_of, bullet, delimiter, ordered, marker, gap, is_item, item, item_after, item_start}
 use Rattle.markdown_definition.specs.Containers.{quote_or, starts}
-use Rattle.markdown_definition.specs.Tree.{Blocks, Nil, join, Opening, Inside, Tree, tree, nothing, after, has_text, leaf_line, start, new, with_paragraph}
+use Rattle.markdown_definition.specs.Tree.{Blocks, Nil, join, Opening, Inside, Tree, tree, nothing, after, has_text, leaf_line, beside_in, start, new, with_paragraph}
 use Rattle.markdown_definition.specs.Definitions.{cut_into, cut_most}
 use Rattle.block_tree.specs.Spine.{Level, level, spine_at, grown}
 use Rattle.block_tree.specs.View.{new_inside}
@@ -93,41 +93,47 @@ starts-none on interrupts (Some s) h = absurd (omega (arith, h))
 
 -- ---- enough containers may start
 
-module _ (on : Constructs) (ending : Option LineEnding) where
-  start-same : (n : ℕ) (o : Option Started) (away : Opening) (other : Tree) (f g : Rest → Tree) → Shorter n o
-      → ((rest : Rest) → length rest < n → f rest ≡ g rest) → start on o away other f ≡ start on o away other g
+module _ (on : Constructs) where
+  start-same : (n : ℕ) (o : Option Started) (away : Opening) (other : Tree) (f g : Started → Tree) → Shorter n o
+      → ((s : Started) → length s.rest < n → f s ≡ g s) → start on o away other f ≡ start on o away other g
   start-same n None away other f g h same = refl
-  start-same n (Some s) away other f g h same = ap (λ (t : Tree). after on away (tree Nil (Inside s.container t.done t.now))) (same s.rest h)
+  start-same n (Some s) away other f g h same = ap (λ (t : Tree). after on away (tree Nil (Inside s.container t.done t.now))) (same s h)
 
-  new-same : (m n : ℕ) (all : Bool) (away : Opening) (rest : Rest) → length rest ≤ m → length rest ≤ n → new m on all away ending rest ≡ new n on all away ending rest
-  new-same zero zero all away rest h k = refl
-  new-same zero (suc n) all away [] h k =
-      sym (ap (λ o. start on o away (leaf_line on away [] ending) (new n on true nothing ending)) (starts-none on (all && has_text away) _ (starts-shorter on (all && has_text away) [])))
-  new-same zero (suc n) all away (code ∷ codes) h k = absurd (omega (arith, h))
-  new-same (suc m) zero all away [] h k =
-      ap (λ o. start on o away (leaf_line on away [] ending) (new m on true nothing ending)) (starts-none on (all && has_text away) _ (starts-shorter on (all && has_text away) []))
-  new-same (suc m) zero all away (code ∷ codes) h k = absurd (omega (arith, k))
-  new-same (suc m) (suc n) all away rest h k =
-      start-same (length rest) (starts on (all && has_text away) rest) away (leaf_line on away rest ending) (new m on true nothing ending) (new n on true nothing ending)
+  -- what starts in the container that starts on a rest
+  abbrev inner_new : ℕ → Beside → Rest → Started → Tree
+  inner_new n beside rest s = new n on true nothing (beside_in s.container rest beside) s.rest
+
+  new-same : (m n : ℕ) (all : Bool) (away : Opening) (beside : Beside) (rest : Rest) → length rest ≤ m → length rest ≤ n
+      → new m on all away beside rest ≡ new n on all away beside rest
+  new-same zero zero all away beside rest h k = refl
+  new-same zero (suc n) all away beside [] h k =
+      sym (ap (λ o. start on o away (leaf_line on away [] beside) (inner_new n beside [])) (starts-none on (all && has_text away) _ (starts-shorter on (all && has_text away) [])))
+  new-same zero (suc n) all away beside (code ∷ codes) h k = absurd (omega (arith, h))
+  new-same (suc m) zero all away beside [] h k =
+      ap (λ o. start on o away (leaf_line on away [] beside) (inner_new m beside [])) (starts-none on (all && has_text away) _ (starts-shorter on (all && has_text away) []))
+  new-same (suc m) zero all away beside (code ∷ codes) h k = absurd (omega (arith, k))
+  new-same (suc m) (suc n) all away beside rest h k =
+      start-same (length rest) (starts on (all && has_text away) rest) away (leaf_line on away rest beside) (inner_new m beside rest) (inner_new n beside rest)
       (starts-shorter on (all && has_text away) rest)
-      (λ other lt. new-same m n true nothing other (omega (arith, h, lt)) (omega (arith, k, lt)))
+      (λ s lt. new-same m n true nothing (beside_in s.container rest beside) s.rest (omega (arith, h, lt)) (omega (arith, k, lt)))
 
+module _ (on : Constructs) (beside : Beside) where
   -- no container starts
-  pub new_none : (n : ℕ) (all : Bool) (away : Opening) (rest : Rest) → starts on (all && has_text away) rest ≡ None → new n on all away ending rest ≡ leaf_line on away rest ending
+  pub new_none : (n : ℕ) (all : Bool) (away : Opening) (rest : Rest) → starts on (all && has_text away) rest ≡ None → new n on all away beside rest ≡ leaf_line on away rest beside
   new_none zero all away rest h = refl
-  new_none (suc n) all away rest h = ap (λ o. start on o away (leaf_line on away rest ending) (new n on true nothing ending)) h
+  new_none (suc n) all away rest h = ap (λ o. start on o away (leaf_line on away rest beside) (inner_new on n beside rest)) h
 
   -- a container starts
   new-some : (n : ℕ) (all : Bool) (away : Opening) (rest : Rest) (s : Started) → length rest ≤ n → starts on (all && has_text away) rest ≡ Some s
-      → let t = new_inside on ending s.rest in new n on all away ending rest ≡ after on away (tree Nil (Inside s.container t.done t.now))
+      → let t = new_inside on (beside_in s.container rest beside) s.rest in new n on all away beside rest ≡ after on away (tree Nil (Inside s.container t.done t.now))
   new-some zero all away rest s le h = absurd (omega (arith, le, start-shorter on (all && has_text away) rest s h))
   new-some (suc n) all away rest s le h =
-      ap (λ o. start on o away (leaf_line on away rest ending) (new n on true nothing ending)) h
+      ap (λ o. start on o away (leaf_line on away rest beside) (inner_new on n beside rest)) h
       ∙ ap (λ (t : Tree). after on away (tree Nil (Inside s.container t.done t.now)))
-      (new-same n (length s.rest) true nothing s.rest (omega (arith, le, start-shorter on (all && has_text away) rest s h)) (omega arith))
+      (new-same on n (length s.rest) true nothing (beside_in s.container rest beside) s.rest (omega (arith, le, start-shorter on (all && has_text away) rest s h)) (omega arith))
 
   pub new_some : (all : Bool) (away : Opening) (rest : Rest) (s : Started) → starts on (all && has_text away) rest ≡ Some s
-      → let t = new_inside on ending s.rest in new (length rest) on all away ending rest ≡ after on away (tree Nil (Inside s.container t.done t.now))
+      → let t = new_inside on (beside_in s.container rest beside) s.rest in new (length rest) on all away beside rest ≡ after on away (tree Nil (Inside s.container t.done t.now))
   new_some all away rest s h = new-some (length rest) all away rest s (omega arith) h
 
   -- what is new is in the container that started
@@ -144,7 +150,7 @@ module _ (on : Constructs) (ending : Option LineEnding) where
 
   -- one container more
   pub inside_more : (around : List Level) (kids : Blocks) (rest : Rest) (s : Started) → starts on false rest ≡ Some s
-      → grown around kids (new_inside on ending rest) ≡ grown (level s.container kids ∷ around) Nil (new_inside on ending s.rest)
+      → grown around kids (new_inside on beside rest) ≡ grown (level s.container kids ∷ around) Nil (new_inside on (beside_in s.container rest beside) s.rest)
   inside_more around kids rest s is =
-      let t = new_inside on ending s.rest in
-      ap (grown around kids) (new_some true nothing rest s is ∙ after-nothing (tree Nil (Inside s.container t.done t.now))) ∙ grown-inside around kids s.container (new_inside on ending s.rest)
+      let t = new_inside on (beside_in s.container rest beside) s.rest in
+      ap (grown around kids) (new_some true nothing rest s is ∙ after-nothing (tree Nil (Inside s.container t.done t.now))) ∙ grown-inside around kids s.container t

@@ -3,6 +3,7 @@ use Rattle.std.proofs.Common.{◌≡◌, ℕ, List, [], ◌∷◌, ◌++◌, Opt
 use Rattle.std.proofs.lemmas.Bool.{cond-true, cond-false}
 use Rattle.markdown_options.specs.declared.line_ending.LineEnding.{LineEnding}
 use Rattle.markdown_options.specs.declared.configuration.Constructs.{Constructs}
+use Rattle.markdown_definition.specs.declared.beside.Beside.{Beside}
 use Rattle.markdown_definition.specs.Columns.{Rest, is_blank}
 use Rattle.markdown_definition.specs.Indents.{outdented}
 use Rattle.markdown_definition.specs.CodeIndented.{starts_code_indented}
@@ -13,7 +14,7 @@ use Rattle.markdown_definition.specs.HeadingSetext.{underline}
 use Rattle.markdown_definition.specs.ThematicBreak.{is_break}
 use Rattle.markdown_definition.specs.Definitions.{cut, cut_into, cut_most}
 use Rattle.markdown_definition.specs.ParagraphLines.{AreLines}
-use Rattle.markdown_definition.specs.Tree.{BlockLine, block_line, Heading, Break, FencedCode, Blank, Blocks, Nil, join, one, ended, OpenLeaf, Text, Indented, Fenced, OpenHtml, Opening, Leaf, Inside, Tree, tree, nothing, close, after, leaf_text, open_text, text_here, is_some_line, has_text, own_lines, with_line, rest_line, leaf_line, begun, or_fence, or_html, or_heading, html_with, break_or_text, text_line_of, taken, turns, underlined, heading_of, new}
+use Rattle.markdown_definition.specs.Tree.{BlockLine, spaced_line, Heading, Break, FencedCode, Blank, Blocks, Nil, join, one, ended, OpenLeaf, Text, Indented, Fenced, OpenHtml, Opening, Leaf, Inside, Tree, tree, nothing, close, after, leaf_text, open_text, text_here, is_some_line, has_text, own_lines, with_line, rest_line, leaf_line, begun, or_fence, or_html, or_heading, html_with, break_or_text, text_line_of, taken, turns, underlined, heading_of, new}
 use Rattle.block_tree.specs.Spine.{Level, level, Spine, spine, spine_at, grown}
 use Rattle.block_tree.specs.Turns.{IsText, headed, turned_by}
 use Rattle.block_tree.specs.View.{leaf_grown}
@@ -22,7 +23,7 @@ use Rattle.block_tree.proofs.Closing.{after_added, opening_depth}
 
 -- ---- the open leaf takes a line
 
-module _ (on : Constructs) (e : Option LineEnding) (r : Rest) where
+module _ (on : Constructs) (e : Beside) (r : Rest) where
   abbrev other_line : OpenLeaf → Tree
   other_line leaf = new (length r) on true (Leaf leaf) e r
 
@@ -41,7 +42,7 @@ module _ (on : Constructs) (e : Option LineEnding) (r : Rest) where
       ap (λ o. taken o (other_line (Indented ls pending))) (cond-false (is_blank r) _ _ h ∙ cond-false (starts_code_indented on r) _ _ k)
 
   pub fenced_end : (f : Fence) (opening : Option LineEnding) (ls : List BlockLine) → is_fence_end on f r ≡ true
-      → leaf_grown on e r (Leaf (Fenced f opening ls)) ≡ tree (ended (FencedCode f.info true ls) e) nothing
+      → leaf_grown on e r (Leaf (Fenced f opening ls)) ≡ tree (ended (FencedCode f.info true ls) e.ending) nothing
   fenced_end f opening ls h = ap (λ o. taken o (other_line (Fenced f opening ls))) (cond-true (is_fence_end on f r) _ _ h)
 
   pub fenced_goes_on : (f : Fence) (opening : Option LineEnding) (ls : List BlockLine) → is_fence_end on f r ≡ false
@@ -50,7 +51,7 @@ module _ (on : Constructs) (e : Option LineEnding) (r : Rest) where
 
 -- ---- an HTML block takes a line
 
-module _ (on : Constructs) (e : Option LineEnding) (r : Rest) (kind : ℕ) (ls : List BlockLine) where
+module _ (on : Constructs) (e : Beside) (r : Rest) (kind : ℕ) (ls : List BlockLine) where
   pub html_goes_on : (ends_before_blank kind && is_blank r) ≡ false → leaf_grown on e r (Leaf (OpenHtml kind ls)) ≡ html_with kind ls r e
   html_goes_on h = ap (λ o. taken o (new (length r) on true (Leaf (OpenHtml kind ls)) e r)) (cond-false (ends_before_blank kind && is_blank r) _ _ h)
 
@@ -59,14 +60,14 @@ module _ (on : Constructs) (e : Option LineEnding) (r : Rest) (kind : ℕ) (ls :
 
 -- ---- a line that the open leaf doesn't take
 
-module _ (on : Constructs) (away : Opening) (r : Rest) (e : Option LineEnding) where
+module _ (on : Constructs) (away : Opening) (r : Rest) (e : Beside) where
   abbrev rest_of_leaves : Option Tree → Tree
-  rest_of_leaves o = begun on o away (taken (turns on away r e) (break_or_text on away r e))
+  rest_of_leaves o = begun on o away (taken (turns on away r e.ending) (break_or_text on away r e))
 
   abbrev html_or_heading : Option ℕ → Option Tree
-  html_or_heading o = or_html r e o (or_heading e (heading_atx on r))
+  html_or_heading o = or_html r e o (or_heading e.ending (heading_atx on r))
 
-  pub blank_leaf : is_blank r ≡ true → leaf_line on away r e ≡ after on away (tree (one (Blank e)) nothing)
+  pub blank_leaf : is_blank r ≡ true → leaf_line on away r e ≡ after on away (tree (one (Blank e.ending)) nothing)
   blank_leaf h = cond-true (is_blank r) _ _ h
 
   module _ (h : is_blank r ≡ false) where
@@ -76,39 +77,39 @@ module _ (on : Constructs) (away : Opening) (r : Rest) (e : Option LineEnding) w
 
     module _ (k : (starts_code_indented on r && not (has_text away)) ≡ false) where
       -- no indented code begins
-      other_leaf : leaf_line on away r e ≡ rest_of_leaves (or_fence e (fence_start on r) (html_or_heading (html_start on (has_text away) r)))
+      other_leaf : leaf_line on away r e ≡ rest_of_leaves (or_fence e.ending (fence_start on r) (html_or_heading (html_start on (has_text away) r)))
       other_leaf = cond-false (is_blank r) _ _ h ∙ ap rest_of_leaves (cond-false (starts_code_indented on r && not (has_text away)) _ _ k)
 
-      pub fenced_leaf : (f : Fence) → fence_start on r ≡ Some f → leaf_line on away r e ≡ after on away (tree Nil (Leaf (Fenced f e [])))
-      fenced_leaf f fence = other_leaf ∙ ap (λ o. rest_of_leaves (or_fence e o (html_or_heading (html_start on (has_text away) r)))) fence
+      pub fenced_leaf : (f : Fence) → fence_start on r ≡ Some f → leaf_line on away r e ≡ after on away (tree Nil (Leaf (Fenced f e.ending [])))
+      fenced_leaf f fence = other_leaf ∙ ap (λ o. rest_of_leaves (or_fence e.ending o (html_or_heading (html_start on (has_text away) r)))) fence
 
       module _ (fence : fence_start on r ≡ None) where
         -- and no fenced code
         html_leaves : leaf_line on away r e ≡ rest_of_leaves (html_or_heading (html_start on (has_text away) r))
-        html_leaves = other_leaf ∙ ap (λ o. rest_of_leaves (or_fence e o (html_or_heading (html_start on (has_text away) r)))) fence
+        html_leaves = other_leaf ∙ ap (λ o. rest_of_leaves (or_fence e.ending o (html_or_heading (html_start on (has_text away) r)))) fence
 
         pub html_leaf : (kind : ℕ) → html_start on (has_text away) r ≡ Some kind → leaf_line on away r e ≡ after on away (html_with kind [] r e)
         html_leaf kind html = html_leaves ∙ ap (λ o. rest_of_leaves (html_or_heading o)) html
 
         module _ (html : html_start on (has_text away) r ≡ None) where
           -- and no HTML block
-          heading_leaves : leaf_line on away r e ≡ rest_of_leaves (or_heading e (heading_atx on r))
+          heading_leaves : leaf_line on away r e ≡ rest_of_leaves (or_heading e.ending (heading_atx on r))
           heading_leaves = html_leaves ∙ ap (λ o. rest_of_leaves (html_or_heading o)) html
 
           pub heading_leaf : (atx : Atx) → heading_atx on r ≡ Some atx
-              → leaf_line on away r e ≡ after on away (tree (ended (Heading atx.rank (block_line atx.content None ∷ [])) e) nothing)
-          heading_leaf atx heading = heading_leaves ∙ ap (λ o. rest_of_leaves (or_heading e o)) heading
+              → leaf_line on away r e ≡ after on away (tree (ended (Heading atx.rank (spaced_line atx.content None ∷ [])) e.ending) nothing)
+          heading_leaf atx heading = heading_leaves ∙ ap (λ o. rest_of_leaves (or_heading e.ending o)) heading
 
           module _ (heading : heading_atx on r ≡ None) where
             -- and no heading
-            last_leaves : leaf_line on away r e ≡ taken (turns on away r e) (break_or_text on away r e)
-            last_leaves = heading_leaves ∙ ap (λ o. rest_of_leaves (or_heading e o)) heading
+            last_leaves : leaf_line on away r e ≡ taken (turns on away r e.ending) (break_or_text on away r e)
+            last_leaves = heading_leaves ∙ ap (λ o. rest_of_leaves (or_heading e.ending o)) heading
 
-            pub turned_leaf : (t : Tree) → turns on away r e ≡ Some t → leaf_line on away r e ≡ t
+            pub turned_leaf : (t : Tree) → turns on away r e.ending ≡ Some t → leaf_line on away r e ≡ t
             turned_leaf t turned = last_leaves ∙ ap (λ o. taken o (break_or_text on away r e)) turned
 
-            module _ (unturned : turns on away r e ≡ None) where
-              pub break_leaf : is_break on r ≡ true → leaf_line on away r e ≡ after on away (tree (ended Break e) nothing)
+            module _ (unturned : turns on away r e.ending ≡ None) where
+              pub break_leaf : is_break on r ≡ true → leaf_line on away r e ≡ after on away (tree (ended Break e.ending) nothing)
               break_leaf b = last_leaves ∙ ap (λ o. taken o (break_or_text on away r e)) unturned ∙ cond-true (is_break on r) _ _ b
 
               pub text_leaf : is_break on r ≡ false → leaf_line on away r e ≡ text_line_of on away r e
@@ -184,7 +185,7 @@ module _ (P Q : Spine → Type 0) (l : BlockLine) (more : (around : List Level) 
   longer_at around kids (Leaf (OpenHtml kind ls)) some h = let wrong : false ≡ true = some in cc
   longer_at around kids (Inside c inner_kids inner) some h = longer_at (level c kids ∷ around) inner_kids inner some h
 
-pub goes_longer : (on : Constructs) (P Q : Spine → Type 0) (r : Rest) (e : Option LineEnding)
+pub goes_longer : (on : Constructs) (P Q : Spine → Type 0) (r : Rest) (e : Beside)
     → ((around : List Level) (kids : Blocks) (ls : List BlockLine) → P (spine around kids (Text ls)) → Q (spine around kids (Text (ls ++ rest_line r e ∷ []))))
     → (around : List Level) (kids : Blocks) (away : Opening) → has_text away ≡ true → P (spine_at around kids away) → Q (grown around kids (text_line_of on away r e))
 goes_longer on P Q r e more around kids away some h =
@@ -192,7 +193,7 @@ goes_longer on P Q r e more around kids away some h =
     (subst (λ (bs : Blocks). Q (spine_at around bs (with_line (rest_line r e) away))) (sym (join-nil kids)) (longer_at P Q (rest_line r e) more around kids away some h))
 
 -- or it is the first of one
-pub starts_text : (on : Constructs) (Q : Spine → Type 0) (r : Rest) (e : Option LineEnding) (around : List Level) (kids : Blocks) (away : Opening) → has_text away ≡ false
+pub starts_text : (on : Constructs) (Q : Spine → Type 0) (r : Rest) (e : Beside) (around : List Level) (kids : Blocks) (away : Opening) → has_text away ≡ false
     → Q (spine around (join kids (close on away)) (Text (rest_line r e ∷ []))) → Q (grown around kids (text_line_of on away r e))
 starts_text on Q r e around kids away none h =
     let t = tree Nil (Leaf (Text (rest_line r e ∷ []))) in

@@ -4,7 +4,7 @@ use Rattle.markdown_options.specs.declared.line_ending.LineEnding.{LineEnding}
 use Rattle.markdown_definition.specs.declared.container.Container.{Container}
 use Rattle.markdown_definition.specs.declared.row.Row.{Row}
 use Rattle.markdown_definition.specs.CodeFenced.{Fence}
-use Rattle.markdown_definition.specs.Tree.{BlockLine, block_line, Blocks, Nil, Cons, front, trailing, OpenLeaf, Text, Indented, Fenced, OpenHtml, last_ending, last_ending_or}
+use Rattle.markdown_definition.specs.Tree.{BlockLine, spaced_line, Blocks, Nil, Cons, front, trailing, OpenLeaf, Text, Indented, Fenced, OpenHtml, last_ending, last_ending_or}
 use Rattle.markdown_definition.specs.Rows.{BlockRow, rows_of, row_shown, shown, shown_as}
 use Rattle.block_tree.specs.Spine.{Level, Spine, rows_around, containers_of}
 
@@ -25,7 +25,7 @@ state_of (OpenHtml kind ls) = InHtml kind (last_ending ls)
 abbrev pub leaf_lines : OpenLeaf → List BlockLine
 leaf_lines (Text ls) = ls
 leaf_lines (Indented ls pending) = ls ++ pending
-leaf_lines (Fenced fence opening ls) = block_line fence.info None ∷ ls
+leaf_lines (Fenced fence opening ls) = spaced_line fence.info None ∷ ls
 leaf_lines (OpenHtml kind ls) = ls
 
 -- a row that takes no lines

@@ -1,7 +1,7 @@
 -- What a parser has read.
-use Rattle.std.specs.Prelude.{◌≡◌, ℕ, ◌<◌, true, false, List, [], length, Option}
+use Rattle.std.specs.Prelude.{◌≡◌, ℕ, ◌<◌, true, false, List, [], length}
 use Rattle.markdown_options.specs.declared.configuration.Constructs.{Constructs}
-use Rattle.markdown_options.specs.declared.line_ending.LineEnding.{LineEnding}
+use Rattle.markdown_definition.specs.declared.beside.Beside.{Beside}
 use Rattle.markdown_definition.specs.Columns.{Rest}
 use Rattle.markdown_definition.specs.Tree.{Blocks, Nil, Text, Opening, Leaf, Inside, Tree, tree, nothing, open_text, new, leaf_line, grow}
 use Rattle.markdown_definition.specs.ParagraphLines.{AreLines}
@@ -24,31 +24,31 @@ abbrev pub Grows : {A : Type 0} → Parser A → Parser A → ℕ → (Opening �
 Grows old new depth becomes = (around : List Level) (kids : Blocks) (away : Opening) → depth ≡ length around → AreLines (open_text away) → HasRead old (spine_at around kids away) → HasRead new (grown around kids (becomes away))
 
 -- what a line that is in all containers makes of the open leaf
-abbrev pub leaf_grown : Constructs → Option LineEnding → Rest → Opening → Tree
-leaf_grown on ending rest (Leaf leaf) = grow on ending (Leaf leaf) rest
-leaf_grown on ending rest (Inside c kids inner) = tree Nil (Inside c kids inner)
+abbrev pub leaf_grown : Constructs → Beside → Rest → Opening → Tree
+leaf_grown on beside rest (Leaf leaf) = grow on beside (Leaf leaf) rest
+leaf_grown on beside rest (Inside c kids inner) = tree Nil (Inside c kids inner)
 
 -- how far a line is in the containers that are open
-pub record Descent (on : Constructs) (ending : Option LineEnding) (line : Rest) (t : Tree) (count depth : ℕ) (rest : Rest) : Type 0 where
+pub record Descent (on : Constructs) (beside : Beside) (line : Rest) (t : Tree) (count depth : ℕ) (rest : Rest) (here : Beside) : Type 0 where
   pub around : List Level
   pub kids : Blocks
   pub now : Opening
   pub deep : depth ≡ length around
   pub same : spine_at around kids now ≡ spine_of t
-  pub grows : grown [] t.done (grow on ending t.now line) ≡ grown around kids (grow on ending now rest)
-  pub stuck : depth < count → grow on ending now rest ≡ new (length rest) on false now ending rest
+  pub grows : grown [] t.done (grow on beside t.now line) ≡ grown around kids (grow on here now rest)
+  pub stuck : depth < count → grow on here now rest ≡ new (length rest) on false now here rest
 
 -- what a rest makes where all that was open is closed
-abbrev pub new_inside : Constructs → Option LineEnding → Rest → Tree
-new_inside on ending rest = new (length rest) on true nothing ending rest
+abbrev pub new_inside : Constructs → Beside → Rest → Tree
+new_inside on beside rest = new (length rest) on true nothing beside rest
 
 -- containers started on a line are open, and what they make of the rest is what is left to read
-pub record Inner {A : Type 0} (p : Parser A) (around : List Level) (kids : Blocks) (from to : Option LineEnding → Tree) : Type 0 where
+pub record Inner {A : Type 0} (p : Parser A) (around : List Level) (kids : Blocks) (from to : Tree) : Type 0 where
   pub inner : List Level
   pub inner_kids : Blocks
   pub reads : HasRead p (spine inner inner_kids (Text []))
-  pub grows : (ending : Option LineEnding) → grown around kids (from ending) ≡ grown inner inner_kids (to ending)
+  pub grows : grown around kids from ≡ grown inner inner_kids to
 
 -- all containers that a rest starts are open, and the rest after them starts none
-abbrev pub Entered : {A : Type 0} → Constructs → Rest → Rest → Parser A → List Level → Blocks → Type 0
-Entered on rest after p around kids = Inner p around kids (λ ending. new_inside on ending rest) (λ ending. leaf_line on nothing after ending)
+abbrev pub Entered : {A : Type 0} → Constructs → Rest → Beside → Rest → Beside → Parser A → List Level → Blocks → Type 0
+Entered on rest beside after here p around kids = Inner p around kids (new_inside on beside rest) (leaf_line on nothing after here)

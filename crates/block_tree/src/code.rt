@@ -11,7 +11,7 @@ use crate::parser::{NOTHING, Parser, piece};
 use block_lines::Cursor;
 use block_lines::code_fenced::{Fence, fence_line, is_fence_end};
 use block_lines::code_indented::starts_code_indented;
-use markdown_definition::{Piece, Row};
+use markdown_definition::{Beside, Kind, Piece, Row};
 use markdown_options::{Constructs, LineEnding};
 use std::alloc::{AllocError, Allocator};
 
@@ -34,22 +34,25 @@ impl<'a, A: Allocator> Parser<'a, A> {
         &mut self,
         on: &Constructs,
         rest: Cursor<'a>,
-        ending: Option<LineEnding>,
+        beside: Beside,
     ) -> Result<(), AllocError>
-        ensures { OnOk result ((around : List Level) (kids : Blocks) (ls pending : List BlockLine) → HasRead self.old (spine around kids (IndentedLeaf ls pending)) → HasRead self.new (grown around kids (leaf_grown on.now ending (rest_of rest.entry) (OpenedLeaf (IndentedLeaf ls pending))))) }
+        ensures { OnOk result ((around : List Level) (kids : Blocks) (ls pending : List BlockLine) → HasRead self.old (spine around kids (IndentedLeaf ls pending)) → HasRead self.new (grown around kids (leaf_grown on.now beside (rest_of rest.entry) (OpenedLeaf (IndentedLeaf ls pending))))) }
     {
         if rest.is_blank() {
-            self.pieces.push(piece(rest.outdented(4), ending))?;
+            self.pieces.push(piece(rest.outdented(4), beside))?;
             return Ok(());
         }
         if starts_code_indented(on, rest) {
-            self.pieces.push(piece(rest.outdented(4), ending))?;
+            self.pieces.push(piece(rest.outdented(4), beside))?;
             let count = self.pieces.len() - self.taken;
-            self.leaf = OpenLeaf::Indented { count, ending };
+            self.leaf = OpenLeaf::Indented {
+                count,
+                ending: beside.ending,
+            };
             return Ok(());
         }
         let depth = self.open.len();
-        self.start_line(on, depth, rest, ending)
+        self.start_line(on, depth, rest, beside)
     }
 
     /// Fenced code takes every line up to its closing fence.
@@ -58,30 +61,36 @@ impl<'a, A: Allocator> Parser<'a, A> {
         on: &Constructs,
         fence: Fence<'a>,
         rest: Cursor<'a>,
-        ending: Option<LineEnding>,
+        beside: Beside,
     ) -> Result<(), AllocError>
         requires lines { self.old.taken + 1 ≤ vec_len self.old.pieces }
-        ensures { OnOk result ((around : List Level) (kids : Blocks) (opening : Option LineEnding) (ls : List BlockLine) → HasRead self.old (spine around kids (FencedLeaf (fence_view fence.entry) opening ls)) → HasRead self.new (grown around kids (leaf_grown on.now ending (rest_of rest.entry) (OpenedLeaf (FencedLeaf (fence_view fence.entry) opening ls))))) }
+        ensures { OnOk result ((around : List Level) (kids : Blocks) (opening : Option LineEnding) (ls : List BlockLine) → HasRead self.old (spine around kids (FencedLeaf (fence_view fence.entry) opening ls)) → HasRead self.new (grown around kids (leaf_grown on.now beside (rest_of rest.entry) (OpenedLeaf (FencedLeaf (fence_view fence.entry) opening ls))))) }
     {
         if !is_fence_end(on, &fence, rest) {
-            self.pieces.push(piece(fence_line(&fence, rest), ending))?;
-            self.leaf = OpenLeaf::Fenced { fence, ending };
+            self.pieces.push(piece(fence_line(&fence, rest), beside))?;
+            self.leaf = OpenLeaf::Fenced {
+                fence,
+                ending: beside.ending,
+            };
             return Ok(());
         }
         let count = self.pieces.len() - self.taken - 1;
-        self.end_leaf(Row::FencedCode(count), ending)
+        self.end_leaf(Row::FencedCode(count), beside.ending)
     }
 
     /// Indented code starts, where no leaf is open.
     pub(crate) fn start_indented(
         &mut self,
         rest: Cursor<'a>,
-        ending: Option<LineEnding>,
+        beside: Beside,
     ) -> Result<(), AllocError>
-        ensures { OnOk result (Adds self.old self.new (tree Nil (OpenedLeaf (IndentedLeaf (rest_line (outdented 4 (rest_of rest.entry)) ending ∷ []) [])))) }
+        ensures { OnOk result (Adds self.old self.new (tree Nil (OpenedLeaf (IndentedLeaf (rest_line (outdented 4 (rest_of rest.entry)) beside ∷ []) [])))) }
     {
-        self.pieces.push(piece(rest.outdented(4), ending))?;
-        self.leaf = OpenLeaf::Indented { count: 1, ending };
+        self.pieces.push(piece(rest.outdented(4), beside))?;
+        self.leaf = OpenLeaf::Indented {
+            count: 1,
+            ending: beside.ending,
+        };
         Ok(())
     }
 
@@ -97,6 +106,7 @@ impl<'a, A: Allocator> Parser<'a, A> {
             text: fence.info,
             owed: 0,
             ending: None,
+            before: Kind::Whitespace,
         })?;
         self.leaf = OpenLeaf::Fenced { fence, ending };
         Ok(())

@@ -7,14 +7,14 @@ use crate::parser::Parser;
 use block_lines::Cursor;
 use block_lines::heading_atx::Atx;
 use block_lines::heading_setext::underline;
-use markdown_definition::{Piece, Row};
+use markdown_definition::{Kind, Piece, Row};
 use markdown_options::{Constructs, LineEnding};
 use std::alloc::{AllocError, Allocator};
 
 impl<'a, A: Allocator> Parser<'a, A> {
     ghost use Rattle.std.specs.Prelude.{◌≡◌, IfOk, OnOk, List, Option, ℕ, Some};
     ghost use Rattle.markdown_options.specs.declared.line_ending.LineEnding.{LineEnding};
-    ghost use Rattle.markdown_definition.specs.Tree.{Blocks, BlockLine, tree, nothing, join, ended, block_line, open_text, turns};
+    ghost use Rattle.markdown_definition.specs.Tree.{Blocks, BlockLine, tree, nothing, join, ended, spaced_line, open_text, turns};
     ghost use Rattle.markdown_definition.specs.ParagraphLines.{AreLines};
     ghost use Rattle.block_tree.specs.Turns.{IsText, headed, turned_by};
     ghost use Rattle.markdown_definition.specs.Tree.{Opening, Heading as HeadingBlock, Text as TextLeaf};
@@ -55,12 +55,13 @@ impl<'a, A: Allocator> Parser<'a, A> {
         atx: Atx<'a>,
         ending: Option<LineEnding>,
     ) -> Result<(), AllocError>
-        ensures { OnOk result (Adds self.old self.new (tree (ended (HeadingBlock atx.entry.rank (block_line atx.entry.content.now None ∷ [])) ending) nothing)) }
+        ensures { OnOk result (Adds self.old self.new (tree (ended (HeadingBlock atx.entry.rank (spaced_line atx.entry.content.now None ∷ [])) ending) nothing)) }
     {
         self.pieces.push(Piece {
             text: atx.content,
             owed: 0,
             ending: None,
+            before: Kind::Whitespace,
         })?;
         self.rows.block(Row::Heading(atx.rank))?;
         self.taken += 1;

@@ -13,7 +13,7 @@ use crate::parser::{Parser, piece};
 use block_lines::Cursor;
 use block_lines::indent::is_small;
 use html_lines::{HtmlKind, html_ends, html_kind};
-use markdown_definition::Row;
+use markdown_definition::{Beside, Row};
 use markdown_options::{Constructs, LineEnding};
 use std::alloc::{AllocError, Allocator};
 
@@ -34,15 +34,15 @@ impl<'a, A: Allocator> Parser<'a, A> {
         on: &Constructs,
         kind: HtmlKind,
         rest: Cursor<'a>,
-        ending: Option<LineEnding>,
+        beside: Beside,
     ) -> Result<(), AllocError>
-        ensures { OnOk result ((around : List Level) (kids : Blocks) (ls : List BlockLine) → HasRead self.old (spine around kids (HtmlLeaf (number_of kind) ls)) → HasRead self.new (grown around kids (leaf_grown on.now ending (rest_of rest.entry) (OpenedLeaf (HtmlLeaf (number_of kind) ls))))) }
+        ensures { OnOk result ((around : List Level) (kids : Blocks) (ls : List BlockLine) → HasRead self.old (spine around kids (HtmlLeaf (number_of kind) ls)) → HasRead self.new (grown around kids (leaf_grown on.now beside (rest_of rest.entry) (OpenedLeaf (HtmlLeaf (number_of kind) ls))))) }
     {
         if html_stops(kind, rest) {
             let depth = self.open.len();
-            return self.start_line(on, depth, rest, ending);
+            return self.start_line(on, depth, rest, beside);
         }
-        self.html_with(kind, rest, ending)
+        self.html_with(kind, rest, beside)
     }
 
     /// One more line of an HTML block, which may end it.
@@ -50,14 +50,17 @@ impl<'a, A: Allocator> Parser<'a, A> {
         &mut self,
         kind: HtmlKind,
         rest: Cursor<'a>,
-        ending: Option<LineEnding>,
+        beside: Beside,
     ) -> Result<(), AllocError>
-        ensures { OnOk result ((around : List Level) (kids : Blocks) (leaf : OpenLeafOf) (ls : List BlockLine) → leaf_lines leaf ≡ ls → HasRead self.old (spine around kids leaf) → HasRead self.new (grown around kids (html_with (number_of kind) ls (rest_of rest.entry) ending))) }
+        ensures { OnOk result ((around : List Level) (kids : Blocks) (leaf : OpenLeafOf) (ls : List BlockLine) → leaf_lines leaf ≡ ls → HasRead self.old (spine around kids leaf) → HasRead self.new (grown around kids (html_with (number_of kind) ls (rest_of rest.entry) beside))) }
     {
-        self.pieces.push(piece(rest, ending))?;
-        self.leaf = OpenLeaf::Html { kind, ending };
+        self.pieces.push(piece(rest, beside))?;
+        self.leaf = OpenLeaf::Html {
+            kind,
+            ending: beside.ending,
+        };
         if html_ends_here(kind, rest) {
-            return self.close_html(ending);
+            return self.close_html(beside.ending);
         }
         Ok(())
     }

@@ -2,7 +2,7 @@
 //!
 //!     paragraph ::= text_line+, which no other block begins, and after the first no blank one ends
 ghost use Rattle.std.specs.Prelude.{◌≡◌, ◌<◌, true, None, ◌^◌, length};
-ghost use Rattle.markdown_definition.specs.Tree.{block_line};
+ghost use Rattle.markdown_definition.specs.Tree.{spaced_line};
 ghost use Rattle.markdown_definition.specs.Rows.{piece_line, piece_lines, whole_line, whole_lines};
 ghost use Rattle.markdown_definition.specs.Columns.{bytes_of};
 ghost use Rattle.text_lines.specs.Rest.{view_line};
@@ -11,7 +11,7 @@ use crate::definition::last_ending;
 use crate::leaf::OpenLeaf;
 use crate::parser::{NOTHING, Parser, piece};
 use block_lines::Cursor;
-use markdown_definition::{Piece, Row};
+use markdown_definition::{Beside, Kind, Piece, Row};
 use markdown_options::{Constructs, LineEnding};
 use std::alloc::{AllocError, Allocator};
 use text_lines::{Line, Lines};
@@ -34,17 +34,13 @@ impl<'a, A: Allocator> Parser<'a, A> {
     ghost use Rattle.block_lines.specs.View.{rest_of};
 
     /// A line of text goes on the paragraph, or is its first.
-    pub(crate) fn text_line(
-        &mut self,
-        rest: Cursor<'a>,
-        ending: Option<LineEnding>,
-    ) -> Result<(), AllocError>
-        ensures { OnOk result ((around : List Level) (kids : Blocks) (ls : List BlockLine) → HasRead self.old (spine around kids (TextLeaf ls)) → HasRead self.new (spine around kids (TextLeaf (ls ++ rest_line (rest_of rest.entry) ending ∷ [])))) }
+    pub(crate) fn text_line(&mut self, rest: Cursor<'a>, beside: Beside) -> Result<(), AllocError>
+        ensures { OnOk result ((around : List Level) (kids : Blocks) (ls : List BlockLine) → HasRead self.old (spine around kids (TextLeaf ls)) → HasRead self.new (spine around kids (TextLeaf (ls ++ rest_line (rest_of rest.entry) beside ∷ [])))) }
     {
         if !self.has_text() {
             self.paragraph = self.rest;
         }
-        self.pieces.push(piece(rest, ending))?;
+        self.pieces.push(piece(rest, beside))?;
         Ok(())
     }
 
@@ -100,13 +96,14 @@ impl<'a, A: Allocator> Parser<'a, A> {
 
 /// The lines of a paragraph that are whole lines of the text.
 fn whole<'a>(text: &'a str) -> Piece<'a>
-    ensures line { piece_line result ≡ block_line text.now None }
+    ensures line { piece_line result ≡ spaced_line text.now None }
     ensures bytes { bytes_of text.now ≡ text.now }
 {
     Piece {
         text,
         owed: 0,
         ending: None,
+        before: Kind::Whitespace,
     }
 }
 
@@ -131,5 +128,8 @@ fn are_whole(text: &str, pieces: &[Piece<'_>]) -> bool
 fn is_line(piece: Piece<'_>, line: Line<'_>) -> bool
     ensures { result ≡ true → piece_line piece.entry ≡ whole_line (view_line line.entry) }
 {
-    piece.owed == 0 && piece.ending == line.ending && piece.text == line.content
+    piece.owed == 0
+        && piece.before == Kind::Whitespace
+        && piece.ending == line.ending
+        && piece.text == line.content
 }

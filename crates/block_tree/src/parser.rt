@@ -11,10 +11,10 @@ use crate::leaf::OpenLeaf;
 use crate::rows::Rows;
 use block_lines::Cursor;
 use block_lines::code_fenced::fence_start;
-use block_lines::container::{continues, starts};
+use block_lines::container::{continues, kind_after, starts};
 use block_lines::heading_atx::heading_atx;
 use block_lines::thematic_break::is_break;
-use markdown_definition::{Container, Piece, Row};
+use markdown_definition::{Beside, Container, Kind, Piece, Row};
 use markdown_options::{Constructs, LineEnding};
 use std::alloc::{AllocError, Allocator};
 use text_lines::{Line, Lines};
@@ -70,31 +70,46 @@ impl<'a, A: Allocator> Parser<'a, A> {
         ensures { OnOk result ((t : Tree) → AreLines (open_text t.now) → HasRead self.old (spine_of t) → HasRead self.new (spine_of (step on.now t (text_line line.entry.content.now line.entry.ending)))) }
     {
         self.rest = line.text;
-        let (depth, rest) = self.descend(on, Cursor::new(line.content));
+        let beside = Beside {
+            before: Kind::Whitespace,
+            ending: line.ending,
+        };
+        let (depth, rest, beside) = self.descend(on, Cursor::new(line.content), beside);
         if depth < self.open.len() {
-            return self.start_line(on, depth, rest, line.ending);
+            return self.start_line(on, depth, rest, beside);
         }
         match self.leaf {
-            OpenLeaf::Text => self.start_line(on, depth, rest, line.ending),
-            OpenLeaf::Indented { .. } => self.indented_line(on, rest, line.ending),
-            OpenLeaf::Fenced { fence, .. } => self.fenced_line(on, fence, rest, line.ending),
-            OpenLeaf::Html { kind, .. } => self.html_line(on, kind, rest, line.ending),
+            OpenLeaf::Text => self.start_line(on, depth, rest, beside),
+            OpenLeaf::Indented { .. } => self.indented_line(on, rest, beside),
+            OpenLeaf::Fenced { fence, .. } => self.fenced_line(on, fence, rest, beside),
+            OpenLeaf::Html { kind, .. } => self.html_line(on, kind, rest, beside),
         }
     }
 
-    /// How many containers go on, and the rest after what they have on this line.
-    fn descend(&self, on: &Constructs, line: Cursor<'a>) -> (usize, Cursor<'a>)
+    /// How many containers go on, the rest after what they have on this line, and what stands beside
+    /// it.
+    fn descend(
+        &self,
+        on: &Constructs,
+        line: Cursor<'a>,
+        beside: Beside,
+    ) -> (usize, Cursor<'a>, Beside)
         ensures within { result.0 ≤ vec_len self.now.open }
-        ensures descent { (t : Tree) (ending : Option LineEnding) → HasRead self.now (spine_of t) → Descent on.now ending (rest_of line.entry) t (vec_len self.now.open) result.0 (rest_of result.1) }
+        ensures descent { (t : Tree) → HasRead self.now (spine_of t) → Descent on.now beside (rest_of line.entry) t (vec_len self.now.open) result.0 (rest_of result.1) result.2 }
     {
         let mut rest = line;
+        let mut here = beside;
         for depth in 0..self.open.len() {
-            match continues(on, self.open[depth], self.began_blank(depth), rest) {
-                Some(after) => rest = after,
-                None => return (depth, rest),
+            let container = self.open[depth];
+            match continues(on, container, self.began_blank(depth), rest) {
+                Some(after) => {
+                    here.before = kind_after(container, rest);
+                    rest = after;
+                }
+                None => return (depth, rest, here),
             }
         }
-        (self.open.len(), rest)
+        (self.open.len(), rest, here)
     }
 
     /// Whether a container, at a depth, began with a blank line, and nothing followed.
@@ -145,31 +160,42 @@ impl<'a, A: Allocator> Parser<'a, A> {
         on: &Constructs,
         depth: usize,
         rest: Cursor<'a>,
-        ending: Option<LineEnding>,
+        beside: Beside,
     ) -> Result<(), AllocError>
         requires depth { depth ≤ vec_len self.old.open }
-        ensures { OnOk result (Grows self.old self.new depth (λ away. new (length (rest_of rest.entry)) on.now (depth == vec_len self.old.open) away ending (rest_of rest.entry))) }
+        ensures { OnOk result (Grows self.old self.new depth (λ away. new (length (rest_of rest.entry)) on.now (depth == vec_len self.old.open) away beside (rest_of rest.entry))) }
     {
         let Some((container, after)) = starts(on, self.interrupts(depth), rest) else {
-            return self.leaf_line(on, depth, rest, ending);
+            return self.leaf_line(on, depth, rest, beside);
         };
         self.close_to(on, depth)?;
         self.enter(container)?;
-        let inside = self.enter_all(on, after)?;
+        let inner = Beside {
+            before: kind_after(container, rest),
+            ending: beside.ending,
+        };
+        let (inside, here) = self.enter_all(on, after, inner)?;
         let depth = self.open.len();
-        self.leaf_line(on, depth, inside, ending)
+        self.leaf_line(on, depth, inside, here)
     }
 
     /// Starts containers, where no leaf is open, as long as the rest starts one.
-    fn enter_all(&mut self, on: &Constructs, rest: Cursor<'a>) -> Result<Cursor<'a>, AllocError>
-        ensures { IfOk result (λ inside. (around : List Level) (kids : Blocks) → HasRead self.old (spine around kids (TextLeaf [])) → Entered on.now (rest_of rest.entry) (rest_of inside) self.new around kids) }
+    fn enter_all(
+        &mut self,
+        on: &Constructs,
+        rest: Cursor<'a>,
+        beside: Beside,
+    ) -> Result<(Cursor<'a>, Beside), AllocError>
+        ensures { IfOk result (λ inside. (around : List Level) (kids : Blocks) → HasRead self.old (spine around kids (TextLeaf [])) → Entered on.now (rest_of rest.entry) beside (rest_of inside.0) inside.1 self.new around kids) }
     {
         let mut inside = rest;
+        let mut here = beside;
         while let Some((container, after)) = starts(on, false, inside) {
             self.enter(container)?;
+            here.before = kind_after(container, inside);
             inside = after;
         }
-        Ok(inside)
+        Ok((inside, here))
     }
 
     /// Reads a rest that starts no container: a blank one, or a leaf that starts.
@@ -178,44 +204,44 @@ impl<'a, A: Allocator> Parser<'a, A> {
         on: &Constructs,
         depth: usize,
         rest: Cursor<'a>,
-        ending: Option<LineEnding>,
+        beside: Beside,
     ) -> Result<(), AllocError>
         requires depth { depth ≤ vec_len self.old.open }
-        ensures { OnOk result (Grows self.old self.new depth (λ away. line_of_leaf on.now away (rest_of rest.entry) ending)) }
+        ensures { OnOk result (Grows self.old self.new depth (λ away. line_of_leaf on.now away (rest_of rest.entry) beside)) }
     {
         let paragraph = self.has_text();
         if rest.is_blank() {
             self.close_to(on, depth)?;
-            return self.blank_line(ending);
+            return self.blank_line(beside.ending);
         }
         if begins_code(on, paragraph, rest) {
             self.close_to(on, depth)?;
-            return self.start_indented(rest, ending);
+            return self.start_indented(rest, beside);
         }
         if let Some(fence) = fence_start(on, rest) {
             self.close_to(on, depth)?;
-            return self.start_fenced(fence, ending);
+            return self.start_fenced(fence, beside.ending);
         }
         if let Some(kind) = html_start(on, paragraph, rest) {
             self.close_to(on, depth)?;
-            return self.html_with(kind, rest, ending);
+            return self.html_with(kind, rest, beside);
         }
         if let Some(atx) = heading_atx(on, rest) {
             self.close_to(on, depth)?;
-            return self.heading(atx, ending);
+            return self.heading(atx, beside.ending);
         }
         if let Some(rank) = self.turns(on, depth, rest)? {
-            return self.setext_heading(on, rank, ending);
+            return self.setext_heading(on, rank, beside.ending);
         }
         if is_break(on, rest) {
             self.close_to(on, depth)?;
-            return self.thematic_break(ending);
+            return self.thematic_break(beside.ending);
         }
         if paragraph {
-            return self.text_line(rest, ending);
+            return self.text_line(rest, beside);
         }
         self.close_to(on, depth)?;
-        self.text_line(rest, ending)
+        self.text_line(rest, beside)
     }
 
     /// A blank line, where no leaf is open.
@@ -298,13 +324,14 @@ impl<'a, A: Allocator> Parser<'a, A> {
 }
 
 /// The line of a block that a rest is.
-pub(crate) fn piece<'a>(rest: Cursor<'a>, ending: Option<LineEnding>) -> Piece<'a>
-    ensures { piece_line result ≡ rest_line (rest_of rest.entry) ending }
+pub(crate) fn piece<'a>(rest: Cursor<'a>, beside: Beside) -> Piece<'a>
+    ensures { piece_line result ≡ rest_line (rest_of rest.entry) beside }
 {
     Piece {
         text: rest.text(),
         owed: rest.owed(),
-        ending,
+        ending: beside.ending,
+        before: beside.before,
     }
 }
 

@@ -14,7 +14,7 @@ use Rattle.markdown_definition.specs.ParagraphLines.{HaveNoEnding, AreLines}
 use Rattle.markdown_definition.proofs.ContentBytes.{IsInLine, AreFilled, block_line_bytes, content_codes_of}
 
 abbrev spaced : BlockLine → BlockLine
-spaced line = block_line (map code_byte line.codes) line.ending
+spaced line = block_line (map code_byte line.codes) line.ending line.before
 
 -- no byte of a line ends it
 byte_in_line : (c : ℕ) → is_eol c ≡ false → ends_line (code_byte c) ≡ false

@@ -6,6 +6,7 @@ use Rattle.std.proofs.lemmas.List.{length-append}
 use Rattle.markdown_options.specs.declared.line_ending.LineEnding.{LineEnding}
 use Rattle.markdown_options.specs.declared.line_ending.LineEnding.TheVariants.{CarriageReturnLineFeed, CarriageReturn, LineFeed}
 use Rattle.markdown_options.specs.declared.configuration.Constructs.{Constructs}
+use Rattle.markdown_definition.specs.declared.beside.Beside.{Beside}
 use Rattle.markdown_definition.specs.declared.container.Container.{Container}
 use Rattle.markdown_definition.specs.declared.container.Container.TheVariants.{Quote, Item}
 use Rattle.markdown_definition.specs.Lines.{TextLine, text_line, in_first_line, after_return, lines}
@@ -24,7 +25,7 @@ use Rattle.markdown_definition.specs.ThematicBreak.{is_break}
 use Rattle.markdown_definition.specs.Content.{is_eol}
 use Rattle.markdown_definition.specs.Definitions.{cut}
 use Rattle.markdown_definition.specs.ParagraphLines.{HaveNoEnding, AreLines}
-use Rattle.markdown_definition.specs.Tree.{BlockLine, block_line, Blocks, OpenLeaf, Text, Indented, Fenced, OpenHtml, Opening, Leaf, Inside, Tree, nothing, empty_tree, open_text, has_text, with_line, takes, html_with, or_heading, or_fence, or_html, begins, text_line_of, break_or_text, text_here, heading_of, underlined, turns, begun, taken, leaf_line, start, new, began_blank, goes_on, grow, step}
+use Rattle.markdown_definition.specs.Tree.{BlockLine, Blocks, OpenLeaf, Text, Indented, Fenced, OpenHtml, Opening, Leaf, Inside, Tree, nothing, empty_tree, open_text, has_text, with_line, rest_line, takes, html_with, or_heading, or_fence, or_html, begins, text_line_of, break_or_text, text_here, heading_of, underlined, turns, begun, taken, leaf_line, start, new, began_blank, goes_on, grow, beside_in, beside_line, step}
 
 -- ---- codes without a line ending
 
@@ -136,11 +137,11 @@ are_lines ending (line ∷ []) h = (h.0, h.1)
 are_lines ending (line ∷ next ∷ others) h = (h.0, h.1, h.2, are_lines ending (next ∷ others) h.3)
 
 -- one more line, where the last one so far has an ending
-one_more : (e : LineEnding) (ending : Option LineEnding) (ls : List BlockLine) (codes : List ℕ) → HaveNoEnding codes → 0 < length codes
-    → AreLinesTo (Some e) ls → AreLinesTo ending (ls ++ block_line codes ending ∷ [])
-one_more e ending [] codes clear some h = (clear, some, refl)
-one_more e ending (line ∷ []) codes clear some h = (h.0, h.1, (e, h.2), (clear, some, refl))
-one_more e ending (line ∷ next ∷ others) codes clear some h = (h.0, h.1, h.2, one_more e ending (next ∷ others) codes clear some h.3)
+one_more : (e : LineEnding) (ls : List BlockLine) (last : BlockLine) → HaveNoEnding last.codes → 0 < length last.codes
+    → AreLinesTo (Some e) ls → AreLinesTo last.ending (ls ++ last ∷ [])
+one_more e [] last clear some h = (clear, some, refl)
+one_more e (line ∷ []) last clear some h = (h.0, h.1, (e, h.2), (clear, some, refl))
+one_more e (line ∷ next ∷ others) last clear some h = (h.0, h.1, h.2, one_more e (next ∷ others) last clear some h.3)
 
 -- ---- rests
 
@@ -213,11 +214,11 @@ clear_continue on (Item item) began_blank rest h =
 
 -- ---- what is open after a line
 
--- a line with this ending, after one that ended with `e`
-module _ (on : Constructs) (e : LineEnding) (ending : Option LineEnding) where
+-- a rest of a line, and what stands beside it, after a line that ended with `e`
+module _ (on : Constructs) (e : LineEnding) (beside : Beside) where
   -- the open paragraph has the lines of a paragraph, up to this line
   abbrev OpenTo : Tree → Type 0
-  OpenTo t = AreLinesTo ending (open_text t.now)
+  OpenTo t = AreLinesTo beside.ending (open_text t.now)
 
   abbrev SomeOpenTo : Option Tree → Type 0
   SomeOpenTo None = Unit {0}
@@ -231,101 +232,105 @@ module _ (on : Constructs) (e : LineEnding) (ending : Option LineEnding) where
   open_begun None away other p q = q
   open_begun (Some t) away other p q = p
 
-  open_html : (kind : ℕ) (ls : List BlockLine) (rest : Rest) → OpenTo (html_with kind ls rest ending)
+  open_html : (kind : ℕ) (ls : List BlockLine) (rest : Rest) → OpenTo (html_with kind ls rest beside)
   open_html kind ls rest = cond_both (html_ends_here kind rest) _ _ OpenTo (λ _. tt) (λ _. tt)
 
-  open_takes : (leaf : OpenLeaf) (rest : Rest) → SomeOpenTo (takes on leaf rest ending)
+  open_takes : (leaf : OpenLeaf) (rest : Rest) → SomeOpenTo (takes on leaf rest beside)
   open_takes (Text ls) rest = tt
   open_takes (Indented ls pending) rest =
       cond_both (is_blank rest) _ _ SomeOpenTo (λ _. tt) (λ _. cond_both (starts_code_indented on rest) _ _ SomeOpenTo (λ _. tt) (λ _. tt))
   open_takes (Fenced fence opening ls) rest = cond_both (is_fence_end on fence rest) _ _ SomeOpenTo (λ _. tt) (λ _. tt)
   open_takes (OpenHtml kind ls) rest = cond_both (ends_before_blank kind && is_blank rest) _ _ SomeOpenTo (λ _. tt) (λ _. open_html kind ls rest)
 
-  open_or_heading : (o : Option Atx) → SomeOpenTo (or_heading ending o)
+  open_or_heading : (o : Option Atx) → SomeOpenTo (or_heading beside.ending o)
   open_or_heading None = tt
   open_or_heading (Some atx) = tt
 
-  open_or_fence : (o : Option Fence) (other : Option Tree) → SomeOpenTo other → SomeOpenTo (or_fence ending o other)
+  open_or_fence : (o : Option Fence) (other : Option Tree) → SomeOpenTo other → SomeOpenTo (or_fence beside.ending o other)
   open_or_fence None other p = p
   open_or_fence (Some fence) other p = tt
 
-  open_or_html : (rest : Rest) (o : Option ℕ) (other : Option Tree) → SomeOpenTo other → SomeOpenTo (or_html rest ending o other)
+  open_or_html : (rest : Rest) (o : Option ℕ) (other : Option Tree) → SomeOpenTo other → SomeOpenTo (or_html rest beside o other)
   open_or_html rest None other p = p
   open_or_html rest (Some kind) other p = open_html kind [] rest
 
-  open_begins : (paragraph : Bool) (rest : Rest) → SomeOpenTo (begins on paragraph rest ending)
+  open_begins : (paragraph : Bool) (rest : Rest) → SomeOpenTo (begins on paragraph rest beside)
   open_begins paragraph rest =
       cond_both (starts_code_indented on rest && not paragraph) _ _ SomeOpenTo (λ _. tt)
       (λ _.
       open_or_fence (fence_start on rest) _
       (open_or_html rest (html_start on paragraph rest) _ (open_or_heading (heading_atx on rest))))
 
-  open_heading : (rank : ℕ) (definitions : Blocks) (ls : List BlockLine) → SomeOpenTo (heading_of rank definitions ls ending)
+  open_heading : (rank : ℕ) (definitions : Blocks) (ls : List BlockLine) → SomeOpenTo (heading_of rank definitions ls beside.ending)
   open_heading rank definitions [] = tt
   open_heading rank definitions (line ∷ others) = tt
 
-  open_underlined : (o : Option ℕ) (ls : List BlockLine) → SomeOpenTo (underlined on o ls ending)
+  open_underlined : (o : Option ℕ) (ls : List BlockLine) → SomeOpenTo (underlined on o ls beside.ending)
   open_underlined None ls = tt
   open_underlined (Some rank) ls = open_heading rank (cut on ls).definitions (cut on ls).left
 
   -- a line on the open paragraph, or the first of one
-  open_with_line : (codes : List ℕ) (now : Opening) → HaveNoEnding codes → 0 < length codes → AreLinesTo (Some e) (open_text now)
-      → AreLinesTo ending (open_text (with_line (block_line codes ending) now))
-  open_with_line codes (Leaf (Text ls)) clear some h = one_more e ending ls codes clear some h
-  open_with_line codes (Leaf (Indented ls pending)) clear some h = tt
-  open_with_line codes (Leaf (Fenced fence opening ls)) clear some h = tt
-  open_with_line codes (Leaf (OpenHtml kind ls)) clear some h = tt
-  open_with_line codes (Inside c kids inner) clear some h = open_with_line codes inner clear some h
+  open_with_line : (line : BlockLine) (now : Opening) → HaveNoEnding line.codes → 0 < length line.codes → AreLinesTo (Some e) (open_text now)
+      → AreLinesTo line.ending (open_text (with_line line now))
+  open_with_line line (Leaf (Text ls)) clear some h = one_more e ls line clear some h
+  open_with_line line (Leaf (Indented ls pending)) clear some h = tt
+  open_with_line line (Leaf (Fenced fence opening ls)) clear some h = tt
+  open_with_line line (Leaf (OpenHtml kind ls)) clear some h = tt
+  open_with_line line (Inside c kids inner) clear some h = open_with_line line inner clear some h
 
   open_text_line : (away : Opening) (rest : Rest) → HaveNoEnding rest → is_blank rest ≡ false → AreLinesTo (Some e) (open_text away)
-      → OpenTo (text_line_of on away rest ending)
+      → OpenTo (text_line_of on away rest beside)
   open_text_line away rest clear some h =
       cond_both (has_text away) _ _ OpenTo
-      (λ _. open_with_line (block_codes rest) away (clear_block rest clear) (some_code rest some) h)
+      (λ _. open_with_line (rest_line rest beside) away (clear_block rest clear) (some_code rest some) h)
       (λ _. (clear_block rest clear, some_code rest some, refl))
 
   open_break_or_text : (away : Opening) (rest : Rest) → HaveNoEnding rest → is_blank rest ≡ false → AreLinesTo (Some e) (open_text away)
-      → OpenTo (break_or_text on away rest ending)
+      → OpenTo (break_or_text on away rest beside)
   open_break_or_text away rest clear some h = cond_both (is_break on rest) _ _ OpenTo (λ _. tt) (λ _. open_text_line away rest clear some h)
 
-  open_leaf_line : (away : Opening) (rest : Rest) → HaveNoEnding rest → AreLinesTo (Some e) (open_text away) → OpenTo (leaf_line on away rest ending)
+  open_leaf_line : (away : Opening) (rest : Rest) → HaveNoEnding rest → AreLinesTo (Some e) (open_text away) → OpenTo (leaf_line on away rest beside)
   open_leaf_line away rest clear h =
       cond_both (is_blank rest) _ _ OpenTo (λ _. tt)
       (λ some.
-      open_begun (begins on (has_text away) rest ending) away _ (open_begins (has_text away) rest)
-      (open_taken (turns on away rest ending) _ (open_underlined (underline on rest) (text_here away)) (open_break_or_text away rest clear some h)))
+      open_begun (begins on (has_text away) rest beside) away _ (open_begins (has_text away) rest)
+      (open_taken (turns on away rest beside.ending) _ (open_underlined (underline on rest) (text_here away)) (open_break_or_text away rest clear some h)))
 
-  open_start : (o : Option Started) (away : Opening) (other : Tree) (more : Rest → Tree) → StartedClear o → OpenTo other
-      → ((rest : Rest) → HaveNoEnding rest → OpenTo (more rest)) → OpenTo (start on o away other more)
-  open_start None away other more p q m = q
-  open_start (Some s) away other more p q m = m s.rest p
+-- what is open after containers that start, and after those that go on
+module _ (on : Constructs) (e : LineEnding) where
+  open_start : (beside : Beside) (o : Option Started) (away : Opening) (other : Tree) (more : Started → Tree) → StartedClear o → OpenTo on e beside other
+      → ((s : Started) → HaveNoEnding s.rest → OpenTo on e beside (more s)) → OpenTo on e beside (start on o away other more)
+  open_start beside None away other more p q m = q
+  open_start beside (Some s) away other more p q m = m s p
 
-  open_new : (most : ℕ) (all : Bool) (away : Opening) (rest : Rest) → HaveNoEnding rest → AreLinesTo (Some e) (open_text away)
-      → OpenTo (new most on all away ending rest)
-  open_new zero all away rest clear h = open_leaf_line away rest clear h
-  open_new (suc most) all away rest clear h =
-      open_start (starts on (all && has_text away) rest) away (leaf_line on away rest ending) (new most on true nothing ending)
-      (clear_start on (all && has_text away) rest clear) (open_leaf_line away rest clear h)
-      (λ others k. open_new most true nothing others k tt)
+  open_new : (beside : Beside) (most : ℕ) (all : Bool) (away : Opening) (rest : Rest) → HaveNoEnding rest → AreLinesTo (Some e) (open_text away)
+      → OpenTo on e beside (new most on all away beside rest)
+  open_new beside zero all away rest clear h = open_leaf_line on e beside away rest clear h
+  open_new beside (suc most) all away rest clear h =
+      open_start beside (starts on (all && has_text away) rest) away (leaf_line on away rest beside) _
+      (clear_start on (all && has_text away) rest clear) (open_leaf_line on e beside away rest clear h)
+      (λ s k. open_new (beside_in s.container rest beside) most true nothing s.rest k tt)
 
-  open_goes_on : (o : Option Rest) (c : Container) (kids : Blocks) (inner : Opening) (rest : Rest) (more : Rest → Tree)
+  open_goes_on : (beside : Beside) (o : Option Rest) (c : Container) (kids : Blocks) (inner : Opening) (rest : Rest) (more : Rest → Tree)
       → SomeClear o → HaveNoEnding rest → AreLinesTo (Some e) (open_text inner)
-      → ((others : Rest) → HaveNoEnding others → OpenTo (more others)) → OpenTo (goes_on o on c kids inner ending rest more)
-  open_goes_on None c kids inner rest more p clear h m = open_new (length rest) false (Inside c kids inner) rest clear h
-  open_goes_on (Some others) c kids inner rest more p clear h m = m others p
+      → ((others : Rest) → HaveNoEnding others → OpenTo on e beside (more others)) → OpenTo on e beside (goes_on o on c kids inner beside rest more)
+  open_goes_on beside None c kids inner rest more p clear h m = open_new beside (length rest) false (Inside c kids inner) rest clear h
+  open_goes_on beside (Some others) c kids inner rest more p clear h m = m others p
 
-  open_grow : (now : Opening) (rest : Rest) → HaveNoEnding rest → AreLinesTo (Some e) (open_text now) → OpenTo (grow on ending now rest)
-  open_grow (Leaf leaf) rest clear h = open_taken (takes on leaf rest ending) _ (open_takes leaf rest) (open_new (length rest) true (Leaf leaf) rest clear h)
-  open_grow (Inside c kids inner) rest clear h =
-      open_goes_on (continues on c (began_blank kids inner) rest) c kids inner rest (grow on ending inner)
-      (clear_continue on c (began_blank kids inner) rest clear) clear h (λ others k. open_grow inner others k h)
+  open_grow : (beside : Beside) (now : Opening) (rest : Rest) → HaveNoEnding rest → AreLinesTo (Some e) (open_text now) → OpenTo on e beside (grow on beside now rest)
+  open_grow beside (Leaf leaf) rest clear h =
+      open_taken on e beside (takes on leaf rest beside) _ (open_takes on e beside leaf rest) (open_new beside (length rest) true (Leaf leaf) rest clear h)
+  open_grow beside (Inside c kids inner) rest clear h =
+      let beside_inner = beside_in c rest beside in
+      open_goes_on beside (continues on c (began_blank kids inner) rest) c kids inner rest (grow on beside_inner inner)
+      (clear_continue on c (began_blank kids inner) rest clear) clear h (λ others k. open_grow beside_inner inner others k h)
 
 -- ---- the lines of a text, one by one
 
 module _ (on : Constructs) where
   open_step : (e : LineEnding) (t : Tree) (line : TextLine) → HaveNoEnding line.content → AreLinesTo (Some e) (open_text t.now)
       → AreLinesTo line.ending (open_text (step on t line).now)
-  open_step e t line clear h = open_grow on e line.ending t.now (whole line.content) (clear_codes 0 line.content clear) h
+  open_step e t line clear h = open_grow on e (beside_line line) t.now (whole line.content) (clear_codes 0 line.content clear) h
 
   open_steps : (e : LineEnding) (t : Tree) (read left : List TextLine) → AreTextLines (read ++ left) → AreLinesTo (Some e) (open_text t.now)
       → AreLines (open_text (fold (step on) t read).now)

@@ -2,6 +2,7 @@
 use Rattle.std.proofs.Common.{◌≡◌, ℕ, suc, zero, List, [], ◌∷◌, ◌++◌, Option, true, cond, refl, ap, length}
 use Rattle.markdown_options.specs.declared.line_ending.LineEnding.{LineEnding}
 use Rattle.markdown_options.specs.Defaults.{no_constructs}
+use Rattle.markdown_definition.specs.declared.beside.Beside.{Beside}
 use Rattle.markdown_definition.specs.Columns.{Rest, is_blank}
 use Rattle.markdown_definition.specs.Tree.{BlockLine, Blank, Nil, join, one, Text, Opening, Leaf, Tree, tree, nothing, close_leaf, rest_line, text_line_of, leaf_line, new, grow}
 
@@ -14,29 +15,29 @@ abbrev pub blank_tree : List BlockLine → Option LineEnding → Tree
 blank_tree ls ending = tree (join (close_leaf no_constructs (Text ls)) (one (Blank ending))) nothing
 
 -- any other line goes on it, or starts one
-abbrev pub text_tree : List BlockLine → Rest → Option LineEnding → Tree
-text_tree ls rest ending = tree Nil (paragraph (ls ++ rest_line rest ending ∷ []))
+abbrev pub text_tree : List BlockLine → Rest → Beside → Tree
+text_tree ls rest beside = tree Nil (paragraph (ls ++ rest_line rest beside ∷ []))
 
 -- the one or the other
-abbrev pub plain_tree : List BlockLine → Rest → Option LineEnding → Tree
-plain_tree ls rest ending = cond (is_blank rest) (blank_tree ls ending) (text_tree ls rest ending)
+abbrev pub plain_tree : List BlockLine → Rest → Beside → Tree
+plain_tree ls rest beside = cond (is_blank rest) (blank_tree ls beside.ending) (text_tree ls rest beside)
 
 -- a line of text
-plain_text : (ls : List BlockLine) (rest : Rest) (ending : Option LineEnding) → text_line_of no_constructs (paragraph ls) rest ending ≡ text_tree ls rest ending
-plain_text [] rest ending = refl
-plain_text (line ∷ others) rest ending = refl
+plain_text : (ls : List BlockLine) (rest : Rest) (beside : Beside) → text_line_of no_constructs (paragraph ls) rest beside ≡ text_tree ls rest beside
+plain_text [] rest beside = refl
+plain_text (line ∷ others) rest beside = refl
 
 -- no leaf but a paragraph begins, and no container starts
-plain_leaf : (ls : List BlockLine) (rest : Rest) (ending : Option LineEnding)
-    → leaf_line no_constructs (paragraph ls) rest ending ≡ plain_tree ls rest ending
-plain_leaf ls rest ending = ap (λ t. cond (is_blank rest) (blank_tree ls ending) t) (plain_text ls rest ending)
+plain_leaf : (ls : List BlockLine) (rest : Rest) (beside : Beside)
+    → leaf_line no_constructs (paragraph ls) rest beside ≡ plain_tree ls rest beside
+plain_leaf ls rest beside = ap (λ t. cond (is_blank rest) (blank_tree ls beside.ending) t) (plain_text ls rest beside)
 
-plain_new : (most : ℕ) (ls : List BlockLine) (rest : Rest) (ending : Option LineEnding)
-    → new most no_constructs true (paragraph ls) ending rest ≡ plain_tree ls rest ending
-plain_new zero ls rest ending = plain_leaf ls rest ending
-plain_new (suc most) ls rest ending = plain_leaf ls rest ending
+plain_new : (most : ℕ) (ls : List BlockLine) (rest : Rest) (beside : Beside)
+    → new most no_constructs true (paragraph ls) beside rest ≡ plain_tree ls rest beside
+plain_new zero ls rest beside = plain_leaf ls rest beside
+plain_new (suc most) ls rest beside = plain_leaf ls rest beside
 
 -- a line
-pub plain_grow : (ls : List BlockLine) (rest : Rest) (ending : Option LineEnding)
-    → grow no_constructs ending (paragraph ls) rest ≡ plain_tree ls rest ending
-plain_grow ls rest ending = plain_new (length rest) ls rest ending
+pub plain_grow : (ls : List BlockLine) (rest : Rest) (beside : Beside)
+    → grow no_constructs beside (paragraph ls) rest ≡ plain_tree ls rest beside
+plain_grow ls rest beside = plain_new (length rest) ls rest beside

@@ -1,9 +1,11 @@
 -- Rows that are shown one by one.
-use Rattle.std.proofs.Common.{◌≡◌, ℕ, ◌+◌, ◌<◌, List, [], ap, ◌∙◌, take, drop, get_or, length}
+use Rattle.std.proofs.Common.{◌≡◌, ℕ, ◌+◌, ◌<◌, List, [], None, ap, ◌∙◌, take, drop, get_or, length}
 use Rattle.std.specs.Prelude.{map}
 use Rattle.std.proofs.lemmas.List.{drop-drop, drop-map}
 use Rattle.std.proofs.lemmas.List.Sums.{fold_more, sum_by-drop_more}
+use Rattle.markdown_definition.specs.declared.beside.Kind.TheVariants.{Whitespace}
 use Rattle.markdown_definition.specs.declared.row.Row.{Row}
+use Rattle.markdown_definition.specs.declared.row.Piece.{Piece}
 use Rattle.markdown_definition.specs.Blocks.{BlockLine}
 use Rattle.markdown_definition.specs.Rows.{shown, shown_as, show_row, lines_taken, all_taken}
 
@@ -18,3 +20,7 @@ taken_more rows i d lt = sum_by-drop_more lines_taken rows i d lt
 -- the lines that a row leaves
 pub left_more : {X : Type 0} (f : X → BlockLine) (n taken : ℕ) (lines : List X) → drop n (map f (drop taken lines)) ≡ map f (drop (taken + n) lines)
 left_more f n taken lines = drop-map f n (drop taken lines) ∙ ap (map f) (drop-drop n taken lines)
+
+-- a piece where none is
+abbrev pub no_piece : Piece
+no_piece = record { text = record { ref_ptr = (0, 0); now = [] }; owed = 0; ending = None; before = Whitespace }

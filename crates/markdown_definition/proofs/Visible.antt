@@ -12,10 +12,11 @@ use Rattle.markdown_options.specs.declared.configuration.CompileOptions.{Compile
 use Rattle.markdown_options.specs.declared.configuration.Options.{Options}
 use Rattle.markdown_options.specs.LineEndings.{ending_bytes}
 use Rattle.markdown_options.specs.Defaults.{no_constructs}
+use Rattle.markdown_definition.specs.declared.beside.Beside.{Beside}
 use Rattle.markdown_definition.specs.Lines.{TextLine, text_line, in_first_line, after_return, lines, ends_line, ending_text, without_mark}
 use Rattle.markdown_definition.specs.Columns.{Rest, codes_from, whole, is_white, is_blank, is_byte, is_tab_column, bytes_of, block_codes, trimmed, tab_column, columns_after_tab}
 use Rattle.markdown_definition.specs.Encode.{replacement_character, encoded_byte, encode}
-use Rattle.markdown_definition.specs.Tree.{BlockLine, Block, Paragraph, Ending, Blank, Blocks, Nil, Cons, join, one, Text, Opening, Leaf, Tree, tree, empty_tree, own_lines, close_leaf, close, rest_line, grow, step, closed, blocks}
+use Rattle.markdown_definition.specs.Tree.{beside_line, BlockLine, Block, Paragraph, Ending, Blank, Blocks, Nil, Cons, join, one, Text, Opening, Leaf, Tree, tree, empty_tree, own_lines, close_leaf, close, rest_line, grow, step, closed, blocks}
 use Rattle.markdown_definition.specs.Lists.{before, grouped_block, grouped}
 use Rattle.markdown_definition.specs.Pieces.{Piece, Bytes, Fresh, is_fresh, print, layout}
 use Rattle.markdown_definition.specs.Html.{line_text, text_of, silences, block_pieces, children_pieces, ends_blank, last_piece, document_pieces, default_ending, marked_html}
@@ -366,10 +367,10 @@ blank_says ls ending p =
     }
 
 -- a line goes into the open paragraph
-line_says : (ls : List BlockLine) (rest : Rest) (ending : Option LineEnding) → LinesEndNowhere ls → EndsNowhere (block_codes rest)
-    → TreeSays (text_tree ls rest ending) (said_in_lines ls ++ said_in_line (rest_line rest ending))
-line_says ls rest ending p q =
-    let line = rest_line rest ending in
+line_says : (ls : List BlockLine) (rest : Rest) (beside : Beside) → LinesEndNowhere ls → EndsNowhere (block_codes rest)
+    → TreeSays (text_tree ls rest beside) (said_in_lines ls ++ said_in_line (rest_line rest beside))
+line_says ls rest beside p q =
+    let line = rest_line rest beside in
     record {
       done = tt;
       now = nowhere_push ls line p q;
@@ -396,30 +397,30 @@ said_by_other line e = ap (flat_map said_by) (cond-true (is_not_blank line) (lin
 
 -- one more line
 plain_says : (ls : List BlockLine) (line : TextLine) → LinesEndNowhere ls → EndsNowhere line.content
-    → TreeSays (plain_tree ls (whole line.content) line.ending) (said_in_lines ls ++ all_said_by (line ∷ []))
+    → TreeSays (plain_tree ls (whole line.content) (beside_line line)) (said_in_lines ls ++ all_said_by (line ∷ []))
 plain_says ls line p q =
     let rest = whole line.content in
     let blank = blank_tree ls line.ending in
-    let other = text_tree ls rest line.ending in
+    let other = text_tree ls rest (beside_line line) in
     let here = said_in_lines ls in
     let nothing = blank_says ls line.ending p in
-    let more = line_says ls rest line.ending p (nowhere_in_block line.content q) in
+    let more = line_says ls rest (beside_line line) p (nowhere_in_block line.content q) in
     cond_both (is_blank rest) blank other (λ t. TreeSays t (here ++ all_said_by (line ∷ [])))
     (λ e. subst (TreeSays blank) (sym (ap (λ t. here ++ t) (said_by_blank line e) ∙ append-nil here)) nothing)
     (λ e. subst (TreeSays other) (sym (ap (λ t. here ++ t) (said_by_other line e))) more)
 
 grow_says : (now : Opening) (line : TextLine) → OpenEndsNowhere now → EndsNowhere line.content
-    → TreeSays (grow no_constructs line.ending now (whole line.content)) (said_in_open now ++ all_said_by (line ∷ []))
+    → TreeSays (grow no_constructs (beside_line line) now (whole line.content)) (said_in_open now ++ all_said_by (line ∷ []))
 grow_says now line p q =
     let rest = whole line.content in
     let new = all_said_by (line ∷ []) in
-    at_paragraph (λ o. TreeSays (grow no_constructs line.ending o rest) (said_in_open o ++ new)) now p
-    (λ ls r. subst (λ t. TreeSays t (said_in_lines ls ++ new)) (sym (plain_grow ls rest line.ending)) (plain_says ls line r q))
+    at_paragraph (λ o. TreeSays (grow no_constructs (beside_line line) o rest) (said_in_open o ++ new)) now p
+    (λ ls r. subst (λ t. TreeSays t (said_in_lines ls ++ new)) (sym (plain_grow ls rest (beside_line line))) (plain_says ls line r q))
 
 step_says : (t : Tree) (said : List ℕ) (line : TextLine) → TreeSays t said → EndsNowhere line.content
     → TreeSays (step no_constructs t line) (said ++ all_said_by (line ∷ []))
 step_says t said line p q =
-    let more = grow no_constructs line.ending t.now (whole line.content) in
+    let more = grow no_constructs (beside_line line) t.now (whole line.content) in
     let before = said_in_blocks t.done in
     let here = said_in_open t.now in
     let new = all_said_by (line ∷ []) in

@@ -1,15 +1,22 @@
 -- The blocks of a text (CommonMark 3).
 use Rattle.std.specs.Prelude.{ℕ, Bool, List, [], ◌∷◌, Option, None}
 use Rattle.markdown_options.specs.declared.line_ending.LineEnding.{LineEnding}
+use Rattle.markdown_definition.specs.declared.beside.Kind.{Kind}
+use Rattle.markdown_definition.specs.declared.beside.Kind.TheVariants.{Whitespace}
 use Rattle.markdown_definition.specs.declared.container.Container.{Container}
 
--- a line of a block: what it holds after the prefixes of containers, and its ending
+-- a line of a block: what it holds after the prefixes of containers, its ending, and the kind of the character before it in the text
 pub record BlockLine : Type 0 where
   pub codes : List ℕ
   pub ending : Option LineEnding
+  pub before : Kind
 
-abbrev pub block_line : List ℕ → Option LineEnding → BlockLine
-block_line codes ending = record { codes = codes; ending = ending }
+abbrev pub block_line : List ℕ → Option LineEnding → Kind → BlockLine
+block_line codes ending before = record { codes = codes; ending = ending; before = before }
+
+-- a line after whitespace, or at the start of a text's line
+abbrev pub spaced_line : List ℕ → Option LineEnding → BlockLine
+spaced_line codes ending = block_line codes ending Whitespace
 
 -- A child of a container: a paragraph; a heading of a rank; a thematic break; indented code; fenced code with its info, and whether it was closed; an HTML block; a link reference definition with its label, its destination and its title, as they are written; a container with its children; a list with its items and the endings between them, which is made after the lines are read; the ending of a block's last line; the ending of a blank line.
 mutual
@@ -52,5 +59,5 @@ last_ending ls = last_ending_or None ls
 -- the lines of a block: the ending of its last line stands outside
 abbrev pub own_lines : List BlockLine → List BlockLine
 own_lines [] = []
-own_lines (line ∷ []) = block_line line.codes None ∷ []
+own_lines (line ∷ []) = block_line line.codes None line.before ∷ []
 own_lines (line ∷ next ∷ others) = line ∷ own_lines (next ∷ others)

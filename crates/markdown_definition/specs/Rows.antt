@@ -9,7 +9,7 @@ use Rattle.markdown_definition.specs.declared.row.Row.TheVariants as row
 use Rattle.markdown_definition.specs.declared.row.Piece.{Piece}
 use Rattle.markdown_definition.specs.Lines.{TextLine, lines}
 use Rattle.markdown_definition.specs.Columns.{bytes_of, code_byte, tab_column}
-use Rattle.markdown_definition.specs.Tree.{BlockLine, block_line, Block, Paragraph, Heading, Break, IndentedCode, FencedCode, Html, Definition, Holds, Items, Ending, Blank, Blocks, Nil, Cons, own_lines}
+use Rattle.markdown_definition.specs.Tree.{BlockLine, block_line, spaced_line, Block, Paragraph, Heading, Break, IndentedCode, FencedCode, Html, Definition, Holds, Items, Ending, Blank, Blocks, Nil, Cons, own_lines}
 use Rattle.markdown_definition.specs.Content.{content_codes, content_text}
 use Rattle.markdown_definition.specs.Definitions.{block_definitions}
 use Rattle.markdown_definition.specs.LinkDefinition.{Definition as LinkDefinition, definition_at}
@@ -91,7 +91,7 @@ first_codes (line ∷ others) = line.codes
 
 -- the first lines of a text, so many, as lines of a block
 abbrev pub whole_line : TextLine → BlockLine
-whole_line line = block_line line.content line.ending
+whole_line line = spaced_line line.content line.ending
 
 abbrev pub whole_lines : ℕ → List ℕ → List BlockLine
 whole_lines count text = map whole_line (take count (lines text))
@@ -130,7 +130,7 @@ shown rows ls = fold show_row (shown_as [] ls) rows
 
 -- the line that a piece of the text stands for
 abbrev pub piece_line : Piece → BlockLine
-piece_line piece = block_line (replicate piece.owed tab_column ++ piece.text.now) piece.ending
+piece_line piece = block_line (replicate piece.owed tab_column ++ piece.text.now) piece.ending piece.before
 
 abbrev pub piece_lines : List Piece → List BlockLine
 piece_lines pieces = map piece_line pieces

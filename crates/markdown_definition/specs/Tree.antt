@@ -3,13 +3,17 @@ use Rattle.std.specs.Prelude.{ℕ, suc, zero, Bool, true, false, if◌then◌els
 use Rattle.std.specs.List.{fold}
 use Rattle.markdown_options.specs.declared.line_ending.LineEnding.{LineEnding}
 use Rattle.markdown_options.specs.declared.configuration.Constructs.{Constructs}
+use Rattle.markdown_definition.specs.declared.beside.Beside.{Beside}
+use Rattle.markdown_definition.specs.declared.beside.Kind.{Kind}
+use Rattle.markdown_definition.specs.declared.beside.Kind.TheVariants.{Whitespace, Punctuation}
 use Rattle.markdown_definition.specs.declared.container.Container.{Container}
 use Rattle.markdown_definition.specs.declared.container.Container.TheVariants.{Quote, Item}
 use Rattle.markdown_definition.specs.Lines.{TextLine, lines}
-pub use Rattle.markdown_definition.specs.Blocks.{BlockLine, block_line, Block, Paragraph, Heading, Break, IndentedCode, FencedCode, Html, Definition, Holds, Items, Ending, Blank, Blocks, Nil, Cons, join, one, ended, last_ending_or, last_ending, own_lines}
-use Rattle.markdown_definition.specs.Columns.{Rest, whole, is_blank, block_codes}
+pub use Rattle.markdown_definition.specs.Blocks.{BlockLine, block_line, spaced_line, Block, Paragraph, Heading, Break, IndentedCode, FencedCode, Html, Definition, Holds, Items, Ending, Blank, Blocks, Nil, Cons, join, one, ended, last_ending_or, last_ending, own_lines}
+use Rattle.markdown_definition.specs.Columns.{Rest, whole, is_white, is_blank, bare, block_codes}
 use Rattle.markdown_definition.specs.Indents.{outdented}
 use Rattle.markdown_definition.specs.Started.{Started}
+use Rattle.markdown_definition.specs.BlockQuote.{after_byte}
 use Rattle.markdown_definition.specs.Containers.{continues, starts}
 use Rattle.markdown_definition.specs.CodeIndented.{starts_code_indented}
 use Rattle.markdown_definition.specs.CodeFenced.{Fence, fence_start, is_fence_end, fence_line}
@@ -142,72 +146,72 @@ with_line line (Leaf leaf) = Leaf (leaf_with_line line leaf)
 with_line line (Inside c kids inner) = Inside c kids (with_line line inner)
 
 -- a line of a block, by its rest
-abbrev pub rest_line : Rest → Option LineEnding → BlockLine
-rest_line rest ending = block_line (block_codes rest) ending
+abbrev pub rest_line : Rest → Beside → BlockLine
+rest_line rest beside = block_line (block_codes rest) beside.ending beside.before
 
 -- indented code goes on where the rest is indented 4 columns, and may go on over a blank one (CommonMark 4.4)
-abbrev pub indented_takes : Constructs → List BlockLine → List BlockLine → Rest → Option LineEnding → Option Tree
-indented_takes on ls pending rest ending =
-    if is_blank rest then Some (tree Nil (Leaf (Indented ls (pending ++ rest_line (outdented 4 rest) ending ∷ []))))
-    else (if starts_code_indented on rest then Some (tree Nil (Leaf (Indented (ls ++ pending ++ rest_line (outdented 4 rest) ending ∷ []) [])))
+abbrev pub indented_takes : Constructs → List BlockLine → List BlockLine → Rest → Beside → Option Tree
+indented_takes on ls pending rest beside =
+    if is_blank rest then Some (tree Nil (Leaf (Indented ls (pending ++ rest_line (outdented 4 rest) beside ∷ []))))
+    else (if starts_code_indented on rest then Some (tree Nil (Leaf (Indented (ls ++ pending ++ rest_line (outdented 4 rest) beside ∷ []) [])))
     else None)
 
 -- fenced code takes every line up to its closing fence (CommonMark 4.5)
-abbrev pub fenced_takes : Constructs → Fence → Option LineEnding → List BlockLine → Rest → Option LineEnding → Option Tree
-fenced_takes on fence opening ls rest ending =
-    if is_fence_end on fence rest then Some (tree (ended (FencedCode fence.info true ls) ending) nothing)
-    else Some (tree Nil (Leaf (Fenced fence opening (ls ++ rest_line (fence_line fence rest) ending ∷ []))))
+abbrev pub fenced_takes : Constructs → Fence → Option LineEnding → List BlockLine → Rest → Beside → Option Tree
+fenced_takes on fence opening ls rest beside =
+    if is_fence_end on fence rest then Some (tree (ended (FencedCode fence.info true ls) beside.ending) nothing)
+    else Some (tree Nil (Leaf (Fenced fence opening (ls ++ rest_line (fence_line fence rest) beside ∷ []))))
 
 -- an HTML block with one more line, which may end it (CommonMark 4.6)
-abbrev pub html_with : ℕ → List BlockLine → Rest → Option LineEnding → Tree
-html_with kind ls rest ending =
-    let more = ls ++ rest_line rest ending ∷ [] in
-    if html_ends_here kind rest then tree (ended (Html (own_lines more)) ending) nothing else tree Nil (Leaf (OpenHtml kind more))
+abbrev pub html_with : ℕ → List BlockLine → Rest → Beside → Tree
+html_with kind ls rest beside =
+    let more = ls ++ rest_line rest beside ∷ [] in
+    if html_ends_here kind rest then tree (ended (Html (own_lines more)) beside.ending) nothing else tree Nil (Leaf (OpenHtml kind more))
 
 -- an HTML block takes every line up to its end, which may come before a blank one (CommonMark 4.6)
-abbrev pub html_takes : ℕ → List BlockLine → Rest → Option LineEnding → Option Tree
-html_takes kind ls rest ending = if ends_before_blank kind && is_blank rest then None else Some (html_with kind ls rest ending)
+abbrev pub html_takes : ℕ → List BlockLine → Rest → Beside → Option Tree
+html_takes kind ls rest beside = if ends_before_blank kind && is_blank rest then None else Some (html_with kind ls rest beside)
 
 -- what an open leaf makes of a rest, where it takes it before anything else may start
-abbrev pub takes : Constructs → OpenLeaf → Rest → Option LineEnding → Option Tree
-takes on (Text ls) rest ending = None
-takes on (Indented ls pending) rest ending = indented_takes on ls pending rest ending
-takes on (Fenced fence opening ls) rest ending = fenced_takes on fence opening ls rest ending
-takes on (OpenHtml kind ls) rest ending = html_takes kind ls rest ending
+abbrev pub takes : Constructs → OpenLeaf → Rest → Beside → Option Tree
+takes on (Text ls) rest beside = None
+takes on (Indented ls pending) rest beside = indented_takes on ls pending rest beside
+takes on (Fenced fence opening ls) rest beside = fenced_takes on fence opening ls rest beside
+takes on (OpenHtml kind ls) rest beside = html_takes kind ls rest beside
 
 abbrev pub or_heading : Option LineEnding → Option Atx → Option Tree
 or_heading ending None = None
-or_heading ending (Some atx) = Some (tree (ended (Heading atx.rank (block_line atx.content None ∷ [])) ending) nothing)
+or_heading ending (Some atx) = Some (tree (ended (Heading atx.rank (spaced_line atx.content None ∷ [])) ending) nothing)
 
 abbrev pub or_fence : Option LineEnding → Option Fence → Option Tree → Option Tree
 or_fence ending None other = other
 or_fence ending (Some fence) other = Some (tree Nil (Leaf (Fenced fence ending [])))
 
 -- an HTML block of a kind, which may end on its first line (CommonMark 4.6)
-abbrev pub or_html : Rest → Option LineEnding → Option ℕ → Option Tree → Option Tree
-or_html rest ending None other = other
-or_html rest ending (Some kind) other = Some (html_with kind [] rest ending)
+abbrev pub or_html : Rest → Beside → Option ℕ → Option Tree → Option Tree
+or_html rest beside None other = other
+or_html rest beside (Some kind) other = Some (html_with kind [] rest beside)
 
 -- the leaf that a rest begins, other than a paragraph or a break: indented code, which can't interrupt a paragraph, fenced code, an HTML block, or an ATX heading, in this order
-abbrev pub begins : Constructs → Bool → Rest → Option LineEnding → Option Tree
-begins on paragraph rest ending =
-    if starts_code_indented on rest && not paragraph then Some (tree Nil (Leaf (Indented (rest_line (outdented 4 rest) ending ∷ []) [])))
-    else or_fence ending (fence_start on rest) (or_html rest ending (html_start on paragraph rest) (or_heading ending (heading_atx on rest)))
+abbrev pub begins : Constructs → Bool → Rest → Beside → Option Tree
+begins on paragraph rest beside =
+    if starts_code_indented on rest && not paragraph then Some (tree Nil (Leaf (Indented (rest_line (outdented 4 rest) beside ∷ []) [])))
+    else or_fence beside.ending (fence_start on rest) (or_html rest beside (html_start on paragraph rest) (or_heading beside.ending (heading_atx on rest)))
 
 -- what a line leaves where something new starts on it, after what it isn't in is closed
 abbrev pub after : Constructs → Opening → Tree → Tree
 after on away t = tree (join (close on away) t.done) t.now
 
 -- a line of text goes on the open paragraph, also where it isn't in all of its containers, or starts one (CommonMark 4.8)
-abbrev pub text_line_of : Constructs → Opening → Rest → Option LineEnding → Tree
-text_line_of on away rest ending =
-    if has_text away then tree Nil (with_line (rest_line rest ending) away)
-    else after on away (tree Nil (Leaf (Text (rest_line rest ending ∷ []))))
+abbrev pub text_line_of : Constructs → Opening → Rest → Beside → Tree
+text_line_of on away rest beside =
+    if has_text away then tree Nil (with_line (rest_line rest beside) away)
+    else after on away (tree Nil (Leaf (Text (rest_line rest beside ∷ []))))
 
 -- a rest in which no other leaf begins: a break, or text
-abbrev pub break_or_text : Constructs → Opening → Rest → Option LineEnding → Tree
-break_or_text on away rest ending =
-    if is_break on rest then after on away (tree (ended Break ending) nothing) else text_line_of on away rest ending
+abbrev pub break_or_text : Constructs → Opening → Rest → Beside → Tree
+break_or_text on away rest beside =
+    if is_break on rest then after on away (tree (ended Break beside.ending) nothing) else text_line_of on away rest beside
 
 -- the lines of the open paragraph, where this line is in all of its containers
 abbrev pub text_here : Opening → List BlockLine
@@ -239,21 +243,41 @@ taken None other = other
 taken (Some t) other = t
 
 -- the rest of a line that starts no container, where `away` is what the line isn't in: a blank one closes it (CommonMark 4.9)
-abbrev pub leaf_line : Constructs → Opening → Rest → Option LineEnding → Tree
-leaf_line on away rest ending =
-    if is_blank rest then after on away (tree (one (Blank ending)) nothing)
-    else begun on (begins on (has_text away) rest ending) away (taken (turns on away rest ending) (break_or_text on away rest ending))
+abbrev pub leaf_line : Constructs → Opening → Rest → Beside → Tree
+leaf_line on away rest beside =
+    if is_blank rest then after on away (tree (one (Blank beside.ending)) nothing)
+    else begun on (begins on (has_text away) rest beside) away (taken (turns on away rest beside.ending) (break_or_text on away rest beside))
+
+-- whether a space or tab comes first
+abbrev pub begins_with_white : Rest → Bool
+begins_with_white [] = false
+begins_with_white (code ∷ codes) = is_white code
+
+-- the kind of the character before what is left after a quote's `>`: that byte, or the space or tab that belongs to it
+abbrev pub kind_after_mark : Option Rest → Kind
+kind_after_mark None = Punctuation
+kind_after_mark (Some rest) = if begins_with_white rest then Whitespace else Punctuation
+
+-- the kind of the character before what a container leaves of a rest: white space stands before the content of an item (CommonMark 5.1 and 5.2)
+abbrev pub kind_after : Container → Rest → Kind
+kind_after Quote rest = kind_after_mark (after_byte 62 (bare rest))
+kind_after (Item item) rest = Whitespace
+
+-- what stands beside that
+abbrev pub beside_in : Container → Rest → Beside → Beside
+beside_in c rest beside = record { before = kind_after c rest; ending = beside.ending }
 
 -- a container starts, or none
-abbrev pub start : Constructs → Option Started → Opening → Tree → (Rest → Tree) → Tree
+abbrev pub start : Constructs → Option Started → Opening → Tree → (Started → Tree) → Tree
 start on None away other more = other
-start on (Some s) away other more = let t = more s.rest in after on away (tree Nil (Inside s.container t.done t.now))
+start on (Some s) away other more = let t = more s in after on away (tree Nil (Inside s.container t.done t.now))
 
 -- the rest of a line after the containers that it is in; at most so many containers start
-abbrev pub new : ℕ → Constructs → Bool → Opening → Option LineEnding → Rest → Tree
-new zero on all away ending rest = leaf_line on away rest ending
-new (suc most) on all away ending rest =
-    start on (starts on (all && has_text away) rest) away (leaf_line on away rest ending) (new most on true nothing ending)
+abbrev pub new : ℕ → Constructs → Bool → Opening → Beside → Rest → Tree
+new zero on all away beside rest = leaf_line on away rest beside
+new (suc most) on all away beside rest =
+    start on (starts on (all && has_text away) rest) away (leaf_line on away rest beside)
+    (λ s. new most on true nothing (beside_in s.container rest beside) s.rest)
 
 abbrev pub in_container : Container → Blocks → Tree → Tree
 in_container c kids t = tree Nil (Inside c (join kids t.done) t.now)
@@ -271,19 +295,23 @@ abbrev pub began_blank : Blocks → Opening → Bool
 began_blank kids inner = is_one_blank kids && is_nothing inner
 
 -- a container goes on, or not
-abbrev pub goes_on : Option Rest → Constructs → Container → Blocks → Opening → Option LineEnding → Rest → (Rest → Tree) → Tree
-goes_on None on c kids inner ending rest more = new (length rest) on false (Inside c kids inner) ending rest
-goes_on (Some after) on c kids inner ending rest more = in_container c kids (more after)
+abbrev pub goes_on : Option Rest → Constructs → Container → Blocks → Opening → Beside → Rest → (Rest → Tree) → Tree
+goes_on None on c kids inner beside rest more = new (length rest) on false (Inside c kids inner) beside rest
+goes_on (Some after) on c kids inner beside rest more = in_container c kids (more after)
 
 -- a line: the containers that go on, then the leaf that takes it, or what is new
-abbrev pub grow : Constructs → Option LineEnding → Opening → Rest → Tree
-grow on ending (Leaf leaf) rest = taken (takes on leaf rest ending) (new (length rest) on true (Leaf leaf) ending rest)
-grow on ending (Inside c kids inner) rest =
-    goes_on (continues on c (began_blank kids inner) rest) on c kids inner ending rest (grow on ending inner)
+abbrev pub grow : Constructs → Beside → Opening → Rest → Tree
+grow on beside (Leaf leaf) rest = taken (takes on leaf rest beside) (new (length rest) on true (Leaf leaf) beside rest)
+grow on beside (Inside c kids inner) rest =
+    goes_on (continues on c (began_blank kids inner) rest) on c kids inner beside rest (grow on (beside_in c rest beside) inner)
+
+-- what stands beside a line of the text
+abbrev pub beside_line : TextLine → Beside
+beside_line line = record { before = Whitespace; ending = line.ending }
 
 -- one more line
 abbrev pub step : Constructs → Tree → TextLine → Tree
-step on t line = let more = grow on line.ending t.now (whole line.content) in tree (join t.done more.done) more.now
+step on t line = let more = grow on (beside_line line) t.now (whole line.content) in tree (join t.done more.done) more.now
 
 -- the end of the text closes what is open
 abbrev pub closed : Constructs → Tree → Blocks

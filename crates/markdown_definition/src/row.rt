@@ -2,6 +2,7 @@
 ghost use Rattle.std.specs.Prelude.{◌≡◌, ◌<◌, ◌^◌};
 ghost use Rattle.markdown_definition.specs.Rows.{lines_taken};
 
+use crate::beside::Kind;
 use markdown_options::LineEnding;
 
 /// A line of a block: a piece of the text.
@@ -13,6 +14,8 @@ pub struct Piece<'a> {
     pub owed: u8,
     /// The line's ending, which a text's last line may lack.
     pub ending: Option<LineEnding>,
+    /// The kind of the character before it in the text.
+    pub before: Kind,
 }
 
 /// A block, the start or end of a container, or the end of a line, in the order of the text.

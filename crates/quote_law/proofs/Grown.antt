@@ -12,7 +12,7 @@ use Rattle.markdown_definition.specs.BlockQuote.{after_byte, after_mark, quote_p
 use Rattle.markdown_definition.specs.ListItem.{item_start}
 use Rattle.markdown_definition.specs.Containers.{quote_or}
 use Rattle.markdown_definition.specs.Definitions.{cut_into, cut_most}
-use Rattle.markdown_definition.specs.Tree.{Nil, join, Inside, Tree, tree, nothing, empty_tree, with_paragraph, after, leaf_line, start, new, goes_on, grow, step}
+use Rattle.markdown_definition.specs.Tree.{beside_in, beside_line, Nil, join, Inside, Tree, tree, nothing, empty_tree, with_paragraph, after, leaf_line, start, new, goes_on, grow, step}
 use Rattle.quote_law.specs.Laws.{quoted_line}
 use Rattle.quote_law.proofs.Tabs.{Tabless, codes_from-Tabless, LinesTabless}
 use Rattle.quote_law.proofs.Starting.{new-suc}
@@ -48,9 +48,9 @@ module _ (on : Constructs) (quotes : on.block_quote ≡ true) where
   step-in_quote : (t : Tree) (line : TextLine) → Tabless line.content → step on (in_quote t) (quoted_line line) ≡ in_quote (step on t line)
   step-in_quote t line no_tab =
       let codes = codes_from 2 line.content in
-      ap (λ o. let more = goes_on o on Quote t.done t.now line.ending (62 ∷ 32 ∷ codes) (grow on line.ending t.now) in tree more.done more.now)
+      ap (λ o. let more = goes_on o on Quote t.done t.now (beside_line line) (62 ∷ 32 ∷ codes) (grow on (beside_line line) t.now) in tree more.done more.now)
       (quote_prefix-quoted on codes quotes)
-      ∙ ap (λ rest. let more = grow on line.ending t.now rest in in_quote (tree (join t.done more.done) more.now))
+      ∙ ap (λ rest. let more = grow on (beside_line line) t.now rest in in_quote (tree (join t.done more.done) more.now))
       (codes_from-Tabless 2 line.content no_tab ∙ sym (codes_from-Tabless 0 line.content no_tab))
 
   pub fold-in_quote : (ls : List TextLine) (t : Tree) → LinesTabless ls → fold (step on) (in_quote t) (map quoted_line ls) ≡ in_quote (fold (step on) t ls)
@@ -59,17 +59,20 @@ module _ (on : Constructs) (quotes : on.block_quote ≡ true) where
       ap (λ u. fold (step on) u (map quoted_line ls)) (step-in_quote t line no_tabs.0) ∙ fold-in_quote ls (step on t line) no_tabs.1
 
   -- the first line starts the quote
-  new-quoted : (most : ℕ) (codes : Rest) (ending : Option LineEnding) → new (suc most) on true nothing ending (62 ∷ 32 ∷ codes) ≡ in_quote (new most on true nothing ending codes)
-  new-quoted most codes ending =
+  new-quoted : (most : ℕ) (codes : Rest) (line : TextLine)
+      → new (suc most) on true nothing (beside_line line) (62 ∷ 32 ∷ codes) ≡ in_quote (new most on true nothing (beside_line line) codes)
+  new-quoted most codes line =
       let rest = 62 ∷ 32 ∷ codes in
-      ap (λ o. start on (quote_or (item_start on false rest) o) nothing (leaf_line on nothing rest ending) (new most on true nothing ending))
+      let beside = beside_line line in
+      ap (λ o. start on (quote_or (item_start on false rest) o) nothing (leaf_line on nothing rest beside) (λ s. new most on true nothing (beside_in s.container rest beside) s.rest))
       (quote_prefix-quoted on codes quotes)
-      ∙ after-nothing on (in_quote (new most on true nothing ending codes))
+      ∙ after-nothing on (in_quote (new most on true nothing beside codes))
 
   pub step-quoted : (line : TextLine) → Tabless line.content → step on empty_tree (quoted_line line) ≡ in_quote (step on empty_tree line)
   step-quoted line no_tab =
       let codes = codes_from 2 line.content in
-      new-quoted (suc (length codes)) codes line.ending
-      ∙ ap in_quote (new-suc on line.ending (length codes) codes (omega arith))
-      ∙ ap (λ rest. in_quote (new (length rest) on true nothing line.ending rest))
+      let beside = beside_line line in
+      new-quoted (suc (length codes)) codes line
+      ∙ ap in_quote (new-suc on beside (length codes) codes (omega arith))
+      ∙ ap (λ rest. in_quote (new (length rest) on true nothing beside rest))
       (codes_from-Tabless 2 line.content no_tab ∙ sym (codes_from-Tabless 0 line.content no_tab))

@@ -6,6 +6,7 @@ use Rattle.std.proofs.lemmas.Bool.{cond_both}
 use Rattle.std.proofs.lemmas.List.{length-drop}
 use Rattle.markdown_options.specs.declared.line_ending.LineEnding.{LineEnding}
 use Rattle.markdown_options.specs.declared.configuration.Constructs.{Constructs}
+use Rattle.markdown_definition.specs.declared.beside.Beside.{Beside}
 use Rattle.markdown_definition.specs.Columns.{Rest, bare, indent}
 use Rattle.markdown_definition.specs.Indents.{small_indent}
 use Rattle.markdown_definition.specs.Started.{Started}
@@ -13,7 +14,7 @@ use Rattle.markdown_definition.specs.ThematicBreak.{is_break}
 use Rattle.markdown_definition.specs.BlockQuote.{after_byte, after_mark, quote_prefix}
 use Rattle.markdown_definition.specs.ListItem.{Marker, marker_of, is_digit, number_of, bullet, delimiter, ordered, marker, gap, is_item, item, item_after, item_start}
 use Rattle.markdown_definition.specs.Containers.{quote_or, starts}
-use Rattle.markdown_definition.specs.Tree.{Nil, Inside, Tree, tree, nothing, after, leaf_line, start, new}
+use Rattle.markdown_definition.specs.Tree.{beside_in, Nil, Inside, Tree, tree, nothing, after, leaf_line, start, new}
 
 -- ---- what starts a container makes the rest shorter
 
@@ -95,22 +96,23 @@ abbrev started_tree : Constructs → Started → Tree → Tree
 started_tree on s t = after on nothing (tree Nil (Inside s.container t.done t.now))
 
 -- nothing starts where no code is left
-start-no_code : (on : Constructs) (n : ℕ) (o : Option Started) (other : Tree) (more : Rest → Tree) → n ≤ 0 → StartedBelow n o
+start-no_code : (on : Constructs) (n : ℕ) (o : Option Started) (other : Tree) (more : Started → Tree) → n ≤ 0 → StartedBelow n o
     → start on o nothing other more ≡ other
 start-no_code on n None other more le h = refl
 start-no_code on n (Some s) other more le h = absurd (omega (arith, le, h))
 
 -- only shorter rests matter
-start-same : (on : Constructs) (n : ℕ) (o : Option Started) (other : Tree) (f g : Rest → Tree) → StartedBelow n o
-    → ((rest : Rest) → length rest < n → f rest ≡ g rest) → start on o nothing other f ≡ start on o nothing other g
+start-same : (on : Constructs) (n : ℕ) (o : Option Started) (other : Tree) (f g : Started → Tree) → StartedBelow n o
+    → ((s : Started) → length s.rest < n → f s ≡ g s) → start on o nothing other f ≡ start on o nothing other g
 start-same on n None other f g h same = refl
-start-same on n (Some s) other f g h same = ap (started_tree on s) (same s.rest h)
+start-same on n (Some s) other f g h same = ap (started_tree on s) (same s h)
 
 -- where as many may start as the rest has codes, one more makes no difference
-pub new-suc : (on : Constructs) (ending : Option LineEnding) (most : ℕ) (rest : Rest) → length rest ≤ most
-    → new (suc most) on true nothing ending rest ≡ new most on true nothing ending rest
-new-suc on ending zero rest le =
-    start-no_code on (length rest) (starts on false rest) (leaf_line on nothing rest ending) (new zero on true nothing ending) le (starts_below on false rest)
-new-suc on ending (suc most) rest le =
-    start-same on (length rest) (starts on false rest) (leaf_line on nothing rest ending) (new (suc most) on true nothing ending) (new most on true nothing ending)
-    (starts_below on false rest) (λ other lt. new-suc on ending most other (omega (arith, le, lt)))
+pub new-suc : (on : Constructs) (beside : Beside) (most : ℕ) (rest : Rest) → length rest ≤ most
+    → new (suc most) on true nothing beside rest ≡ new most on true nothing beside rest
+new-suc on beside zero rest le =
+    start-no_code on (length rest) (starts on false rest) (leaf_line on nothing rest beside) _ le (starts_below on false rest)
+new-suc on beside (suc most) rest le =
+    start-same on (length rest) (starts on false rest) (leaf_line on nothing rest beside)
+    (λ s. new (suc most) on true nothing (beside_in s.container rest beside) s.rest) (λ s. new most on true nothing (beside_in s.container rest beside) s.rest)
+    (starts_below on false rest) (λ s lt. new-suc on (beside_in s.container rest beside) most s.rest (omega (arith, le, lt)))

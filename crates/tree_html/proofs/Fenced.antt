@@ -15,6 +15,7 @@ use Rattle.markdown_definition.specs.Pieces.{Fresh, print}
 use Rattle.markdown_definition.specs.Columns.{code_byte}
 use Rattle.markdown_definition.specs.Html.{block_pieces, class_of, code_of, fenced_content}
 use Rattle.markdown_definition.specs.Rows.{piece_line, piece_lines, first_codes}
+use Rattle.markdown_definition.proofs.RowSteps.{no_piece}
 use Rattle.tree_html.specs.Printed.{laid}
 use Rattle.tree_html.proofs.Owed.{none_owed}
 use Rattle.markdown_definition.proofs.OwnLines.{with_last_ending}
@@ -44,9 +45,6 @@ content_laid e out false true (l ∷ ls) some = whole_laid e out (l ∷ ls)
 content_laid e out false false (l ∷ ls) some = refl
 
 -- ---- what a row takes
-
-abbrev pub no_piece : Piece
-no_piece = record { text = record { ref_ptr = (0, 0); now = [] }; owed = 0; ending = None }
 
 -- the text of the first piece is the info
 info_is : (pieces : List Piece) → 0 < length pieces → list_all is_byte (first_codes (piece_lines pieces)) ≡ true

@@ -6,6 +6,7 @@ use Rattle.std.specs.List.{fold, list_all, prefix_len, suffix_len, position_or_l
 use Rattle.std.proofs.lemmas.Bool.{and_parts, and_from, leb-true}
 use Rattle.markdown_options.specs.declared.line_ending.LineEnding.{LineEnding}
 use Rattle.markdown_options.specs.declared.configuration.Constructs.{Constructs}
+use Rattle.markdown_definition.specs.declared.beside.Beside.{Beside}
 use Rattle.markdown_definition.specs.declared.container.Container.{Container}
 use Rattle.markdown_definition.specs.declared.container.Container.TheVariants.{Quote, Item}
 use Rattle.markdown_definition.specs.Lines.{TextLine, lines}
@@ -23,7 +24,7 @@ use Rattle.markdown_definition.specs.HtmlFlow.{html_start, html_ends_here, ends_
 use Rattle.markdown_definition.specs.Content.{content_of}
 use Rattle.markdown_definition.specs.LinkDefinition.{Definition as LinkDefinition, definition_at}
 use Rattle.markdown_definition.specs.Definitions.{Cut, cut_into, cut_after, cut_most, cut, defined, lines_before}
-use Rattle.markdown_definition.specs.Tree.{BlockLine, block_line, in_container, Block, Paragraph, Heading, Break, IndentedCode, FencedCode, Html, Definition, Holds, Items, Ending, Blank, Blocks, Nil, Cons, join, one, ended, own_lines, OpenLeaf, Text, Indented, Fenced, OpenHtml, Opening, Leaf, Inside, Tree, tree, nothing, empty_tree, paragraph_of, close_leaf, close, blanks, is_ending, all_endings, front, trailing, without_last, last_of, holds, has_text, with_line, rest_line, html_with, takes, taken, or_heading, or_fence, or_html, begins, text_here, heading_of, underlined, turns, after, text_line_of, break_or_text, begun, leaf_line, start, new, began_blank, goes_on, grow, step, closed, blocks}
+use Rattle.markdown_definition.specs.Tree.{beside_in, beside_line, BlockLine, spaced_line, in_container, Block, Paragraph, Heading, Break, IndentedCode, FencedCode, Html, Definition, Holds, Items, Ending, Blank, Blocks, Nil, Cons, join, one, ended, own_lines, OpenLeaf, Text, Indented, Fenced, OpenHtml, Opening, Leaf, Inside, Tree, tree, nothing, empty_tree, paragraph_of, close_leaf, close, blanks, is_ending, all_endings, front, trailing, without_last, last_of, holds, has_text, with_line, rest_line, html_with, takes, taken, or_heading, or_fence, or_html, begins, text_here, heading_of, underlined, turns, after, text_line_of, break_or_text, begun, leaf_line, start, new, began_blank, goes_on, grow, step, closed, blocks}
 use Rattle.markdown_definition.specs.Rows.{Shown, shown, shown_as, rows_of}
 use Rattle.markdown_definition.specs.declared.row.Row.{Row}
 use Rattle.tree_html.specs.Printable.{IsPrintableContainer, IsPrintable, ArePrintable, CanBePrinted}
@@ -223,12 +224,12 @@ taken_fits (Some t) other h k = h.tree
 
 -- ---- a line
 
-module _ (on : Constructs) (e : Option LineEnding) (r : Rest) where
+module _ (on : Constructs) (e : Beside) (r : Rest) where
   html_with_fits : (kind : ℕ) (ls : List BlockLine) → TreeFits (html_with kind ls r e)
   html_with_fits kind ls =
       let more = ls ++ rest_line r e ∷ [] in
-      choose TreeFits (html_ends_here kind r) (tree (ended (Html (own_lines more)) e) nothing) (tree Nil (Leaf (OpenHtml kind more)))
-      (fits (tree (ended (Html (own_lines more)) e) nothing) (tt, (tt, tt)) tt) (fits (tree Nil (Leaf (OpenHtml kind more))) tt tt)
+      choose TreeFits (html_ends_here kind r) (tree (ended (Html (own_lines more)) e.ending) nothing) (tree Nil (Leaf (OpenHtml kind more)))
+      (fits (tree (ended (Html (own_lines more)) e.ending) nothing) (tt, (tt, tt)) tt) (fits (tree Nil (Leaf (OpenHtml kind more))) tt tt)
 
   takes_fits : (leaf : OpenLeaf) → LeafFits leaf → OptionFits (takes on leaf r e)
   takes_fits (Text ls) h = record { tree = tt }
@@ -237,13 +238,13 @@ module _ (on : Constructs) (e : Option LineEnding) (r : Rest) where
   takes_fits (OpenHtml kind ls) h =
       choose OptionFits (ends_before_blank kind && is_blank r) None (Some (html_with kind ls r e)) record { tree = tt } record { tree = html_with_fits kind ls }
 
-  or_heading_fits : (o : Option Atx) → AtxFits o → OptionFits (or_heading e o)
+  or_heading_fits : (o : Option Atx) → AtxFits o → OptionFits (or_heading e.ending o)
   or_heading_fits None h = record { tree = tt }
-  or_heading_fits (Some atx) h = some_fits (tree (ended (Heading atx.rank (block_line atx.content None ∷ [])) e) nothing) (h.rank, (tt, tt)) tt
+  or_heading_fits (Some atx) h = some_fits (tree (ended (Heading atx.rank (spaced_line atx.content None ∷ [])) e.ending) nothing) (h.rank, (tt, tt)) tt
 
-  or_fence_fits : (o : Option Fence) (other : Option Tree) → FenceFits o → OptionFits other → OptionFits (or_fence e o other)
+  or_fence_fits : (o : Option Fence) (other : Option Tree) → FenceFits o → OptionFits other → OptionFits (or_fence e.ending o other)
   or_fence_fits None other h k = k
-  or_fence_fits (Some fence) other h k = some_fits (tree Nil (Leaf (Fenced fence e []))) tt h.info
+  or_fence_fits (Some fence) other h k = some_fits (tree Nil (Leaf (Fenced fence e.ending []))) tt h.info
 
   or_html_fits : (o : Option ℕ) (other : Option Tree) → OptionFits other → OptionFits (or_html r e o other)
   or_html_fits None other h = h
@@ -252,20 +253,20 @@ module _ (on : Constructs) (e : Option LineEnding) (r : Rest) where
   begins_fits : (paragraph : Bool) → OptionFits (begins on paragraph r e)
   begins_fits paragraph =
       choose OptionFits (starts_code_indented on r && not paragraph) _ _ (some_fits _ tt tt)
-      (or_fence_fits (fence_start on r) (or_html r e (html_start on paragraph r) (or_heading e (heading_atx on r))) (fence_start_fits on r)
-      (or_html_fits (html_start on paragraph r) (or_heading e (heading_atx on r)) (or_heading_fits (heading_atx on r) (heading_fits on r))))
+      (or_fence_fits (fence_start on r) (or_html r e (html_start on paragraph r) (or_heading e.ending (heading_atx on r))) (fence_start_fits on r)
+      (or_html_fits (html_start on paragraph r) (or_heading e.ending (heading_atx on r)) (or_heading_fits (heading_atx on r) (heading_fits on r))))
 
-  heading_of_fits : (rank : ℕ) (definitions : Blocks) (ls : List BlockLine) → (1 ≤ rank) × (rank ≤ 6) → CanBePrinted definitions → OptionFits (heading_of rank definitions ls e)
+  heading_of_fits : (rank : ℕ) (definitions : Blocks) (ls : List BlockLine) → (1 ≤ rank) × (rank ≤ 6) → CanBePrinted definitions → OptionFits (heading_of rank definitions ls e.ending)
   heading_of_fits rank definitions [] h k = record { tree = tt }
   heading_of_fits rank definitions (l ∷ ls) h k =
-      let heading = ended (Heading rank (own_lines (l ∷ ls))) e in
+      let heading = ended (Heading rank (own_lines (l ∷ ls))) e.ending in
       some_fits (tree (join definitions heading) nothing) (joined definitions heading k (h, (tt, tt))) tt
 
-  underlined_fits : (o : Option ℕ) (ls : List BlockLine) → RankFits o → OptionFits (underlined on o ls e)
+  underlined_fits : (o : Option ℕ) (ls : List BlockLine) → RankFits o → OptionFits (underlined on o ls e.ending)
   underlined_fits None ls h = record { tree = tt }
   underlined_fits (Some rank) ls h = heading_of_fits rank (cut on ls).definitions (cut on ls).left h.rank (cut_printable on ls)
 
-  turns_fits : (away : Opening) → OptionFits (turns on away r e)
+  turns_fits : (away : Opening) → OptionFits (turns on away r e.ending)
   turns_fits away = underlined_fits (underline on r) (text_here away) (underline_fits on r)
 
   text_fits : (away : Opening) → Fits away → TreeFits (text_line_of on away r e)
@@ -276,7 +277,7 @@ module _ (on : Constructs) (e : Option LineEnding) (r : Rest) where
 
   break_fits : (away : Opening) → Fits away → TreeFits (break_or_text on away r e)
   break_fits away h =
-      let t = tree (ended Break e) nothing in
+      let t = tree (ended Break e.ending) nothing in
       choose TreeFits (is_break on r) _ _ (after_fits on away t h (fits t (tt, (tt, tt)) tt)) (text_fits away h)
 
   begun_fits : (o : Option Tree) (away : Opening) (other : Tree) → Fits away → OptionFits o → TreeFits other → TreeFits (begun on o away other)
@@ -285,46 +286,46 @@ module _ (on : Constructs) (e : Option LineEnding) (r : Rest) where
 
   leaf_line_fits : (away : Opening) → Fits away → TreeFits (leaf_line on away r e)
   leaf_line_fits away h =
-      let t = tree (one (Blank e)) nothing in
+      let t = tree (one (Blank e.ending)) nothing in
       choose TreeFits (is_blank r) _ _ (after_fits on away t h (fits t (tt, tt) tt))
-      (begun_fits (begins on (has_text away) r e) away (taken (turns on away r e) (break_or_text on away r e)) h (begins_fits (has_text away))
-      (taken_fits (turns on away r e) (break_or_text on away r e) (turns_fits away) (break_fits away h)))
+      (begun_fits (begins on (has_text away) r e) away (taken (turns on away r e.ending) (break_or_text on away r e)) h (begins_fits (has_text away))
+      (taken_fits (turns on away r e.ending) (break_or_text on away r e) (turns_fits away) (break_fits away h)))
 
-  start_fits : (o : Option Started) (away : Opening) (other : Tree) (more : Rest → Tree) → StartFits o → Fits away → TreeFits other → ((rest : Rest) → TreeFits (more rest)) → TreeFits (start on o away other more)
+  start_fits : (o : Option Started) (away : Opening) (other : Tree) (more : Started → Tree) → StartFits o → Fits away → TreeFits other → ((s : Started) → TreeFits (more s)) → TreeFits (start on o away other more)
   start_fits None away other more s h k l = k
   start_fits (Some s) away other more c h k l =
-      let t = tree Nil (Inside s.container (more s.rest).done (more s.rest).now) in
-      let f = l s.rest in
+      let t = tree Nil (Inside s.container (more s).done (more s).now) in
+      let f = l s in
       after_fits on away t h (fits t tt (c.container, f.done, f.now))
 
   in_container_fits : (c : Container) (kids : Blocks) (t : Tree) → IsPrintableContainer c → CanBePrinted kids → TreeFits t → TreeFits (in_container c kids t)
   in_container_fits c kids t h k f = fits (in_container c kids t) tt (h, joined kids t.done k f.done, f.now)
 
 -- containers that start, and a leaf
-new_fits : (on : Constructs) (e : Option LineEnding) (most : ℕ) (all : Bool) (away : Opening) (r : Rest) → Fits away → TreeFits (new most on all away e r)
+new_fits : (on : Constructs) (e : Beside) (most : ℕ) (all : Bool) (away : Opening) (r : Rest) → Fits away → TreeFits (new most on all away e r)
 new_fits on e zero all away r h = leaf_line_fits on e r away h
 new_fits on e (suc most) all away r h =
     let interrupts = all && has_text away in
-    start_fits on e r (starts on interrupts r) away (leaf_line on away r e) (new most on true nothing e) (starts_fits on interrupts r) h (leaf_line_fits on e r away h)
-    (λ rest. new_fits on e most true nothing rest tt)
+    start_fits on e r (starts on interrupts r) away (leaf_line on away r e) _ (starts_fits on interrupts r) h (leaf_line_fits on e r away h)
+    (λ s. new_fits on (beside_in s.container r e) most true nothing s.rest tt)
 
-goes_on_fits : (on : Constructs) (e : Option LineEnding) (r : Rest) (o : Option Rest) (c : Container) (kids : Blocks) (inner : Opening) (more : Rest → Tree) → Fits (Inside c kids inner)
+goes_on_fits : (on : Constructs) (e : Beside) (r : Rest) (o : Option Rest) (c : Container) (kids : Blocks) (inner : Opening) (more : Rest → Tree) → Fits (Inside c kids inner)
     → ((rest : Rest) → TreeFits (more rest)) → TreeFits (goes_on o on c kids inner e r more)
 goes_on_fits on e r None c kids inner more h k = new_fits on e (length r) false (Inside c kids inner) r h
 goes_on_fits on e r (Some rest) c kids inner more h k = in_container_fits on e r c kids (more rest) h.0 h.1 (k rest)
 
-grow_fits : (on : Constructs) (e : Option LineEnding) (now : Opening) (r : Rest) → Fits now → TreeFits (grow on e now r)
+grow_fits : (on : Constructs) (e : Beside) (now : Opening) (r : Rest) → Fits now → TreeFits (grow on e now r)
 grow_fits on e (Leaf leaf) r h =
     taken_fits (takes on leaf r e) (new (length r) on true (Leaf leaf) e r) (takes_fits on e r leaf h) (new_fits on e (length r) true (Leaf leaf) r h)
 grow_fits on e (Inside c kids inner) r h =
-    goes_on_fits on e r (continues on c (began_blank kids inner) r) c kids inner (grow on e inner) h (λ rest. grow_fits on e inner rest h.2)
+    goes_on_fits on e r (continues on c (began_blank kids inner) r) c kids inner (grow on (beside_in c r e) inner) h (λ rest. grow_fits on (beside_in c r e) inner rest h.2)
 
 -- ---- the whole
 
 step_fits : (on : Constructs) (t : Tree) (line : TextLine) → TreeFits t → TreeFits (step on t line)
 step_fits on t line h =
-    let more = grow_fits on line.ending t.now (whole line.content) h.now in
-    record { done = joined t.done (grow on line.ending t.now (whole line.content)).done h.done more.done; now = more.now }
+    let more = grow_fits on (beside_line line) t.now (whole line.content) h.now in
+    record { done = joined t.done (grow on (beside_line line) t.now (whole line.content)).done h.done more.done; now = more.now }
 
 steps_fit : (on : Constructs) (t : Tree) (ls : List TextLine) → TreeFits t → TreeFits (fold (step on) t ls)
 steps_fit on t [] h = h

@@ -6,6 +6,7 @@ use Rattle.markdown_definition.specs.Lines.{ending_text}
 use Rattle.markdown_definition.specs.Columns.{code_byte}
 use Rattle.markdown_definition.specs.Blocks.{BlockLine, last_ending}
 use Rattle.markdown_definition.specs.Rows.{piece_line, piece_lines}
+use Rattle.markdown_definition.proofs.RowSteps.{no_piece}
 use Rattle.markdown_definition.proofs.OwnLines.{last_ending_more, lines_more}
 use Rattle.markdown_definition.specs.Content.{content_text}
 use Rattle.link_definitions.proofs.content.join_lines.Goals as goal
@@ -15,7 +16,7 @@ loop-line-preserved g c =
     let lines = c.args.lines.now in
     let i = c.loop-line.line-index in
     let before = piece_lines (take i lines) in
-    let line : BlockLine = piece_line (get_or lines i record { text = record { ref_ptr = (0, 0); now = [] }; owed = 0; ending = None }) in
+    let line : BlockLine = piece_line (get_or lines i no_piece) in
     let k = c.loop-line.invariant in
     let more : piece_lines (take (i + 1) lines) ≡ before ++ line ∷ [] = map_more piece_line lines i _ c.loop-line-test.true in
     record {

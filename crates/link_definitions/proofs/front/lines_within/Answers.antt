@@ -1,6 +1,7 @@
 use Rattle.std.proofs.Common.{◌≡◌, suc, take, None, [], ap, arith, inl, inr}
 use Rattle.std.proofs.lemmas.Bool.{cases_lt}
 use Rattle.markdown_definition.specs.Rows.{piece_lines}
+use Rattle.markdown_definition.proofs.RowSteps.{no_piece}
 use Rattle.link_definitions.specs.Contents.{total}
 use Rattle.link_definitions.proofs.Splits.{total_more, total_grows}
 use Rattle.link_definitions.proofs.front.lines_within.Goals as goal
@@ -19,7 +20,7 @@ pub loop-i-preserved : goal.loop-i-preserved
 loop-i-preserved c =
     let k = c.loop-i.invariant in
     let ls = piece_lines c.args.lines.now in
-    let longer = total_more c.loop-i.i c.args.lines.now record { text = record { ref_ptr = (0, 0); now = [] }; owed = 0; ending = None } c.loop-i-test.true in
+    let longer = total_more c.loop-i.i c.args.lines.now no_piece c.loop-i-test.true in
     record {
       left_is = omega (arith, longer, k.left_is, c.saturating_sub-left.ensures, c.room.ensures);
       fewer = λ n within more most.

@@ -1,6 +1,6 @@
 use Rattle.std.proofs.Common.{◌≡◌, ◌++◌, ◌∷◌, [], None, sym, ap, ◌∙◌, refl, take}
 use Rattle.std.proofs.lemmas.Result.{on_ok_weaker}
-use Rattle.markdown_definition.specs.Tree.{block_line, Paragraph, Text, own_lines}
+use Rattle.markdown_definition.specs.Tree.{spaced_line, Paragraph, Text, own_lines}
 use Rattle.markdown_definition.specs.Rows.{whole_lines, piece_lines, piece_line, all_taken, Single}
 use Rattle.block_tree.proofs.Leaves as leaves
 use Rattle.std.proofs.lemmas.List.{take-map}
@@ -12,7 +12,7 @@ returns-clause-read g c =
     let p = c.args.self.now in
     let pool = piece_lines p.pieces.items in
     let text = p.paragraph.now in
-    let l = block_line text None in
+    let l = spaced_line text None in
     let front = take p.taken p.pieces.items in
     let cut : piece_lines c.truncate.new.self.items ≡ take (all_taken p.rows.rows.items) pool =
     ap piece_lines c.truncate.ensures.items ∙ sym (take-map piece_line p.taken p.pieces.items) ∙ ap (λ n. take n pool) p.counted in

@@ -1,8 +1,10 @@
 use Rattle.std.proofs.Common.{◌∷◌, true, false, sym, ap, ◌∙◌, length}
+use Rattle.markdown_definition.specs.declared.beside.Kind.{Kind}
 use Rattle.markdown_definition.specs.Started.{started}
 use Rattle.markdown_definition.specs.Tree.{Nil, nothing}
 use Rattle.block_lines.specs.View.{rest_of, started_if}
 use Rattle.block_tree.specs.Spine.{level, grown}
+use Rattle.block_tree.specs.View.{new_inside}
 use Rattle.block_tree.proofs.Starting as starting
 use Rattle.block_tree.proofs.parser.Parser.enter_all.Goals as goal
 
@@ -20,7 +22,8 @@ loop-container-preserved g c = λ around kids h.
       inner = level c.in-Some.container k.inner_kids ∷ k.inner;
       inner_kids = Nil;
       reads = c.in_ok-enter.ensures k.inner k.inner_kids k.reads;
-      grows = λ ending. k.grows ending ∙ starting.inside_more on ending k.inner k.inner_kids rest s (sym c.starts.ensures ∙ ap started_if c.in-Some.is);
+      grows = k.grows ∙ starting.inside_more on c.loop-container.here k.inner k.inner_kids rest s (sym c.starts.ensures ∙ ap started_if c.in-Some.is)
+          ∙ ap (λ (x : Kind). grown (level c.in-Some.container k.inner_kids ∷ k.inner) Nil (new_inside on record { before = x; ending = c.loop-container.here.ending } s.rest)) (sym c.kind_after-here.ensures);
     }
 
 pub returns : goal.returns
@@ -32,5 +35,5 @@ returns g c = λ around kids h.
       inner = k.inner;
       inner_kids = k.inner_kids;
       reads = k.reads;
-      grows = λ ending. k.grows ending ∙ ap (grown k.inner k.inner_kids) (starting.new_none on ending (length rest) true nothing rest (sym c.starts.ensures ∙ ap started_if c.in_default.is));
+      grows = k.grows ∙ ap (grown k.inner k.inner_kids) (starting.new_none on c.loop-container.here (length rest) true nothing rest (sym c.starts.ensures ∙ ap started_if c.in_default.is));
     }

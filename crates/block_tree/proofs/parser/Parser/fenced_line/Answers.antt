@@ -23,13 +23,13 @@ returns-then-not-is_fence_end g c = λ around kids opening ls h.
     let on = c.args.on.now in
     let f = fence_view c.args.fence in
     let r = rest_of c.args.rest in
-    let e = c.args.ending in
+    let e = c.args.beside in
     let l = rest_line (fence_line f r) e in
     let leaf = Fenced f opening (ls ++ l ∷ []) in
     let piece_is = c.piece.ensures ∙ ap (λ (x : Rest). rest_line x e) c.fence_line.ensures in
-    subst (λ (t : Tree). Shows p.rows.rows.items p.rows.waiting.items p.rows.bare p.open.items (piece_lines c.push.new.self.items) (InFenced f e) (grown around kids t)) (sym (steps.fenced_goes_on on e r f opening ls (sym c.is_fence_end.ensures ∙ c.if-not-is_fence_end.true)))
-    (subst (λ (bs : Blocks). Shows p.rows.rows.items p.rows.waiting.items p.rows.bare p.open.items (piece_lines c.push.new.self.items) (InFenced f e) (spine around bs leaf)) (sym (join-nil kids))
-    (leaves.shows_line p.rows.rows.items p.rows.waiting.items p.rows.bare p.open.items pool (piece_lines c.push.new.self.items) (leaf_state p.leaf) (InFenced f e) around kids (Fenced f opening ls) leaf l
+    subst (λ (t : Tree). Shows p.rows.rows.items p.rows.waiting.items p.rows.bare p.open.items (piece_lines c.push.new.self.items) (InFenced f e.ending) (grown around kids t)) (sym (steps.fenced_goes_on on e r f opening ls (sym c.is_fence_end.ensures ∙ c.if-not-is_fence_end.true)))
+    (subst (λ (bs : Blocks). Shows p.rows.rows.items p.rows.waiting.items p.rows.bare p.open.items (piece_lines c.push.new.self.items) (InFenced f e.ending) (spine around bs leaf)) (sym (join-nil kids))
+    (leaves.shows_line p.rows.rows.items p.rows.waiting.items p.rows.bare p.open.items pool (piece_lines c.push.new.self.items) (leaf_state p.leaf) (InFenced f e.ending) around kids (Fenced f opening ls) leaf l
     (leaves.enough_lines p) (leaves.piece_pushed p.pieces.items c.piece.result c.push.new.self.items l c.in_ok-push.ensures.items piece_is) refl (ap (InFenced f) (sym (leaves.last_ending_or-more opening ls l))) h))
 
 pub returns : goal.returns
@@ -40,7 +40,7 @@ returns g c =
     let on = c.args.on.now in
     let f = fence_view c.args.fence in
     let r = rest_of c.args.rest in
-    let e = c.args.ending in
+    let e = c.args.beside in
     let left = leaves.all_left p.rows.rows.items p.rows.waiting.items p.rows.bare pool around kids (leaf_lines (Fenced f opening ls)) h.written (leaves.enough_lines p) in
     let long = length-map p.pieces.items piece_line in
     let count = c.len.result - p.taken - 1 in

@@ -1,7 +1,7 @@
 use Rattle.std.proofs.Common.{◌++◌, ◌∷◌, [], None, ◌∙◌, refl}
 use Rattle.std.proofs.lemmas.Result.{on_ok_weaker}
 use Rattle.markdown_definition.specs.declared.row.Row.TheVariants as row
-use Rattle.markdown_definition.specs.Tree.{block_line, Heading}
+use Rattle.markdown_definition.specs.Tree.{spaced_line, Heading}
 use Rattle.markdown_definition.specs.Rows.{piece_lines}
 use Rattle.block_tree.proofs.Leaves as leaves
 use Rattle.block_tree.proofs.parser.Parser.heading.Goals as goal
@@ -11,7 +11,7 @@ returns g c =
     on_ok_weaker c.ending.result (λ waits. λ around kids h.
     let p = c.args.self.now in
     let pool = piece_lines p.pieces.items in
-    let l = block_line c.args.atx.content.now None in
+    let l = spaced_line c.args.atx.content.now None in
     let block = Heading c.args.atx.rank (l ∷ []) in
     let more = leaves.piece_pushed p.pieces.items _ c.push.new.self.items l c.in_ok-push.ensures.items refl in
     let k = leaves.written_as p.rows.rows.items p.rows.rows.items p.rows.waiting.items p.rows.waiting.items p.rows.bare p.rows.bare (pool ++ l ∷ []) (piece_lines c.push.new.self.items) around kids (l ∷ []) (l ∷ [])

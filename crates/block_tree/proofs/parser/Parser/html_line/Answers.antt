@@ -17,7 +17,7 @@ returns-then-html_stops g c =
     let p = c.args.self.now in
     let on = c.args.on.now in
     let r = rest_of c.args.rest in
-    let e = c.args.ending in
+    let e = c.args.beside in
     let kind = number_of c.args.kind in
     let leaf = Leaf (OpenHtml kind ls) in
     let last : (c.len-depth.result == vec_len p.open) ≡ true = eq-eqb c.len-depth.result (vec_len p.open) c.len-depth.ensures in
@@ -32,7 +32,7 @@ returns g c =
     on_ok_weaker c.html_with.result (λ reads. λ around kids ls h.
     let on = c.args.on.now in
     let r = rest_of c.args.rest in
-    let e = c.args.ending in
+    let e = c.args.beside in
     let kind = number_of c.args.kind in
     subst (λ (t : Tree). HasRead c.html_with.new.self (grown around kids t)) (sym (steps.html_goes_on on e r kind ls (sym c.html_stops.ensures ∙ c.if-html_stops.false)))
     (reads around kids (OpenHtml kind ls) ls refl h))

@@ -24,7 +24,7 @@ returns-then-is_blank g c = λ around kids ls pending h.
     let pool = piece_lines p.pieces.items in
     let on = c.args.on.now in
     let r = rest_of c.args.rest in
-    let e = c.args.ending in
+    let e = c.args.beside in
     let l = rest_line (outdented 4 r) e in
     let leaf = Indented ls (pending ++ l ∷ []) in
     let piece_is = c.piece.ensures ∙ ap (λ (x : Rest). rest_line x e) c.outdented.ensures in
@@ -39,7 +39,7 @@ returns-then-starts_code_indented g c = λ around kids ls pending h.
     let pool = piece_lines p.pieces.items in
     let on = c.args.on.now in
     let r = rest_of c.args.rest in
-    let e = c.args.ending in
+    let e = c.args.beside in
     let l = rest_line (outdented 4 r) e in
     let all = ls ++ pending ++ l ∷ [] in
     let leaf = Indented all [] in
@@ -49,11 +49,11 @@ returns-then-starts_code_indented g c = λ around kids ls pending h.
     let left = leaves.all_left p.rows.rows.items p.rows.waiting.items p.rows.bare pool around kids (ls ++ pending) h.written (leaves.enough_lines p) in
     let many : count ≡ length all =
     omega (arith, left, length-append (ls ++ pending) (l ∷ []), length-map p.pieces.items piece_line, p.counted, p.pieces.ok.0, c.len.ensures, c.in_ok-push-2.ensures.len) in
-    subst (λ (t : Tree). Shows p.rows.rows.items p.rows.waiting.items p.rows.bare p.open.items new_pool (InIndented count e) (grown around kids t)) (sym (steps.indented_code on e r ls pending (sym c.is_blank.ensures ∙ c.if-is_blank.false) (sym c.starts_code_indented.ensures ∙ c.if-starts_code_indented.true)))
-    (subst (λ (bs : Blocks). Shows p.rows.rows.items p.rows.waiting.items p.rows.bare p.open.items new_pool (InIndented count e) (spine around bs leaf)) (sym (join-nil kids))
-    (leaves.shows_line p.rows.rows.items p.rows.waiting.items p.rows.bare p.open.items pool new_pool (leaf_state p.leaf) (InIndented count e) around kids (Indented ls pending) leaf l
+    subst (λ (t : Tree). Shows p.rows.rows.items p.rows.waiting.items p.rows.bare p.open.items new_pool (InIndented count e.ending) (grown around kids t)) (sym (steps.indented_code on e r ls pending (sym c.is_blank.ensures ∙ c.if-is_blank.false) (sym c.starts_code_indented.ensures ∙ c.if-starts_code_indented.true)))
+    (subst (λ (bs : Blocks). Shows p.rows.rows.items p.rows.waiting.items p.rows.bare p.open.items new_pool (InIndented count e.ending) (spine around bs leaf)) (sym (join-nil kids))
+    (leaves.shows_line p.rows.rows.items p.rows.waiting.items p.rows.bare p.open.items pool new_pool (leaf_state p.leaf) (InIndented count e.ending) around kids (Indented ls pending) leaf l
     (leaves.enough_lines p) (leaves.piece_pushed p.pieces.items c.piece-then-starts_code_indented.result c.push-then-starts_code_indented.new.self.items l c.in_ok-push-2.ensures.items piece_is) (append-nil all)
-    (ap (λ n. InIndented n e) many ∙ ap (InIndented (length all)) (sym (leaves.last_ending_or-more None (ls ++ pending) l))) h))
+    (ap (λ n. InIndented n e.ending) many ∙ ap (InIndented (length all)) (sym (leaves.last_ending_or-more None (ls ++ pending) l))) h))
 
 pub returns : goal.returns
 returns g c =
@@ -61,7 +61,7 @@ returns g c =
     let p = c.args.self.now in
     let on = c.args.on.now in
     let r = rest_of c.args.rest in
-    let e = c.args.ending in
+    let e = c.args.beside in
     let leaf = Leaf (Indented ls pending) in
     let last : (c.len-depth.result == vec_len p.open) ≡ true = eq-eqb c.len-depth.result (vec_len p.open) c.len-depth.ensures in
     let deep : c.len-depth.result ≡ length around = omega (arith, c.len-depth.ensures, p.open.ok.0, ap length h.opened, closing.length-containers around) in

@@ -2,7 +2,8 @@ use Rattle.std.proofs.Common.{◌≡◌, [], false, ◌==◌, sym, ap, ◌∙◌
 use Rattle.std.proofs.lemmas.Result.{on_ok_weaker}
 use Rattle.markdown_definition.specs.Columns.{Rest}
 use Rattle.markdown_definition.specs.ParagraphLines.{AreLines}
-use Rattle.markdown_definition.specs.Tree.{new, grow, leaf_text}
+use Rattle.markdown_definition.specs.Lines.{text_line}
+use Rattle.markdown_definition.specs.Tree.{beside_line, new, grow, leaf_text}
 use Rattle.block_lines.specs.View.{rest_of}
 use Rattle.block_lines.specs.Fences.{fence_view}
 use Rattle.html_lines.specs.Views.{number_of}
@@ -20,11 +21,12 @@ returns-then-depth-len g c =
     on_ok_weaker c.start_line.result (λ grows. λ t clean h.
     let p = c.args.self.now in
     let on = c.args.on.now in
-    let e = c.args.line.ending in
-    let d = c.descend-depth.ensures.descent t e h in
+    let b = beside_line (text_line c.args.line.content.now c.args.line.ending) in
+    let d = c.descend-depth.ensures.descent t h in
     let depth = c.descend-depth.result.0 in
     let r = rest_of c.descend-depth.result.1 in
-    let whole_line = ap (λ (x : Rest). grown [] t.done (grow on e t.now x)) c.new.ensures in
+    let e = c.descend-depth.result.2 in
+    let whole_line = ap (λ (x : Rest). grown [] t.done (grow on b t.now x)) c.new.ensures in
     let here = subst (HasRead p) (sym d.same) h in
     let clean_here = subst AreLines (ap (λ (s : Spine). leaf_text s.leaf) (sym d.same) ∙ text_at d.around d.kids d.now) (subst AreLines (sym (text_at [] t.done t.now)) clean) in
     let outer : (depth == vec_len p.open) ≡ false = ne_eqb depth (vec_len p.open) (λ same. omega (arith, same, c.if-depth-len.true, c.len.ensures)) in
@@ -40,11 +42,12 @@ returns-in-Text g c =
     on_ok_weaker c.start_line-in-Text.result (λ grows. λ t clean h.
     let p = c.args.self.now in
     let on = c.args.on.now in
-    let e = c.args.line.ending in
-    let d = c.descend-depth.ensures.descent t e h in
+    let b = beside_line (text_line c.args.line.content.now c.args.line.ending) in
+    let d = c.descend-depth.ensures.descent t h in
     let depth = c.descend-depth.result.0 in
     let r = rest_of c.descend-depth.result.1 in
-    let whole_line = ap (λ (x : Rest). grown [] t.done (grow on e t.now x)) c.new.ensures in
+    let e = c.descend-depth.result.2 in
+    let whole_line = ap (λ (x : Rest). grown [] t.done (grow on b t.now x)) c.new.ensures in
     let here = subst (HasRead p) (sym d.same) h in
     let clean_here = subst AreLines (ap (λ (s : Spine). leaf_text s.leaf) (sym d.same) ∙ text_at d.around d.kids d.now) (subst AreLines (sym (text_at [] t.done t.now)) clean) in
     let none = descending.no_deeper p.open.items d.around d.kids d.now here.opened (omega (arith, d.deep, c.if-depth-len.false, c.len.ensures, c.descend-depth.ensures.within, p.open.ok.0)) in
@@ -59,11 +62,12 @@ returns-in-Indented g c =
     on_ok_weaker c.indented_line.result (λ grows. λ t clean h.
     let p = c.args.self.now in
     let on = c.args.on.now in
-    let e = c.args.line.ending in
-    let d = c.descend-depth.ensures.descent t e h in
+    let b = beside_line (text_line c.args.line.content.now c.args.line.ending) in
+    let d = c.descend-depth.ensures.descent t h in
     let depth = c.descend-depth.result.0 in
     let r = rest_of c.descend-depth.result.1 in
-    let whole_line = ap (λ (x : Rest). grown [] t.done (grow on e t.now x)) c.new.ensures in
+    let e = c.descend-depth.result.2 in
+    let whole_line = ap (λ (x : Rest). grown [] t.done (grow on b t.now x)) c.new.ensures in
     let here = subst (HasRead p) (sym d.same) h in
     let none = descending.no_deeper p.open.items d.around d.kids d.now here.opened (omega (arith, d.deep, c.if-depth-len.false, c.len.ensures, c.descend-depth.ensures.within, p.open.ok.0)) in
     subst (HasRead c.indented_line.new.self) (sym d.grows ∙ whole_line)
@@ -75,11 +79,12 @@ returns-in-Fenced g c =
     on_ok_weaker c.fenced_line.result (λ grows. λ t clean h.
     let p = c.args.self.now in
     let on = c.args.on.now in
-    let e = c.args.line.ending in
-    let d = c.descend-depth.ensures.descent t e h in
+    let b = beside_line (text_line c.args.line.content.now c.args.line.ending) in
+    let d = c.descend-depth.ensures.descent t h in
     let depth = c.descend-depth.result.0 in
     let r = rest_of c.descend-depth.result.1 in
-    let whole_line = ap (λ (x : Rest). grown [] t.done (grow on e t.now x)) c.new.ensures in
+    let e = c.descend-depth.result.2 in
+    let whole_line = ap (λ (x : Rest). grown [] t.done (grow on b t.now x)) c.new.ensures in
     let here = subst (HasRead p) (sym d.same) h in
     let none = descending.no_deeper p.open.items d.around d.kids d.now here.opened (omega (arith, d.deep, c.if-depth-len.false, c.len.ensures, c.descend-depth.ensures.within, p.open.ok.0)) in
     subst (HasRead c.fenced_line.new.self) (sym d.grows ∙ whole_line)
@@ -91,11 +96,12 @@ returns-in-Html g c =
     on_ok_weaker c.html_line.result (λ grows. λ t clean h.
     let p = c.args.self.now in
     let on = c.args.on.now in
-    let e = c.args.line.ending in
-    let d = c.descend-depth.ensures.descent t e h in
+    let b = beside_line (text_line c.args.line.content.now c.args.line.ending) in
+    let d = c.descend-depth.ensures.descent t h in
     let depth = c.descend-depth.result.0 in
     let r = rest_of c.descend-depth.result.1 in
-    let whole_line = ap (λ (x : Rest). grown [] t.done (grow on e t.now x)) c.new.ensures in
+    let e = c.descend-depth.result.2 in
+    let whole_line = ap (λ (x : Rest). grown [] t.done (grow on b t.now x)) c.new.ensures in
     let here = subst (HasRead p) (sym d.same) h in
     let none = descending.no_deeper p.open.items d.around d.kids d.now here.opened (omega (arith, d.deep, c.if-depth-len.false, c.len.ensures, c.descend-depth.ensures.within, p.open.ok.0)) in
     subst (HasRead c.html_line.new.self) (sym d.grows ∙ whole_line)

@@ -1,5 +1,5 @@
 use Rattle.std.proofs.Common.{[], None, sym, subst, refl}
-use Rattle.markdown_definition.specs.Tree.{block_line, Blocks, Text, Fenced}
+use Rattle.markdown_definition.specs.Tree.{spaced_line, Blocks, Text, Fenced}
 use Rattle.markdown_definition.specs.Rows.{piece_lines}
 use Rattle.block_lines.specs.Fences.{fence_view}
 use Rattle.block_tree.specs.Spine.{spine}
@@ -14,7 +14,7 @@ returns g c = λ around kids h.
     let p = c.args.self.now in
     let pool = piece_lines p.pieces.items in
     let f = fence_view c.args.fence in
-    let l = block_line f.info None in
+    let l = spaced_line f.info None in
     let leaf = Fenced f c.args.ending [] in
     subst (λ (bs : Blocks). Shows p.rows.rows.items p.rows.waiting.items p.rows.bare p.open.items (piece_lines c.push.new.self.items) (InFenced f c.args.ending) (spine around bs leaf)) (sym (join-nil kids))
     (leaves.shows_line p.rows.rows.items p.rows.waiting.items p.rows.bare p.open.items pool (piece_lines c.push.new.self.items) (leaf_state p.leaf) (InFenced f c.args.ending) around kids (Text []) leaf l

@@ -11,7 +11,8 @@ use Rattle.tree_html.specs.Printed.{laid}
 use Rattle.tree_html.specs.Printable.{IsPrintableRow}
 use Rattle.tree_html.proofs.Lines.{first_line, first_codes_of}
 use Rattle.tree_html.proofs.Owed.{bytes_owed}
-use Rattle.tree_html.proofs.Fenced.{fenced_laid, no_piece}
+use Rattle.markdown_definition.proofs.RowSteps.{no_piece}
+use Rattle.tree_html.proofs.Fenced.{fenced_laid}
 use Rattle.tree_html.proofs.page.Page.block.Goals as goal
 
 pub returns-in-Paragraph-clause-printed : goal.returns-in-Paragraph-clause-printed

@@ -6,7 +6,7 @@ use Rattle.markdown_definition.specs.Columns.{bytes_of}
 use Rattle.markdown_definition.specs.Tree.{BlockLine, own_lines, last_ending}
 use Rattle.markdown_definition.specs.Html.{html_of, raw_html}
 use Rattle.markdown_definition.specs.Rows.{piece_line, piece_lines}
-use Rattle.tree_html.proofs.Fenced.{no_piece}
+use Rattle.markdown_definition.proofs.RowSteps.{no_piece}
 use Rattle.markdown_definition.proofs.OwnLines.{lines_printed, last_ending_more}
 use Rattle.tree_html.proofs.page.Page.html_lines.Goals as goal
 

@@ -7,6 +7,7 @@ use Rattle.markdown_definition.specs.Encode.{encode}
 use Rattle.markdown_definition.specs.Tree.{BlockLine, own_lines, last_ending}
 use Rattle.markdown_definition.specs.Html.{text_of}
 use Rattle.markdown_definition.specs.Rows.{piece_line, piece_lines}
+use Rattle.markdown_definition.proofs.RowSteps.{no_piece}
 use Rattle.markdown_definition.proofs.OwnLines.{lines_printed, last_ending_more}
 use Rattle.tree_html.proofs.page.Page.text.Goals as goal
 
@@ -16,7 +17,7 @@ loop-line-preserved g c =
     let i = c.loop-line.line-index in
     let start = string_bytes c.args.self.now.html in
     let before = piece_lines (take i lines) in
-    let line : BlockLine = piece_line (get_or lines i record { text = record { ref_ptr = (0, 0); now = [] }; owed = 0; ending = None }) in
+    let line : BlockLine = piece_line (get_or lines i no_piece) in
     let body : List ℕ → List ℕ = λ codes. encode (trimmed codes) in
     let k = c.loop-line.invariant in
     let more : piece_lines (take (i + 1) lines) ≡ before ++ line ∷ [] = map_more piece_line lines i _ c.loop-line-test.true in
