@@ -373,3 +373,7 @@ row_90 = refl
 row_91 : page_with filtered (codes "![<script>](a)") ≡ codes "<p><img src=\"a\" alt=\"&lt;script>\" /></p>"
 unfolding encode_utf8 raw_names block_names filtered_names
 row_91 = refl
+
+row_92 : page (codes "*a [b*](c)* `d`") ≡ codes "<p><em>a <a href=\"c\">b*</a></em> <code>d</code></p>"
+unfolding encode_utf8 raw_names block_names filtered_names
+row_92 = refl

@@ -1,4 +1,7 @@
+mod Each
 pub mod Occurs
 mod RunPairs
 mod NextPair
 pub mod Pairs
+pub mod Escaped
+pub mod NestedLinks

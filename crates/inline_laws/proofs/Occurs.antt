@@ -23,6 +23,7 @@ use Rattle.markdown_definition.specs.Spans.{Token, Item, Delimiters, runs_of, Sp
 use Rattle.markdown_definition.specs.Scan.{InlineContext, leaf_at, LabelStart, LinkStart, ImageStart, label_start_at, start_bytes, start_tokens, label_part, Text, text, OpenLabel, Reading, reading, read_tokens, unformed, formed, Step, Next, data_step, ended_step, ended_by, label_end_step, last_step, label_step, run_step, leaf_step, step, and_then, scan, whole_text, inlines}
 use Rattle.inline_laws.specs.Occurs.{part_has, has, is_escape, is_character, is_code, is_autolink, is_html, is_escaped_break, is_trailing_break as is_trailing, is_span, is_link, is_image, is_labelled}
 use Rattle.inline_laws.specs.Occurs.{NoEscapes, NoCharacters, NoCode, NoAutolinks, NoHtml, NoEscapedBreaks, NoTrailingBreaks, NoSpans, NoLinks, NoImages, NoLabelEnds}
+use Rattle.inline_laws.proofs.Each.{Each, each-append, each_map, each_same}
 
 -- ---- what may stand in a content
 
@@ -46,23 +47,6 @@ abbrev mutual
   MayStand : Constructs → Inlines → Type 0
   MayStand on Nil = Unit {0}
   MayStand on (Cons i is) = PartMayStand on i × MayStand on is
-
--- what holds of each element
-abbrev Each : {A : Type 0} → (A → Type 0) → List A → Type 0
-Each P [] = Unit {0}
-Each P (x ∷ xs) = P x × Each P xs
-
-each-append : {A : Type 0} (P : A → Type 0) (xs ys : List A) → Each P xs → Each P ys → Each P (xs ++ ys)
-each-append P [] ys p q = q
-each-append P (x ∷ xs) ys p q = (p.0, each-append P xs ys p.1 q)
-
-each_map : {A B : Type 0} (P : B → Type 0) (f : A → B) (xs : List A) → ((x : A) → P (f x)) → Each P (map f xs)
-each_map P f [] p = tt
-each_map P f (x ∷ xs) p = (p x, each_map P f xs p)
-
-each_same : {A : Type 0} (P : A → Type 0) (n : ℕ) (x : A) → P x → Each P (replicate n x)
-each_same P zero x p = tt
-each_same P (suc n) x p = (p, each_same P n x p)
 
 -- what holds of a value, where there is one
 abbrev WhereSome : {A : Type 0} → (A → Type 0) → Option A → Type 0

@@ -1,2 +1,4 @@
 pub mod Occurs
 pub mod Pairs
+pub mod Escaped
+pub mod NestedLinks

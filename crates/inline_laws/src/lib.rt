@@ -3,3 +3,5 @@
 
 pub mod constructs;
 pub mod emphasis;
+pub mod escapes;
+pub mod links;

@@ -15,3 +15,5 @@ pub mod DefinitionRows
 pub mod LabelWords
 pub mod NearestOpener
 pub mod ClosingRuns
+pub mod Scanning
+pub mod InlineSizes

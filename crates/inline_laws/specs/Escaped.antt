@@ -1,0 +1,39 @@
+-- Texts in which everything that might mean something is escaped (CommonMark 2.4).
+use Rattle.std.specs.Prelude.{◌≡◌, ℕ, Bool, true, false, not, if◌then◌else◌, ◌==◌, ◌&&◌, ◌||◌, nat_lt, List, [], ◌∷◌}
+use Rattle.std.specs.List.{flat_map, list_all}
+use Rattle.std.specs.Char.{is_ascii_punctuation}
+use Rattle.markdown_definition.specs.Content.{is_eol}
+use Rattle.markdown_definition.specs.Encode.{encode}
+use Rattle.markdown_definition.specs.InlineCode.{InlineCode, codes_of}
+use Rattle.markdown_definition.specs.Scan.{InlineContext, inlines}
+use Rattle.markdown_definition.specs.InlineHtml.{InlineMeaning, inline_html}
+
+-- a byte, with a backslash before ASCII punctuation
+abbrev pub escaped_byte : ℕ → List ℕ
+escaped_byte b = if is_ascii_punctuation b then 92 ∷ b ∷ [] else b ∷ []
+
+-- a text with a backslash before each ASCII punctuation byte
+abbrev pub escaped : List ℕ → List ℕ
+escaped text = flat_map escaped_byte text
+
+-- a byte that is no tab and ends no line
+abbrev pub is_line_byte : ℕ → Bool
+is_line_byte b = nat_lt b 256 && not ((b == 9) || is_eol b)
+
+-- a space comes first
+abbrev pub begins_with_space : List ℕ → Bool
+begins_with_space [] = false
+begins_with_space (b ∷ bs) = b == 32
+
+-- a space comes last
+abbrev pub ends_with_space : List ℕ → Bool
+ends_with_space [] = false
+ends_with_space (b ∷ []) = b == 32
+ends_with_space (b ∷ next ∷ bs) = ends_with_space (next ∷ bs)
+
+-- a line without tabs and without a space at either end, escaped, prints itself as text, whatever stands beside it and whatever is on besides escapes
+abbrev pub EscapeLaw : Type 0
+EscapeLaw =
+    (context : InlineContext) (meaning : InlineMeaning) (content : List InlineCode) (text : List ℕ) → context.on.character_escape ≡ true
+    → list_all is_line_byte text ≡ true → begins_with_space text ≡ false → ends_with_space text ≡ false → codes_of content ≡ escaped text
+    → inline_html meaning (inlines context content) ≡ encode text
