@@ -4,8 +4,8 @@ use Rattle.std.specs.Char.{encode_utf8}
 use Rattle.std.proofs.Common.{refl}
 use Rattle.markdown_definition.specs.HtmlNames.{raw_names, block_names}
 use Rattle.markdown_definition.specs.TagFilter.{filtered_names}
-use Rattle.inline_examples.specs.Pages.{line_between, two_lines}
-use Rattle.markdown_definition.specs.InlineCode.{Whitespace, Punctuation, Other}
+use Rattle.inline_examples.specs.Pages.{page, line_between, two_lines}
+use Rattle.markdown_definition.specs.declared.beside.Kind.TheVariants.{Whitespace, Punctuation, Other}
 
 row_0 : two_lines (codes "*a") Punctuation (codes "*.") ≡ codes "<em>a\n</em>."
 unfolding encode_utf8 raw_names block_names filtered_names
@@ -58,3 +58,13 @@ row_11 = refl
 row_12 : line_between Whitespace Whitespace ((240 ∷ 159 ∷ 170 ∷ 144 ∷ []) ++ codes "_b_") ≡ (240 ∷ 159 ∷ 170 ∷ 144 ∷ []) ++ codes "_b_"
 unfolding encode_utf8 raw_names block_names filtered_names
 row_12 = refl
+
+-- a quote's marker stands before a run where no space belongs to it
+
+row_marker_0 : page (codes "> *a" ++ (10 ∷ []) ++ codes ">*.") ≡ codes "<blockquote>" ++ (10 ∷ []) ++ codes "<p><em>a" ++ (10 ∷ []) ++ codes "</em>.</p>" ++ (10 ∷ []) ++ codes "</blockquote>"
+unfolding encode_utf8 raw_names block_names filtered_names
+row_marker_0 = refl
+
+row_marker_1 : page (codes "> *a" ++ (10 ∷ []) ++ codes "> *.") ≡ codes "<blockquote>" ++ (10 ∷ []) ++ codes "<p>*a" ++ (10 ∷ []) ++ codes "*.</p>" ++ (10 ∷ []) ++ codes "</blockquote>"
+unfolding encode_utf8 raw_names block_names filtered_names
+row_marker_1 = refl

@@ -17,7 +17,9 @@ use Rattle.markdown_definition.specs.Blocks.{BlockLine, block_line, Block, Parag
 use Rattle.markdown_definition.specs.Tree.{blocks}
 use Rattle.markdown_definition.specs.Pieces.{Piece, Bytes, Fresh, layout}
 use Rattle.markdown_definition.specs.Html.{heading_tag, heading_end}
-use Rattle.markdown_definition.specs.InlineCode.{Kind, Whitespace, ContentLine, inline_content}
+use Rattle.markdown_definition.specs.declared.beside.Kind.{Kind}
+use Rattle.markdown_definition.specs.declared.beside.Kind.TheVariants.{Whitespace}
+use Rattle.markdown_definition.specs.InlineCode.{inline_content}
 use Rattle.markdown_definition.specs.Scan.{InlineContext, inlines}
 use Rattle.markdown_definition.specs.InlineHtml.{InlineMeaning, Linked, linked, inline_html}
 
@@ -126,9 +128,6 @@ find_labelled label (d ∷ ds) = if bytes_eq label d.label then Some d.target el
 
 -- ---- pages
 
-abbrev pub content_lines : List BlockLine → List ContentLine
-content_lines ls = map (λ l. record { before = Whitespace; line = l }) ls
-
 abbrev pub context_of : Constructs → List Labelled → InlineContext
 context_of on ds = record { on = on; names = names; is_defined = λ label. is_some (find_labelled (normal label) ds) }
 
@@ -144,11 +143,11 @@ meaning_of on compile ds =
     }
 
 -- the HTML of the content of these lines, before a character of this kind in the text
-abbrev pub lines_html : Constructs → CompileOptions → List Labelled → Kind → List ContentLine → List ℕ
+abbrev pub lines_html : Constructs → CompileOptions → List Labelled → Kind → List BlockLine → List ℕ
 lines_html on compile ds after ls = inline_html (meaning_of on compile ds) (inlines (context_of on ds) (inline_content is_punctuation after ls))
 
 abbrev pub text_html : Constructs → CompileOptions → List Labelled → List BlockLine → List ℕ
-text_html on compile ds ls = lines_html on compile ds Whitespace (content_lines ls)
+text_html on compile ds ls = lines_html on compile ds Whitespace ls
 
 abbrev pub is_definition : Block → Bool
 is_definition (Definition label destination title) = true
@@ -195,10 +194,10 @@ filtered = record default_options {
 -- the content of one line between characters of these kinds in the text
 abbrev pub line_between : Kind → Kind → List ℕ → List ℕ
 line_between before after line =
-    lines_html default_constructs default_compile_options [] after (record { before = before; line = block_line line None } ∷ [])
+    lines_html default_constructs default_compile_options [] after (block_line line None before ∷ [])
 
 -- the content of two lines with a line feed between, the second after a character of this kind in the text
 abbrev pub two_lines : List ℕ → Kind → List ℕ → List ℕ
 two_lines first before second =
     lines_html default_constructs default_compile_options [] Whitespace
-    (record { before = Whitespace; line = block_line first (Some LineFeed) } ∷ record { before = before; line = block_line second None } ∷ [])
+    (block_line first (Some LineFeed) Whitespace ∷ block_line second None before ∷ [])

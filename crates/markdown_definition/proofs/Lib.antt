@@ -1,5 +1,7 @@
 mod Rows
 mod LeafRows
+mod ReferenceTexts
+mod UrlTexts
 pub mod Plain
 pub mod Visible
 pub mod LinkRenaming

@@ -2,15 +2,11 @@
 use Rattle.std.specs.Prelude.{ℕ, ◌+◌, ◌-◌, ◌*◌, Bool, if◌then◌else◌, ◌&&◌, ◌||◌, nat_lt, nat_le, List, [], ◌∷◌, map, slice_index}
 use Rattle.std.specs.List.{flat_map}
 use Rattle.std.specs.Char.{is_whitespace}
-use Rattle.markdown_definition.specs.Columns.{is_tab_column}
+use Rattle.markdown_definition.specs.declared.beside.Kind.{Kind}
+use Rattle.markdown_definition.specs.declared.beside.Kind.TheVariants.{Whitespace, Punctuation, Other}
+use Rattle.markdown_definition.specs.Columns.{code_byte}
 use Rattle.markdown_definition.specs.Blocks.{BlockLine}
 use Rattle.markdown_definition.specs.Content.{is_eol, line_codes}
-
--- what a character is beside a run: Unicode whitespace, which the ends of the text and of a line are too, Unicode punctuation, or another (CommonMark 6.2)
-pub data Kind : Type 0 where
-  Whitespace : Kind
-  Punctuation : Kind
-  Other : Kind
 
 -- a code of a content, and the kinds of the characters before and after it in the text
 pub record InlineCode : Type 0 where
@@ -24,11 +20,6 @@ inline_code code before after = record { code = code; before = before; after = a
 -- the codes alone
 abbrev pub codes_of : List InlineCode → List ℕ
 codes_of content = map (λ (c : InlineCode). c.code) content
-
--- a line of a content, and the kind of the character before its first code in the text, which may be a container's marker
-pub record ContentLine : Type 0 where
-  pub before : Kind
-  pub line : BlockLine
 
 -- six bits of a byte after a character's first, the one at this place (UTF-8)
 abbrev pub bits_at : List ℕ → ℕ → ℕ
@@ -57,7 +48,7 @@ character_kind is_punctuation character =
 abbrev pub first_kind : (ℕ → Bool) → Kind → List ℕ → Kind
 first_kind is_punctuation end [] = end
 first_kind is_punctuation end (c ∷ cs) =
-    if is_eol c || is_tab_column c then Whitespace else character_kind is_punctuation (first_character (c ∷ cs))
+    if is_eol c then Whitespace else character_kind is_punctuation (first_character (c ∷ cs))
 
 -- the kind of the character before the next code: of a character of several bytes all after the first keep it
 abbrev pub next_kind : (ℕ → Bool) → Kind → List ℕ → Kind
@@ -71,10 +62,10 @@ with_kinds is_punctuation before after (c ∷ cs) =
     inline_code c before (first_kind is_punctuation after cs)
     ∷ with_kinds is_punctuation (next_kind is_punctuation before (c ∷ cs)) after cs
 
--- the codes of a line with its ending; the kind of the character after the content is given
-abbrev pub line_content : (ℕ → Bool) → Kind → ContentLine → List InlineCode
-line_content is_punctuation after line = with_kinds is_punctuation line.before after (line_codes line.line)
+-- the codes of a line with its ending, in which a column that is left of a tab is a space; the kind of the character after the content is given
+abbrev pub line_content : (ℕ → Bool) → Kind → BlockLine → List InlineCode
+line_content is_punctuation after line = with_kinds is_punctuation line.before after (map code_byte (line_codes line))
 
 -- the content of lines, before a character of this kind in the text
-abbrev pub inline_content : (ℕ → Bool) → Kind → List ContentLine → List InlineCode
+abbrev pub inline_content : (ℕ → Bool) → Kind → List BlockLine → List InlineCode
 inline_content is_punctuation after ls = flat_map (line_content is_punctuation after) ls

@@ -51,3 +51,9 @@ pub mod Spans
 pub mod Scan
 pub mod Strings
 pub mod InlineHtml
+pub mod References
+pub mod ReferenceRows
+pub mod BuiltinReferences
+pub mod Decoded
+pub mod Urls
+pub mod LawfulRows

@@ -1,0 +1,5 @@
+pub mod Values
+pub mod Decoding
+pub mod Table
+pub mod Written
+pub mod Alone

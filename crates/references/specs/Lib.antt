@@ -1,0 +1,5 @@
+pub mod Markers
+pub mod Places
+pub mod Groups
+pub mod Laws
+pub mod Grammar

@@ -1,0 +1,23 @@
+//! Character references (CommonMark 2.5).
+//!
+//!     reference ::= '&' name ';' | '&#' digit{1,7} ';' | '&#' ('x' | 'X') hexadecimal{1,6} ';'
+//!     name      ::= letter or digit{1,31}
+//!
+//! Which names there are, the caller's tables say. A byte, the marker, says how a value is
+//! written: `&` a name, `#` decimal digits, `x` hexadecimal ones.
+#![tactic(auto)]
+
+pub mod builtin;
+pub mod decode;
+pub mod laws;
+pub mod parse;
+pub mod reference;
+#[cfg(test)]
+mod tests;
+pub mod value;
+
+pub use builtin::builtin_reference;
+pub use decode::{decode_named, decode_numeric, push_value};
+pub use parse::push_decoded;
+pub use reference::{CharacterReference, Reference, character_reference, reference_at};
+pub use value::{numeric_character, value_max, value_test};

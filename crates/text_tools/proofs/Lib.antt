@@ -1,0 +1,5 @@
+pub mod Waiting
+pub mod Printed
+pub mod Protocols
+pub mod Escapes
+pub mod Inert

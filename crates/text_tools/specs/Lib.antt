@@ -1,0 +1,3 @@
+pub mod Replaced
+pub mod Tools
+pub mod Laws

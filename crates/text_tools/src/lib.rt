@@ -1,0 +1,18 @@
+//! Text, raw HTML and URLs as HTML.
+//!
+//! Each tool has a form that makes a text and a form `push_` that prints into one.
+#![tactic(auto)]
+
+pub mod encode;
+pub mod filter;
+pub mod laws;
+mod replaced;
+#[cfg(test)]
+mod tests;
+pub mod url;
+
+pub use encode::push_encoded;
+pub use filter::{gfm_tagfilter, push_filtered, push_raw};
+pub use url::{
+    is_permitted, push_sanitized, push_sanitized_with_protocols, sanitize, sanitize_with_protocols,
+};
