@@ -1,5 +1,5 @@
 -- Fenced code, and what it takes from the lines.
-use Rattle.std.proofs.Common.{Option, Some, ◌≡◌, ℕ, ◌+◌, ◌-◌, ◌<◌, ◌≤◌, take, drop, None, List, [], ◌∷◌, ◌++◌, Bool, true, false, ◌==◌, codes, sym, refl, ap, ◌∙◌, length, get_or, arith, append_assoc}
+use Rattle.std.proofs.Common.{Option, Some, ◌≡◌, ℕ, ◌+◌, ◌-◌, ◌<◌, ◌≤◌, take, drop, List, [], ◌∷◌, ◌++◌, Bool, true, false, ◌==◌, codes, sym, refl, ap, ◌∙◌, length, get_or, arith, append_assoc}
 use Rattle.std.specs.Prelude.{map, if◌then◌else◌, ◌||◌}
 use Rattle.std.specs.List.{list_all}
 use Rattle.std.proofs.lemmas.List.{take-map, drop-map, take_rest}

@@ -1,4 +1,3 @@
-pub mod Replaced
 pub mod Owed
 pub mod Lines
 pub mod Fenced
@@ -9,7 +8,6 @@ pub mod Children
 pub mod RowsOf
 pub mod RowSteps
 pub mod Backward
-pub mod Raw
 pub mod LastRow
 pub mod Choose
 pub mod Markers

@@ -1,5 +1,4 @@
 pub mod Printable
 pub mod Loose
 pub mod Levels
-pub mod RawHtml
 pub mod Printed

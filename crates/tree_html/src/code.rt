@@ -12,11 +12,11 @@ ghost use Rattle.markdown_definition.specs.Html.{block_pieces, class_of, code_of
 ghost use Rattle.markdown_definition.specs.Rows.{piece_lines};
 ghost use Rattle.tree_html.specs.Printed.{laid};
 
-use crate::encode::push_encoded;
 use crate::page::Page;
 use markdown_definition::Piece;
 use markdown_options::LineEnding;
 use std::alloc::{AllocError, Allocator};
+use text_tools::push_encoded;
 
 impl<A: Allocator> Page<A> {
     /// Prints indented code (CommonMark 4.4).

@@ -3,7 +3,6 @@
 
 pub mod code;
 pub mod container;
-pub mod encode;
 pub mod heading;
 pub mod html;
 pub mod level;
@@ -12,6 +11,5 @@ pub mod loose;
 pub mod page;
 pub mod printer;
 
-pub use encode::push_encoded;
-pub use html::{push_html, push_raw};
+pub use html::push_html;
 pub use printer::print_rows;

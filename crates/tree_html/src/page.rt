@@ -13,12 +13,12 @@ ghost use Rattle.tree_html.specs.Levels.{row_pieces};
 ghost use Rattle.tree_html.specs.Printable.{IsPrintableRow};
 ghost use Rattle.tree_html.specs.Printed.{laid};
 
-use crate::encode::push_encoded;
 use crate::level::Level;
 use markdown_definition::{Piece, Row};
 use markdown_options::{CompileOptions, LineEnding};
 use std::alloc::{AllocError, Allocator};
 use text_lines::{next_line, trim};
+use text_tools::push_encoded;
 
 /// A page that is being printed.
 #[derive(Drop)]

@@ -1,4 +1,4 @@
-use Rattle.std.proofs.Common.{◌≡◌, ◌++◌, ◌∷◌, [], ℕ, List, Option, string_bytes, sym, ap, ◌∙◌, take, get_or, ◌+◌, None}
+use Rattle.std.proofs.Common.{◌≡◌, ◌++◌, ◌∷◌, [], ℕ, List, Option, string_bytes, sym, ap, ◌∙◌, take, get_or, ◌+◌}
 use Rattle.std.proofs.lemmas.List.{map_more}
 use Rattle.markdown_options.specs.declared.line_ending.LineEnding.{LineEnding}
 use Rattle.markdown_definition.specs.Lines.{ending_text}
