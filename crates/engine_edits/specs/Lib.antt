@@ -1,0 +1,4 @@
+pub mod Counts
+pub mod Edits
+pub mod Replacement
+pub mod Placing

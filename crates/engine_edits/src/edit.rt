@@ -1,0 +1,50 @@
+//! One edit: events that go, and events that come in their place.
+ghost use Rattle.std.specs.Prelude.{◌≡◌, ◌+◌, ◌++◌, ◌≤◌, ◌↔◌, IsTrue, OnOk, OnErr};
+ghost use Rattle.engine_edits.specs.Counts.{together};
+
+use engine_events::Event;
+use std::alloc::{AllocError, Allocator};
+
+/// An edit at a place of a list.
+#[derive(Drop)]
+pub struct Edit<A: Allocator> {
+    /// How many events go.
+    pub remove: usize,
+    /// What comes in their place.
+    pub add: Vec<Event, A>,
+}
+
+impl<A: Allocator> Edit<A> {
+    /// Adds another edit of the same place: its events come after those there.
+    pub fn merge_after(&mut self, remove: usize, add: &[Event]) -> Result<(), AllocError>
+        ensures add { OnOk result (self.new.add.items ≡ self.old.add.items ++ add.now) }
+        ensures remove { OnOk result (self.new.remove ≡ together self.old.remove remove) }
+        ensures err_add { OnErr result (self.new.add.items ≡ self.old.add.items) }
+        ensures err_remove { OnErr result (self.new.remove ≡ self.old.remove) }
+    {
+        self.add.extend_from_slice(add)?;
+        self.remove = self.remove.saturating_add(remove);
+        Ok(())
+    }
+
+    /// Adds another edit of the same place: its events come before those there.
+    pub fn merge_before(&mut self, remove: usize, add: Vec<Event, A>) -> Result<(), AllocError>
+        ensures add { OnOk result (self.new.add.items ≡ add.items ++ self.old.add.items) }
+        ensures remove { OnOk result (self.new.remove ≡ together self.old.remove remove) }
+        ensures err_add { OnErr result (self.new.add.items ≡ self.old.add.items) }
+        ensures err_remove { OnErr result (self.new.remove ≡ self.old.remove) }
+    {
+        let mut all = add;
+        all.extend_from_slice(&self.add)?;
+        self.add = all;
+        self.remove = self.remove.saturating_add(remove);
+        Ok(())
+    }
+
+    /// Whether what goes at a place ends within a list of so many events.
+    pub fn ends_within(&self, at: usize, count: usize) -> bool
+        ensures { IsTrue result ↔ (at + self.now.remove ≤ count) }
+    {
+        at <= count && self.remove <= count - at
+    }
+}

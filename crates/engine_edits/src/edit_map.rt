@@ -1,0 +1,191 @@
+//! Edits of a list of events, made as one replacement.
+use crate::edit::Edit;
+use crate::relink::{push_gone, push_kept, push_relinked};
+use engine_events::Event;
+use markdown_options::Message;
+use std::alloc::{AllocError, Allocator};
+use std::collections::BTreeMap;
+
+/// Edits of a list of events, sorted by place.
+#[derive(Drop)]
+pub struct EditMap<A: Allocator> {
+    edits: BTreeMap<usize, Edit<A>, A>,
+}
+
+impl<A: Allocator> EditMap<A> {
+    ghost use Rattle.std.specs.Prelude.{◌≡◌, []};
+    ghost use Rattle.engine_edits.specs.Edits.{edits_of};
+
+    /// No edits.
+    pub fn new(alloc: A) -> EditMap<A>
+        ensures { edits_of result ≡ [] }
+    {
+        EditMap {
+            edits: BTreeMap::new(alloc),
+        }
+    }
+}
+
+impl<A: Allocator + Clone> EditMap<A> {
+    ghost use Rattle.std.specs.Prelude.{◌≡◌, OnOk, OnErr, IfErr, false, true};
+    ghost use Rattle.markdown_options.specs.Messages.{IsOutOfMemory};
+    ghost use Rattle.engine_edits.specs.Edits.{edits_of, with_edit, with_new, has_place};
+
+    /// Adds an edit: at an index of the list so many events go, and others come in their place.
+    ///
+    /// At one index removals add up, to at most `usize::MAX`, which no list has, and the events come
+    /// after those there.
+    pub fn add(&mut self, index: usize, remove: usize, add: Vec<Event, A>) -> Result<(), Message>
+        ensures edits { OnOk result (edits_of self.new ≡ with_edit false index remove add.items (edits_of self.old)) }
+        ensures err { OnErr result (edits_of self.new ≡ edits_of self.old) }
+        ensures memory { IfErr result (λ message. IsOutOfMemory message) }
+    {
+        if let Some(edit) = self.edits.get_mut(&index) {
+            edit.merge_after(remove, &add)?;
+            return Ok(());
+        }
+        self.insert(index, Edit { remove, add })?;
+        Ok(())
+    }
+
+    /// Adds an edit as [`EditMap::add`] does, but the events come before those there.
+    pub fn add_before(
+        &mut self,
+        index: usize,
+        remove: usize,
+        add: Vec<Event, A>,
+    ) -> Result<(), Message>
+        ensures edits { OnOk result (edits_of self.new ≡ with_edit true index remove add.items (edits_of self.old)) }
+        ensures err { OnErr result (edits_of self.new ≡ edits_of self.old) }
+        ensures memory { IfErr result (λ message. IsOutOfMemory message) }
+    {
+        if let Some(edit) = self.edits.get_mut(&index) {
+            edit.merge_before(remove, add)?;
+            return Ok(());
+        }
+        self.insert(index, Edit { remove, add })?;
+        Ok(())
+    }
+
+    /// Adds the first edit of an index.
+    fn insert(&mut self, index: usize, edit: Edit<A>) -> Result<(), AllocError>
+        requires { has_place index (edits_of self.old) ≡ false }
+        ensures edits { OnOk result (edits_of self.new ≡ with_new index edit.remove edit.add.items (edits_of self.old)) }
+        ensures err { OnErr result (edits_of self.new ≡ edits_of self.old) }
+    {
+        self.edits.insert(index, edit)?;
+        Ok(())
+    }
+}
+
+impl<A: Allocator> EditMap<A> {
+    ghost use Rattle.std.specs.Prelude.{◌≡◌, ◌+◌, ◌<◌, ◌^◌, IfOk, map, length, true, false};
+    ghost use Rattle.engine_edits.specs.Edits.{edits_of};
+    ghost use Rattle.engine_edits.specs.Replacement.{IsOrdered, places, added, replaced, relinked};
+
+    /// Whether the ranges that go stand one after another, within a list of so many events.
+    pub fn is_ordered(&self, count: usize) -> bool
+        ensures yes { result ≡ true → IsOrdered 0 (edits_of self.now) count }
+        ensures no { result ≡ false → ¬ (IsOrdered 0 (edits_of self.now) count) }
+    {
+        let mut from = 0;
+        'edits: for (at, edit) in &self.edits {
+            if *at < from {
+                return false;
+            }
+            if !edit.ends_within(*at, count) {
+                return false;
+            }
+            from = *at + edit.remove;
+        }
+        from <= count
+    }
+
+    /// Where the events of a list stand after the edits.
+    fn places(&self, alloc: A, count: usize) -> Result<Vec<Option<usize>, A>, AllocError>
+        requires ordered { IsOrdered 0 (edits_of self.now) count }
+        requires fits { count + added (edits_of self.now) < 2 ^ 64 }
+        ensures { IfOk result (λ found. found.items ≡ places (edits_of self.now) count) }
+    {
+        let mut places = Vec::with_capacity(alloc, count)?;
+        let mut from = 0;
+        let mut to = 0;
+        'edits: for (at, edit) in &self.edits {
+            push_kept(&mut places, to, *at - from)?;
+            push_gone(&mut places, edit.remove)?;
+            to += *at - from + edit.add.len();
+            from = *at + edit.remove;
+        }
+        push_kept(&mut places, to, count - from)?;
+        Ok(places)
+    }
+
+    /// How many events there are after the edits, or more; no memory has room for more than fit.
+    fn room(&self, count: usize) -> Result<usize, AllocError>
+        ensures { IfOk result (λ room. room ≡ count + added (edits_of self.now)) }
+    {
+        let mut room = count;
+        'edits: for (_, edit) in &self.edits {
+            room = room.checked_add(edit.add.len()).ok_or(AllocError)?;
+        }
+        Ok(room)
+    }
+
+    /// The events with the edits made.
+    fn replaced(
+        &self,
+        alloc: A,
+        events: &[Event],
+        places: &[Option<usize>],
+        room: usize,
+    ) -> Result<Vec<Event, A>, AllocError>
+        requires { IsOrdered 0 (edits_of self.now) (length events.now) }
+        ensures { IfOk result (λ all. all.items ≡ replaced 0 (edits_of self.now) (map (relinked places.now) events.now)) }
+    {
+        let mut all = Vec::with_capacity(alloc, room)?;
+        let mut from = 0;
+        'edits: for (at, edit) in &self.edits {
+            push_relinked(&mut all, &events[from..*at], places)?;
+            all.extend_from_slice(&edit.add)?;
+            from = *at + edit.remove;
+        }
+        push_relinked(&mut all, &events[from..], places)?;
+        Ok(all)
+    }
+}
+
+impl<A: Allocator + Clone> EditMap<A> {
+    ghost use Rattle.std.specs.Prelude.{◌≡◌, [], OnOk, OnErr, IfErr, IfOk, vec_len};
+    ghost use Rattle.markdown_options.specs.Messages.{IsOutOfMemory};
+    ghost use Rattle.engine_edits.specs.Edits.{edits_of};
+    ghost use Rattle.engine_edits.specs.Replacement.{IsOrdered, edited};
+
+    /// Makes all edits at once, counted in the list as it was, and forgets them.
+    ///
+    /// Links between events that stay are kept, and an end whose event went becomes none; links of
+    /// the events that come are taken as they are. An error changes nothing.
+    pub fn consume(&mut self, events: &mut Vec<Event, A>) -> Result<(), Message>
+        requires { IsOrdered 0 (edits_of self.old) (vec_len events.old) }
+        ensures edited { OnOk result (events.new.items ≡ edited (edits_of self.old) events.old.items) }
+        ensures spent { OnOk result (edits_of self.new ≡ []) }
+        ensures err { OnErr result (events.new.items ≡ events.old.items) }
+        ensures err_edits { OnErr result (edits_of self.new ≡ edits_of self.old) }
+        ensures memory { IfErr result (λ message. IsOutOfMemory message) }
+    {
+        let all = self.made(events)?;
+        *events = all;
+        self.edits.clear();
+        Ok(())
+    }
+
+    /// The events with all edits made.
+    fn made(&self, events: &Vec<Event, A>) -> Result<Vec<Event, A>, AllocError>
+        requires { IsOrdered 0 (edits_of self.now) (vec_len events.now) }
+        ensures { IfOk result (λ all. all.items ≡ edited (edits_of self.now) events.now.items) }
+    {
+        let alloc = events.allocator();
+        let room = self.room(events.len())?;
+        let places = self.places(alloc.clone()?, events.len())?;
+        self.replaced(alloc.clone()?, events, &places, room)
+    }
+}

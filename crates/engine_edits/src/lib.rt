@@ -1,0 +1,10 @@
+//! Edits of a list of events, made as one replacement.
+#![tactic(auto)]
+
+pub mod edit;
+pub mod edit_map;
+mod relink;
+#[cfg(test)]
+mod tests;
+
+pub use edit_map::EditMap;

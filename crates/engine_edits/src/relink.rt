@@ -1,0 +1,77 @@
+//! Where events stand after edits, and links that follow them.
+ghost use Rattle.std.specs.Prelude.{◌≡◌, ◌≤◌, ◌<◌, ◌+◌, ◌^◌, ◌++◌, None, OnOk, length, map, replicate};
+ghost use Rattle.engine_edits.specs.Replacement.{Places, rising, relinked, link_after, place_after};
+
+use engine_events::{Event, Link};
+use std::alloc::{AllocError, Allocator};
+
+/// Adds the places of events that stay, from a place on.
+pub(crate) fn push_kept<A: Allocator>(
+    places: &mut Vec<Option<usize>, A>,
+    first: usize,
+    count: usize,
+) -> Result<(), AllocError>
+    requires { first + count < 2 ^ 64 }
+    ensures { OnOk result (places.new.items ≡ places.old.items ++ rising first count) }
+{
+    for offset in 0..count {
+        places.push(Some(first + offset))?;
+    }
+    Ok(())
+}
+
+/// Adds that events are gone.
+pub(crate) fn push_gone<A: Allocator>(
+    places: &mut Vec<Option<usize>, A>,
+    count: usize,
+) -> Result<(), AllocError>
+    ensures { OnOk result (places.new.items ≡ places.old.items ++ replicate count None) }
+{
+    for _ in 0..count {
+        places.push(None)?;
+    }
+    Ok(())
+}
+
+/// Adds events that stay, with their links to where the others stand now.
+pub(crate) fn push_relinked<A: Allocator>(
+    all: &mut Vec<Event, A>,
+    events: &[Event],
+    places: &[Option<usize>],
+) -> Result<(), AllocError>
+    ensures { OnOk result (all.new.items ≡ all.old.items ++ map (relinked places.now) events.now) }
+{
+    for event in events {
+        all.push(relinked(event, places))?;
+    }
+    Ok(())
+}
+
+/// An event with its link to where the others stand now.
+fn relinked(event: &Event, places: &[Option<usize>]) -> Event
+    ensures { result ≡ relinked places.now event.now }
+{
+    let mut event = *event;
+    if let Some(link) = event.link() {
+        event.set_link(Some(link_after(link, places)));
+    }
+    event
+}
+
+/// A link to where the neighbours stand now.
+fn link_after(link: Link, places: &[Option<usize>]) -> Link
+    ensures { result ≡ link_after places.now link }
+{
+    Link {
+        previous: place_after(link.previous, places),
+        next: place_after(link.next, places),
+        content: link.content,
+    }
+}
+
+/// Where an event stands now; none if it is gone.
+fn place_after(place: Option<usize>, places: &[Option<usize>]) -> Option<usize>
+    ensures { result ≡ place_after places.now place }
+{
+    *places.get(place?)?
+}

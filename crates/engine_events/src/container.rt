@@ -1,0 +1,19 @@
+//! Containers that are open (CommonMark 5).
+
+/// A kind of container.
+#[derive(Clone, Copy, Debug, PartialEq, Eq)]
+pub enum Container {
+    BlockQuote,
+    ListItem,
+    GfmFootnoteDefinition,
+}
+
+/// What is kept of an open container.
+#[derive(Clone, Copy, Debug, PartialEq, Eq)]
+pub struct ContainerState {
+    pub kind: Container,
+    /// Whether its first line was blank so far.
+    pub blank_initial: bool,
+    /// How many columns its lines are indented.
+    pub size: usize,
+}

@@ -1,0 +1,16 @@
+//! What is done with the events of a text once it is read.
+
+/// A resolver: it rewrites the events once all are there.
+#[derive(Clone, Copy, Debug, PartialEq, Eq)]
+pub enum Name {
+    Label,
+    Attention,
+    GfmTable,
+    HeadingAtx,
+    HeadingSetext,
+    ListItem,
+    Content,
+    Data,
+    String,
+    Text,
+}

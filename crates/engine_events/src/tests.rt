@@ -1,0 +1,44 @@
+use crate::event::{Content, Event, Kind, Link, Name};
+use crate::place::Point;
+use crate::state::State;
+use markdown_options::{Message, unist};
+
+const START: Point = Point {
+    line: 1,
+    column: 1,
+    index: 0,
+    vs: 0,
+};
+
+#[test]
+fn a_tab_goes_to_the_next_stop(rt: HostRuntime) {
+    let point = START.shift_to(b"a\tb", 2);
+    assert_eq!(rt; point.to_unist(), unist::Point::new(1, 5, 2));
+}
+
+#[test]
+fn a_byte_order_mark_has_no_columns(rt: HostRuntime) {
+    let point = START.shift_to(b"\xEF\xBB\xBFab", 4);
+    assert_eq!(rt; point.to_unist(), unist::Point::new(1, 2, 4));
+}
+
+#[test]
+fn a_link_is_kept_with_its_ends(rt: HostRuntime) {
+    let mut link = Link {
+        previous: None,
+        next: Some(7),
+        content: Content::Text,
+    };
+    let mut event = Event::new(Kind::Enter, Name::Data, START, Some(link));
+    assert_eq!(rt; event.link(), Some(link));
+    link.previous = Some(3);
+    event.set_link(Some(link));
+    assert_eq!(rt; event.link(), Some(link));
+    assert_eq!(rt; event.point(), START);
+}
+
+#[test]
+fn an_error_is_answered(rt: HostRuntime) {
+    let message = Message::out_of_memory();
+    assert_eq!(rt; State::Error(message).to_result(), Err(message));
+}

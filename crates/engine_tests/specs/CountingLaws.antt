@@ -1,0 +1,57 @@
+-- The counting machine is lawful.
+use Rattle.std.proofs.Common.{◌≡◌, ℕ, ◌<◌, ◌≤◌, ◌++◌, List, [], ◌∷◌, map, Option, Some, None, refl, sym, ◌∙◌, arith, append-nil}
+use Rattle.engine_events.specs.declared.event.Event.{Event}
+use Rattle.engine_events.specs.declared.state.Name.{Name}
+use Rattle.engine_events.specs.declared.state.State.TheVariants as states
+use Rattle.markdown_engine.specs.declared.attempt.Attempt.{Attempt}
+use Rattle.markdown_engine.specs.declared.virtual_text.VirtualByte.{VirtualByte}
+use Rattle.markdown_engine.specs.Reading.{Config, mark, handed}
+use Rattle.markdown_engine.specs.Laws.{IsFront, Nested, OnlyAdds, Keeps, Falls, IsRead}
+use Rattle.engine_tests.specs.declared.count.Count.{Count}
+use Rattle.engine_tests.specs.Counting.{count_at, count_step, counts, count_rank}
+
+same_front : (a : List Event) → IsFront a a
+same_front a = ([], sym (append-nil a))
+
+adds_at : (b : Option ℕ) (c : Config Count) (n : Name) → let e = count_at b c n in Nested c.events e.pushed e.config.events
+adds_at None c n = same_front c.events
+adds_at (Some b) c n = same_front c.events
+
+pub count_adds : OnlyAdds count_step
+unfolding count_step
+count_adds c n = adds_at c.current c n
+
+never : (stack : List Attempt) (a : Attempt) → stack ++ a ∷ [] ≡ [] → ⊥
+never [] a h = cc
+never (x ∷ stack) a h = cc
+
+called_at : (b : Option ℕ) (c : Config Count) (stack : List Attempt) (n : Name) → stack ≡ [] → let e = count_at b c n in counts e.config (stack ++ map mark e.pushed) e.state
+called_at None c stack n h = append-nil stack ∙ h
+called_at (Some b) c stack n h = append-nil stack ∙ h
+
+pub count_keeps : Keeps counts count_step
+unfolding count_step
+count_keeps = record {
+  fed = λ size c stack n v read h. h;
+  called = λ c stack n h. called_at c.current c stack n h;
+  ok = λ c stack a h. absurd (never stack a h);
+  nok = λ c stack a h. absurd (never stack a h);
+  no_error = λ c stack m h. h;
+}
+
+lower_at : (b : Option ℕ) (size : ℕ) (c : Config Count) (stack : List Attempt) (n : Name) → c.current ≡ b → let e = count_at b c n in count_rank size e.config (stack ++ map mark e.pushed) e.state < count_rank size c stack (states.Retry n)
+lower_at None size c stack n h = rw h (omega arith)
+lower_at (Some b) size c stack n h = rw h (omega arith)
+
+fed_at : (size : ℕ) (c : Config Count) (stack : List Attempt) (n : Name) (v : Option VirtualByte) → ((w : VirtualByte) → v ≡ Some w → IsRead size c.point w) → count_rank size (handed c v) stack (states.Retry n) ≤ count_rank size c stack (states.Next n)
+fed_at size c stack n None read = omega arith
+fed_at size c stack n (Some w) read = let f = (read w refl).falls in omega arith
+
+pub count_falls : Falls counts count_step count_rank
+unfolding count_step
+count_falls = record {
+  fed = λ size c stack n v h read. fed_at size c stack n v read;
+  called = λ size c stack n h. lower_at c.current size c stack n refl;
+  ok = λ size c stack a h. absurd (never stack a h);
+  nok = λ size c stack a h. absurd (never stack a h);
+}

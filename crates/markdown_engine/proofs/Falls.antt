@@ -1,0 +1,86 @@
+-- Each byte of the virtual text that is read leaves less.
+use Rattle.std.proofs.Common.{◌≡◌, ℕ, ◌+◌, ◌<◌, ◌≤◌, ◌∙◌, Bool, true, false, if◌then◌else◌, ◌==◌, nat_lt, nat_le, ◌||◌, ◌&&◌, List, length, slice_index, refl, sym, subst, arith, Option, Some, None, ◌⊎◌, inl, inr}
+use Rattle.std.proofs.lemmas.Bool.{ltb-true, eqb-true, cases_lt}
+use Rattle.std.proofs.lemmas.Bool.Decides.{nat_tests}
+use Rattle.engine_events.specs.declared.place.Point.{Point}
+use Rattle.engine_events.specs.Columns.{tab_size}
+use Rattle.markdown_engine.specs.declared.virtual_text.VirtualByte.{VirtualByte}
+use Rattle.markdown_engine.specs.VirtualText.{virtual_byte, text_to, is_before, given, tab_column, in_line, in_tab, next_line, as_byte, feeds}
+use Rattle.markdown_engine.specs.Laws.{remaining, IsRead}
+
+module _ (size : ℕ) (p : Point) (low : p.index < size) where
+  Less : VirtualByte → Type 0
+  Less v = remaining size v.next < remaining size p
+
+  by_test : (t : Bool) (v w : VirtualByte) → (t ≡ true → Less v) → (t ≡ false → Less w) → Less (if t then v else w)
+  by_test true v w h k = h refl
+  by_test false v w h k = k refl
+
+  tab_less : (b : ℕ) (t : Bool) → (t ≡ false → p.vs < 3) → Less (as_byte b (if t then in_line p else in_tab p))
+  unfolding Less
+  tab_less b true h = omega arith
+  tab_less b false h = let l = h refl in omega arith
+
+  feed_less : (t : Bool) → Less (as_byte 10 (next_line (if t then 2 else 1) p))
+  unfolding Less
+  feed_less true = omega arith
+  feed_less false = omega arith
+
+  line_less : (b : ℕ) → Less (as_byte b (in_line p))
+  unfolding Less
+  line_less b = omega arith
+
+  in_reach : (t u : Bool) → t || u ≡ false → u ≡ false
+  in_reach true u e = absurd (let f : true ≡ false = e in cc)
+  in_reach false u e = e
+
+  below_three : nat_le 3 p.vs ≡ false → p.vs < 3
+  below_three e = grind (arith, nat_tests, e)
+
+  given_less : (bytes : List ℕ) (b : ℕ) → Less (given bytes p b)
+  given_less bytes b =
+      by_test (b == 9) (tab_column p) (if b == 10 then as_byte 10 (next_line 1 p) else if b == 13 then as_byte 10 (next_line (if feeds bytes (p.index + 1) then 2 else 1) p) else as_byte b (in_line p))
+      (λ _. tab_less (if p.vs == 0 then 9 else 32) ((tab_size p.column == 1) || nat_le 3 p.vs) (λ e. below_three (in_reach (tab_size p.column == 1) (nat_le 3 p.vs) e)))
+      (λ _. by_test (b == 10) (as_byte 10 (next_line 1 p)) (if b == 13 then as_byte 10 (next_line (if feeds bytes (p.index + 1) then 2 else 1) p) else as_byte b (in_line p))
+      (λ _. feed_less false)
+      (λ _. by_test (b == 13) (as_byte 10 (next_line (if feeds bytes (p.index + 1) then 2 else 1) p)) (as_byte b (in_line p)) (λ _. feed_less (feeds bytes (p.index + 1))) (λ _. line_less b)))
+
+  pub given_falls : (bytes : List ℕ) (b : ℕ) → remaining size (given bytes p b).next < remaining size p
+  unfolding Less
+  given_falls bytes b = given_less bytes b
+
+by_tests : (t u v : Bool) → t || (u && v) ≡ true → (t ≡ true) ⊎ ((u ≡ true) × (v ≡ true))
+by_tests true u v e = inl refl
+by_tests false true true e = inr (refl, refl)
+by_tests false true false e = absurd (let f : false ≡ true = e in cc)
+by_tests false false v e = absurd (let f : false ≡ true = e in cc)
+
+reach : (i n vs : ℕ) (to : ℕ × ℕ) → to.0 ≤ n → (to.0 ≡ n → to.1 ≡ 0) → i ≡ to.0 → vs < to.1 → i < n
+reach i n vs to h k e l = pick (cases_lt i n)
+  where
+    pick : (i < n) ⊎ (n ≤ i) → i < n
+    pick (inl x) = x
+    pick (inr x) = let z : to.1 ≡ 0 = k (omega arith) in absurd (omega arith)
+
+-- a place before the end of a range in the text
+pub within : (n : ℕ) (to : ℕ × ℕ) (p : Point) → to.0 ≤ n → (to.0 ≡ n → to.1 ≡ 0) → is_before to p ≡ true → p.index < n
+within n to p h k e =
+    elim (by_tests (nat_lt p.index to.0) (p.index == to.0) (nat_lt p.vs to.1) e) [
+      | inl x ↦ (let i = ltb-true p.index to.0 x in omega arith)
+      | inr x ↦ reach p.index n p.vs to h k (eqb-true p.index to.0 x.0) (ltb-true p.vs to.1 x.1)
+    ]
+
+some_same : {x y : VirtualByte} → Some x ≡ Some y → x ≡ y
+some_same h = cc
+
+-- a byte that was read
+pub is_read : (bytes : List ℕ) (to : ℕ × ℕ) (p : Point) (v : Option VirtualByte) (w : VirtualByte) → to.0 ≤ length bytes → (to.0 ≡ length bytes → to.1 ≡ 0) → v ≡ text_to bytes to p → v ≡ Some w → IsRead (length bytes) p w
+is_read bytes to p v w h k e s = pick (is_before to p) refl
+  where
+    pick : (t : Bool) → is_before to p ≡ t → IsRead (length bytes) p w
+    pick true q =
+        let low = within (length bytes) to p h k q in
+        let f : Some (virtual_byte bytes p) ≡ Some w = sym (rw q at e) ∙ s in
+        let same = some_same f in
+        record { within = low; falls = subst (λ (z : VirtualByte). remaining (length bytes) z.next < remaining (length bytes) p) same (given_falls (length bytes) p low bytes (slice_index bytes p.index)) }
+    pick false q = absurd (let f : None ≡ Some w = sym (rw q at e) ∙ s in cc)

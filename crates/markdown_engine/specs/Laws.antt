@@ -1,0 +1,60 @@
+-- What a machine's steps keep.
+use Rattle.std.specs.Prelude.{◌≡◌, ℕ, ◌+◌, ◌-◌, ◌*◌, ◌<◌, ◌≤◌, true, false, List, [], ◌∷◌, ◌++◌, map, Option, Some}
+use Rattle.markdown_options.specs.declared.message.Message.{Message}
+use Rattle.engine_events.specs.declared.event.Event.{Event}
+use Rattle.engine_events.specs.declared.place.Point.{Point}
+use Rattle.engine_events.specs.declared.state.Name.{Name}
+use Rattle.engine_events.specs.declared.state.State.{State}
+use Rattle.engine_events.specs.declared.state.State.TheVariants as states
+use Rattle.markdown_engine.specs.declared.attempt.Attempt.{Attempt}
+use Rattle.markdown_engine.specs.declared.virtual_text.VirtualByte.{VirtualByte}
+use Rattle.markdown_engine.specs.Reading.{Config, Frame, Steps, mark, resumed, handed}
+
+-- the first list is a front of the second
+abbrev pub IsFront : List Event → List Event → Type 0
+IsFront a b = (more : List Event) × (b ≡ a ++ more)
+
+-- each attempt starts with at least the events of the one around it
+abbrev pub Nested : {M : Type 0} → List Event → List (Frame M) → List Event → Type 0
+Nested before [] after = IsFront before after
+Nested before (f ∷ fs) after = IsFront before f.start.events × Nested f.start.events fs after
+
+-- events are only added
+abbrev pub OnlyAdds : {M : Type 0} → Steps M → Type 0
+OnlyAdds {M} step = (c : Config M) (n : Name) → let e = step c n in Nested c.events e.pushed e.config.events
+
+-- how many bytes of the virtual text are left at most, in a text of so many bytes
+abbrev pub remaining : ℕ → Point → ℕ
+remaining size p = 4 * (size - p.index) + (3 - p.vs)
+
+-- a byte of the text was read: the place after it leaves less
+pub record IsRead (size : ℕ) (p : Point) (v : VirtualByte) : Type 0 where
+  pub within : p.index < size
+  pub falls : remaining size v.next < remaining size p
+
+-- what holds of a configuration, its stack and its next state
+abbrev pub Holds : Type 0 → Type 1
+Holds M = Config M → List Attempt → State → Type 0
+
+-- each move of the engine keeps it
+pub record Keeps {M : Type 0} (valid : Holds M) (step : Steps M) : Type 0 where
+  pub fed : (size : ℕ) (c : Config M) (stack : List Attempt) (n : Name) (v : Option VirtualByte) → ((w : VirtualByte) → v ≡ Some w → IsRead size c.point w) → valid c stack (states.Next n) → valid (handed c v) stack (states.Retry n)
+  pub called : (c : Config M) (stack : List Attempt) (n : Name) → valid c stack (states.Retry n) → let e = step c n in valid e.config (stack ++ map mark e.pushed) e.state
+  pub ok : (c : Config M) (stack : List Attempt) (a : Attempt) → valid c (stack ++ a ∷ []) states.Ok → valid (resumed a c true) stack a.ok
+  pub nok : (c : Config M) (stack : List Attempt) (a : Attempt) → valid c (stack ++ a ∷ []) states.Nok → valid (resumed a c false) stack a.nok
+  -- an error is no state: it is answered for want of memory alone
+  pub no_error : (c : Config M) (stack : List Attempt) (m : Message) → valid c stack (states.Error m) → ⊥
+
+-- a number that falls with each turn, in a text of so many bytes
+abbrev pub Ranks : Type 0 → Type 0
+Ranks M = ℕ → Config M → List Attempt → State → ℕ
+
+pub record Falls {M : Type 0} (valid : Holds M) (step : Steps M) (rank : Ranks M) : Type 0 where
+  pub fed : (size : ℕ) (c : Config M) (stack : List Attempt) (n : Name) (v : Option VirtualByte) → valid c stack (states.Next n) → ((w : VirtualByte) → v ≡ Some w → IsRead size c.point w)
+      → rank size (handed c v) stack (states.Retry n) ≤ rank size c stack (states.Next n)
+  pub called : (size : ℕ) (c : Config M) (stack : List Attempt) (n : Name) → valid c stack (states.Retry n)
+      → let e = step c n in rank size e.config (stack ++ map mark e.pushed) e.state < rank size c stack (states.Retry n)
+  pub ok : (size : ℕ) (c : Config M) (stack : List Attempt) (a : Attempt) → valid c (stack ++ a ∷ []) states.Ok
+      → rank size (resumed a c true) stack a.ok < rank size c (stack ++ a ∷ []) states.Ok
+  pub nok : (size : ℕ) (c : Config M) (stack : List Attempt) (a : Attempt) → valid c (stack ++ a ∷ []) states.Nok
+      → rank size (resumed a c false) stack a.nok < rank size c (stack ++ a ∷ []) states.Nok

@@ -1,0 +1,4 @@
+pub mod VirtualText
+pub mod Reading
+pub mod Laws
+pub mod Machine

@@ -1,0 +1,107 @@
+-- What reading gives: an ordered choice with look ahead, by recursion, with no stack of marks.
+use Rattle.std.specs.Prelude.{◌≡◌, ℕ, Bool, true, false, List, [], ◌∷◌, length, take, Option, Some, None, cond}
+use Rattle.engine_events.specs.declared.event.Event.{Event}
+use Rattle.engine_events.specs.declared.place.Point.{Point}
+use Rattle.engine_events.specs.declared.state.Name.{Name}
+use Rattle.engine_events.specs.declared.state.State.{State}
+use Rattle.engine_events.specs.declared.state.State.TheVariants as states
+use Rattle.markdown_engine.specs.declared.attempt.Attempt.{Attempt}
+use Rattle.markdown_engine.specs.declared.tokenize_state.TokenizeState.{TokenizeState}
+use Rattle.markdown_engine.specs.declared.virtual_text.VirtualByte.{VirtualByte}
+
+-- what a state may read and write: the events so far, the place, the place after the byte there, the byte before, the byte, what states keep for one another, and the machine
+pub record Config (M : Type 0) : Type 0 where
+  pub events : List Event
+  pub point : Point
+  pub next : Point
+  pub previous : Option ℕ
+  pub current : Option ℕ
+  pub tokenize_state : TokenizeState
+  pub machine : M
+
+-- an attempt that waits, with the configuration in which it was made
+pub record Frame (M : Type 0) : Type 0 where
+  pub check : Bool
+  pub ok : State
+  pub nok : State
+  pub start : Config M
+
+-- what a call does: the configuration after it, the attempts that it made, the outermost first, and the next state
+pub record Effect (M : Type 0) : Type 0 where
+  pub config : Config M
+  pub pushed : List (Frame M)
+  pub state : State
+
+-- the machine's steps
+abbrev pub Steps : Type 0 → Type 0
+Steps M = Config M → Name → Effect M
+
+-- a text: at each place its byte and the place after it, or none at its end
+abbrev pub Text : Type 0
+Text = Point → Option VirtualByte
+
+abbrev pub byte_of : Option VirtualByte → Option ℕ
+byte_of None = None
+byte_of (Some v) = Some v.byte
+
+abbrev pub place_after : Point → Option VirtualByte → Point
+place_after p None = p
+place_after p (Some v) = v.next
+
+-- a byte, or the end, is handed in
+abbrev pub handed : {M : Type 0} → Config M → Option VirtualByte → Config M
+handed c v = record c { current = byte_of v; next = place_after c.next v }
+
+-- the next byte is handed in, at the text's end none
+abbrev pub feed : {M : Type 0} → Text → Config M → Config M
+feed text c = handed c (text c.point)
+
+-- back at the start of an attempt, with what isn't restored
+abbrev pub hand_on : {M : Type 0} → Config M → Config M → Config M
+hand_on start c = record c { events = start.events; point = start.point; next = start.next; previous = start.previous; current = start.current }
+
+-- a check goes back in any case
+abbrev pub passed : {M : Type 0} → Frame M → Config M → Config M
+passed f c = cond f.check (hand_on f.start c) c
+
+-- `Runs text step c fs s c' v`: in c, with the attempts fs just made, and the state s next, reading ends in c', well or not
+pub data Runs {M : Type 0} (text : Text) (step : Steps M) : Config M → List (Frame M) → State → Config M → Bool → Type 0 where
+  ends-ok : {c : Config M} → Runs text step c [] states.Ok c true
+  ends-nok : {c : Config M} → Runs text step c [] states.Nok c false
+  next : {c d : Config M} {v : Bool} {n : Name} → Runs text step (step (feed text c) n).config (step (feed text c) n).pushed (step (feed text c) n).state d v → Runs text step c [] (states.Next n) d v
+  retry : {c d : Config M} {v : Bool} {n : Name} → Runs text step (step c n).config (step c n).pushed (step c n).state d v → Runs text step c [] (states.Retry n) d v
+  first : {c d e : Config M} {v : Bool} {s : State} {f : Frame M} {fs : List (Frame M)} → Runs text step c fs s d true → Runs text step (passed f d) [] f.ok e v → Runs text step c (f ∷ fs) s e v
+  second : {c d e : Config M} {v : Bool} {s : State} {f : Frame M} {fs : List (Frame M)} → Runs text step c fs s d false → Runs text step (hand_on f.start d) [] f.nok e v → Runs text step c (f ∷ fs) s e v
+
+-- the mark that the code keeps of an attempt
+abbrev pub mark : {M : Type 0} → Frame M → Attempt
+mark f = record { check = f.check; ok = f.ok; nok = f.nok; events = length f.start.events; point = f.start.point; next = f.start.next; previous = f.start.previous; current = f.start.current }
+
+-- back at a mark
+abbrev pub restore : {M : Type 0} → Attempt → Config M → Config M
+restore a c = record c { events = take a.events c.events; point = a.point; next = a.next; previous = a.previous; current = a.current }
+
+abbrev pub resumed : {M : Type 0} → Attempt → Config M → Bool → Config M
+resumed a c true = cond a.check (restore a c) c
+resumed a c false = restore a c
+
+abbrev pub chosen : Attempt → Bool → State
+chosen a true = a.ok
+chosen a false = a.nok
+
+-- the attempts of a stack, the last of which is the innermost, go on from c and v to d and w
+abbrev pub Unwinds : {M : Type 0} → Text → Steps M → List Attempt → Config M → Bool → Config M → Bool → Type 0
+Unwinds text step [] c v d w = (c ≡ d) × (v ≡ w)
+Unwinds {M} text step (a ∷ rest) c v d w = (e : Config M) × (x : Bool) × Unwinds text step rest c v e x × Runs text step (resumed a e x) [] (chosen a x) d w
+
+-- what reading comes to, with a stack of attempts
+pub record Outcome {M : Type 0} (text : Text) (step : Steps M) (stack : List Attempt) (c : Config M) (fs : List (Frame M)) (s : State) (d : Config M) (w : Bool) : Type 0 where
+  pub mid : Config M
+  pub how : Bool
+  pub runs : Runs text step c fs s mid how
+  pub unwinds : Unwinds text step stack mid how d w
+
+-- the state in which an attempt ends
+abbrev pub ended : Bool → State
+ended true = states.Ok
+ended false = states.Nok

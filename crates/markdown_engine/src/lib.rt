@@ -1,0 +1,14 @@
+//! The engine: a tokenizer over virtual text, and what it stands on.
+//!
+//! States read a virtual text, attempt by attempt, and add events. Events are edited all at once.
+#![tactic(auto)]
+
+pub mod attempt;
+pub mod tokenize_state;
+pub mod tokenizer;
+pub mod virtual_text;
+
+pub use engine_edits::EditMap;
+pub use engine_events::{container, event, label, place, resolve, state, subresult};
+pub use engine_text::{char, location, skip, slice};
+pub use markdown_options::{Message, Place, constants, unist};
