@@ -1,0 +1,5 @@
+pub mod Floors
+pub mod Laid
+pub mod Paired
+pub mod Threads
+pub mod View

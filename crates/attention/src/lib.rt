@@ -1,0 +1,16 @@
+//! Runs of `*` and `_`: which of them go together, and what each becomes.
+#![tactic(auto)]
+
+mod openers;
+mod pair;
+mod pairing;
+mod pairs;
+mod run;
+mod spans;
+#[cfg(test)]
+mod tests;
+
+pub use pair::{Pair, Span};
+pub use pairing::{Pairing, pair_runs};
+pub use run::{Run, run_between};
+pub use spans::RunSpans;
