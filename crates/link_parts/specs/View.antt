@@ -6,6 +6,8 @@ use Rattle.markdown_definition.specs.Content as content
 use Rattle.markdown_definition.specs.LinkDefinition.{definition}
 use Rattle.markdown_definition.specs.LinkDefinition as link_definition
 use Rattle.link_parts.specs.declared.part.Part.{Part}
+use Rattle.markdown_definition.specs.Resource as resource
+use Rattle.link_parts.specs.declared.resource.LinkResource.{LinkResource}
 use Rattle.link_parts.specs.declared.definition.LinkDefinition.{LinkDefinition}
 
 abbrev pub part_of : Part → content.Part
@@ -22,3 +24,11 @@ definition_of read =
 abbrev pub found_definition : Option LinkDefinition → Option link_definition.Definition
 found_definition None = None
 found_definition (Some read) = Some (definition_of read)
+
+abbrev pub resource_of : LinkResource → resource.LinkResource
+resource_of read =
+    record { destination = content_codes read.destination.now; title = option_map (λ text. content_codes text.now) read.title; rest = content_codes read.rest.now }
+
+abbrev pub found_resource : Option LinkResource → Option resource.LinkResource
+found_resource None = None
+found_resource (Some read) = Some (resource_of read)

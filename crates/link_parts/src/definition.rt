@@ -84,7 +84,7 @@ fn untitled<'a>(label: &'a [u8], destination: Part<'a>) -> Option<LinkDefinition
 }
 
 /// Whether a space, a tab or a line ending comes first.
-fn begins_with_space(content: &[u8]) -> bool
+pub(crate) fn begins_with_space(content: &[u8]) -> bool
     ensures { result ≡ begins_with_space (content_codes content.now) }
 {
     match next_code(content, 0) {

@@ -6,6 +6,7 @@ pub mod definition;
 pub mod destination;
 pub mod label;
 pub mod part;
+pub mod resource;
 pub mod space;
 pub mod title;
 
