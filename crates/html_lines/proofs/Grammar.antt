@@ -276,7 +276,7 @@ mutual
         ∙ sym (ap (λ rest. followed_by (specification rest) (tail (suc most))) (fails is_attribute_byte b bs e))
   ]
 
-open_reads : (bytes : List ℕ) → rest_after NameStart bytes ≡ open_rest bytes
+pub open_reads : (bytes : List ℕ) → rest_after NameStart bytes ≡ open_rest bytes
 open_reads [] = refl
 open_reads (b ∷ bs) = elim (cases_Bool (is_letter b)) [
   | inl e ↦
@@ -310,7 +310,7 @@ closing_name_reads (b ∷ bs) = elim (cases_Bool (is_tag_name_byte b)) [
       ∙ closing_space_reads (b ∷ bs) ∙ sym (ap closing_end (fails is_tag_name_byte b bs e))
 ]
 
-closing_reads : (bytes : List ℕ) → rest_after ClosingStart bytes ≡ closing_rest bytes
+pub closing_reads : (bytes : List ℕ) → rest_after ClosingStart bytes ≡ closing_rest bytes
 closing_reads [] = refl
 closing_reads (b ∷ bs) = elim (cases_Bool (is_letter b)) [
   | inl e ↦

@@ -17,7 +17,7 @@ use crate::bytes::is_space_or_tab;
 
 /// A place in a tag, named by what was read last.
 #[derive(Clone, Copy, Debug, PartialEq, Eq)]
-enum Place {
+pub enum Place {
     NameStart,
     Name,
     Space,
@@ -138,7 +138,7 @@ fn after_closing_name(byte: u8) -> Place
 }
 
 /// The place after one more byte.
-fn next(place: Place, byte: u8) -> Place
+pub fn next(place: Place, byte: u8) -> Place
     ensures { place_of result ≡ next (place_of place) byte }
 {
     match place {

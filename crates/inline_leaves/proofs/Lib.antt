@@ -1,0 +1,9 @@
+pub mod Autolinks
+pub mod Breaks
+pub mod CodeSpans
+pub mod Codes
+pub mod Endings
+pub mod Fronts
+pub mod HtmlTexts
+pub mod References
+pub mod Searching

@@ -1,0 +1,168 @@
+-- Character references in codes and in bytes.
+use Rattle.std.proofs.Common.{◌≡◌, ℕ, ◌+◌, ◌-◌, ◌≤◌, List, [], ◌∷◌, Bool, true, false, cond, ◌&&◌, ◌||◌, eqb, leb, Option, None, Some, refl, sym, ap, ◌∙◌, get_or, length, drop, take, arith, inl, inr}
+use Rattle.std.proofs.lemmas.Bool.{cases_Bool, cond-false, cond-true, eqb-true, eqb-false}
+use Rattle.std.proofs.lemmas.List.Sums.{prefix_len-le-length}
+use Rattle.std.proofs.lemmas.List.{length-drop, get_or-drop}
+use Rattle.std.specs.Char.{is_ascii_digit, is_ascii_hexdigit, is_ascii_alphanumeric}
+use Rattle.std.specs.List.{prefix_len}
+use Rattle.std.specs.Option.{option_map}
+use Rattle.markdown_options.specs.declared.configuration.Constructs.{Constructs}
+use Rattle.markdown_definition.specs.Content.{Part, part, content_codes}
+use Rattle.markdown_definition.specs.Letters.{begins_with}
+use Rattle.inline_leaves.proofs.Fronts.{begun}
+use Rattle.markdown_definition.specs.CharacterReference.{CharacterReference, character_reference, before_semicolon, terminated, numbered, named, number_reference, reference_after, reference_form, reference_text, reference_leaf, reference_of, reference_at}
+use Rattle.inline_leaves.specs.declared.byte_class.ByteClass.{ByteClass}
+use Rattle.inline_leaves.specs.declared.byte_class.ByteClass.TheVariants.{Scheme, Uri, Email, Domain, Name, Digit, Hexadecimal}
+use Rattle.std.proofs.lemmas.Option.{none-some, same_Some}
+use Rattle.markdown_definition.specs.Inline.{Inline, leaf}
+use Rattle.inline_leaves.specs.Leaves.{IsEnd, IsPlain, IsValue, character_parts, is_of, size_before}
+use Rattle.inline_leaves.proofs.Codes.{at_return, plain_code, prefix_codes, prefix_plain, plain_take, plain_drop, end_after}
+
+-- a part and a reference, with what follows in codes
+abbrev coded : Part → Part
+coded p = part p.text (content_codes p.rest)
+
+abbrev coded_reference : CharacterReference → CharacterReference
+coded_reference r = character_reference r.name (content_codes r.rest)
+
+semicolon_codes : (text xs : List ℕ) → before_semicolon text (content_codes xs) ≡ option_map coded (before_semicolon text xs)
+semicolon_codes text [] = refl
+semicolon_codes text (c ∷ cs) = elim (cases_Bool (eqb c 13)) [
+  | inl h ↦
+      let e = eqb-true c 13 h in
+      ap (λ x. before_semicolon text (content_codes (x ∷ cs))) e ∙ at_return (before_semicolon text) None cs (λ y. refl) (λ y. refl)
+      ∙ sym (ap (λ x. option_map coded (before_semicolon text (x ∷ cs))) e)
+  | inr h ↦ ap (before_semicolon text) (plain_code c cs (eqb-false c 13 h)) ∙ by_case (eqb c 59)
+]
+  where
+    by_case : (t : Bool) → cond t (Some (part text (content_codes cs))) None ≡ option_map coded (cond t (Some (part text cs)) None)
+    by_case true = refl
+    by_case false = refl
+
+terminated_codes : (test : ℕ → Bool) (most : ℕ) (xs : List ℕ) → test 13 ≡ false → test 257 ≡ false → terminated test most (content_codes xs) ≡ option_map coded (terminated test most xs)
+terminated_codes test most xs return both =
+    let n = prefix_len test xs in
+    let codes = content_codes xs in
+    let le = prefix_len-le-length test xs in
+    let plain = prefix_plain test return xs n (omega arith) in
+    ap (λ k. cond (leb 1 k && leb k most) (before_semicolon (take k codes) (drop k codes)) None) (prefix_codes test return both xs)
+    ∙ ap (λ text. cond (leb 1 n && leb n most) (before_semicolon text (drop n codes)) None) (plain_take n xs le plain)
+    ∙ ap (λ rest. cond (leb 1 n && leb n most) (before_semicolon (take n xs) rest) None) (plain_drop n xs le plain)
+    ∙ by_case (leb 1 n && leb n most) (semicolon_codes (take n xs) (drop n xs))
+  where
+    by_case : (t : Bool) → before_semicolon (take (prefix_len test xs) xs) (content_codes (drop (prefix_len test xs) xs)) ≡ option_map coded (before_semicolon (take (prefix_len test xs) xs) (drop (prefix_len test xs) xs))
+        → cond t (before_semicolon (take (prefix_len test xs) xs) (content_codes (drop (prefix_len test xs) xs))) None
+        ≡ option_map coded (cond t (before_semicolon (take (prefix_len test xs) xs) (drop (prefix_len test xs) xs)) None)
+    by_case true e = e
+    by_case false e = refl
+
+numbered_coded : (base : ℕ) (o : Option Part) → numbered base (option_map coded o) ≡ option_map coded_reference (numbered base o)
+numbered_coded base None = refl
+numbered_coded base (Some p) = refl
+
+named_coded : (o : Option Part) → named (option_map coded o) ≡ option_map coded_reference (named o)
+named_coded None = refl
+named_coded (Some p) = refl
+
+number_codes : (xs : List ℕ) → number_reference (content_codes xs) ≡ option_map coded_reference (number_reference xs)
+number_codes [] = refl
+number_codes (c ∷ cs) = elim (cases_Bool (eqb c 13)) [
+  | inl h ↦
+      let e = eqb-true c 13 h in
+      ap (λ x. number_reference (content_codes (x ∷ cs))) e ∙ at_return number_reference None cs (λ y. refl) (λ y. refl)
+      ∙ sym (ap (λ x. option_map coded_reference (number_reference (x ∷ cs))) e)
+  | inr h ↦
+      let codes = plain_code c cs (eqb-false c 13 h) in
+      ap number_reference codes
+      ∙ by_case _ _ (numbered 16 (terminated is_ascii_hexdigit 6 cs)) (numbered 10 (terminated is_ascii_digit 7 (c ∷ cs))) (eqb c 120 || eqb c 88)
+      (ap (numbered 16) (terminated_codes is_ascii_hexdigit 6 cs refl refl) ∙ numbered_coded 16 (terminated is_ascii_hexdigit 6 cs))
+      (ap (λ x. numbered 10 (terminated is_ascii_digit 7 x)) (sym codes) ∙ ap (numbered 10) (terminated_codes is_ascii_digit 7 (c ∷ cs) refl refl) ∙ numbered_coded 10 (terminated is_ascii_digit 7 (c ∷ cs)))
+]
+  where
+    by_case : (a b x y : Option CharacterReference) (t : Bool) → a ≡ option_map coded_reference x → b ≡ option_map coded_reference y → cond t a b ≡ option_map coded_reference (cond t x y)
+    by_case a b x y true e f = e
+    by_case a b x y false e f = f
+
+after_codes : (xs : List ℕ) → reference_after (content_codes xs) ≡ option_map coded_reference (reference_after xs)
+after_codes [] = refl
+after_codes (c ∷ cs) = elim (cases_Bool (eqb c 13)) [
+  | inl h ↦
+      let e = eqb-true c 13 h in
+      ap (λ x. reference_after (content_codes (x ∷ cs))) e ∙ at_return reference_after None cs (λ y. refl) (λ y. refl)
+      ∙ sym (ap (λ x. option_map coded_reference (reference_after (x ∷ cs))) e)
+  | inr h ↦
+      let codes = plain_code c cs (eqb-false c 13 h) in
+      ap reference_after codes
+      ∙ by_case _ _ (number_reference cs) (named (terminated is_ascii_alphanumeric 31 (c ∷ cs))) (eqb c 35)
+      (number_codes cs)
+      (ap (λ x. named (terminated is_ascii_alphanumeric 31 x)) (sym codes) ∙ ap named (terminated_codes is_ascii_alphanumeric 31 (c ∷ cs) refl refl) ∙ named_coded (terminated is_ascii_alphanumeric 31 (c ∷ cs)))
+]
+  where
+    by_case : (a b x y : Option CharacterReference) (t : Bool) → a ≡ option_map coded_reference x → b ≡ option_map coded_reference y → cond t a b ≡ option_map coded_reference (cond t x y)
+    by_case a b x y true e f = e
+    by_case a b x y false e f = f
+
+pub form_codes : (xs : List ℕ) → reference_form (content_codes xs) ≡ option_map coded_reference (reference_form xs)
+form_codes [] = refl
+form_codes (c ∷ cs) = elim (cases_Bool (eqb c 13)) [
+  | inl h ↦
+      let e = eqb-true c 13 h in
+      ap (λ x. reference_form (content_codes (x ∷ cs))) e ∙ at_return reference_form None cs (λ y. refl) (λ y. refl)
+      ∙ sym (ap (λ x. option_map coded_reference (reference_form (x ∷ cs))) e)
+  | inr h ↦ ap reference_form (plain_code c cs (eqb-false c 13 h)) ∙ by_case (eqb c 38) (after_codes cs)
+]
+  where
+    by_case : (t : Bool) → reference_after (content_codes cs) ≡ option_map coded_reference (reference_after cs)
+        → cond t (reference_after (content_codes cs)) None ≡ option_map coded_reference (cond t (reference_after cs) None)
+    by_case true e = e
+    by_case false e = refl
+
+pub reference_off : (on : Constructs) (names : List ℕ → Option (List ℕ)) (xs : List ℕ) → on.character_reference ≡ false → reference_at on names xs ≡ None
+reference_off on names xs off = cond-false _ _ _ off
+
+pub reference_none : (on : Constructs) (names : List ℕ → Option (List ℕ)) (xs : List ℕ) → on.character_reference ≡ true → None ≡ reference_form xs → reference_at on names (content_codes xs) ≡ None
+reference_none on names xs is_on none =
+    cond-true _ _ _ is_on ∙ ap (reference_of names (content_codes xs)) (form_codes xs ∙ ap (option_map coded_reference) (sym none))
+
+pub reference_some : (on : Constructs) (names : List ℕ → Option (List ℕ)) (xs : List ℕ) (found : CharacterReference) → on.character_reference ≡ true → Some found ≡ reference_form xs
+    → reference_at on names (content_codes xs) ≡ reference_leaf (size_before xs found.rest) (reference_text names found.name)
+reference_some on names xs found is_on there =
+    cond-true _ _ _ is_on ∙ ap (reference_of names (content_codes xs)) (form_codes xs ∙ ap (option_map coded_reference) (sym there))
+
+-- ---- where a value stands
+
+pub class_return : (class : ByteClass) → is_of class 13 ≡ false
+class_return Scheme = refl
+class_return Uri = refl
+class_return Email = refl
+class_return Domain = refl
+class_return Name = refl
+class_return Digit = refl
+class_return Hexadecimal = refl
+
+pub value_end : (xs : List ℕ) (start size : ℕ) → IsValue (drop start xs) size → start ≤ length xs → IsEnd xs (start + size + 1)
+value_end xs start size there le =
+    let place : start + size ≡ start + size + 1 - 1 = omega arith in
+    let last : get_or xs (start + size + 1 - 1) 0 ≡ 59 = ap (λ k. get_or xs k 0) (sym place) ∙ sym (get_or-drop start xs size 0) ∙ there.semicolon in
+    end_after xs (start + size + 1) (omega arith) (omega (arith, there.within, length-drop start xs)) (omega arith) (λ e. omega arith)
+
+pub hexadecimal_form : (x : ℕ) (xs : List ℕ) → (eqb x 120 || eqb x 88) ≡ true → begins_with (38 ∷ 35 ∷ x ∷ []) xs ≡ true
+    → reference_form xs ≡ numbered 16 (terminated is_ascii_hexdigit 6 (drop 3 xs))
+hexadecimal_form x xs h there =
+    let e : xs ≡ 38 ∷ 35 ∷ x ∷ drop 3 xs = begun (38 ∷ 35 ∷ x ∷ []) xs there in
+    ap reference_form e ∙ cond-true (eqb x 120 || eqb x 88) _ _ h
+
+-- a reference whose text is known or not
+pub unknown_leaf : (size : ℕ) (text : Option (List ℕ)) → None ≡ option_map character_parts text → reference_leaf size text ≡ None
+unknown_leaf size None h = refl
+unknown_leaf size (Some text) h = absurd (none-some _ h)
+
+pub known_leaf : (size : ℕ) (text : Option (List ℕ)) (parts : List Inline) → Some parts ≡ option_map character_parts text → reference_leaf size text ≡ Some (leaf parts size)
+known_leaf size None parts h = absurd (none-some _ (sym h))
+known_leaf size (Some text) parts h = ap (λ p. Some (leaf p size)) (sym (same_Some _ _ h))
+
+pub class_plain : (class : ByteClass) (xs : List ℕ) (n : ℕ) → n ≡ prefix_len (is_of class) xs → IsPlain xs n
+class_plain class xs n e = record {
+  within = omega (arith, prefix_len-le-length (is_of class) xs);
+  plain = prefix_plain (is_of class) (class_return class) xs n (omega arith);
+}

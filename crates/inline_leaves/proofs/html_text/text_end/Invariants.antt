@@ -1,0 +1,7 @@
+use Rattle.std.proofs.Common.{◌≡◌, drop}
+use Rattle.markdown_definition.specs.HtmlText.{after_first}
+use Rattle.inline_leaves.proofs.html_text.text_end.Given as goal
+
+-- what is left has the answer
+abbrev pub invariant-loop-i : goal.invariant-loop-i
+invariant-loop-i l = after_first l.text (drop l.i l.bytes) ≡ after_first l.text (drop l.start l.bytes)

@@ -1,0 +1,155 @@
+-- What the answers on a content stand for.
+use Rattle.std.specs.Char.{is_ascii_digit, is_ascii_hexdigit, is_ascii_alphanumeric}
+use Rattle.inline_leaves.specs.declared.byte_class.ByteClass.{ByteClass}
+use Rattle.inline_leaves.specs.declared.byte_class.ByteClass.TheVariants.{Scheme, Uri, Email, Domain, Name, Digit, Hexadecimal}
+use Rattle.markdown_definition.specs.Autolink.{is_scheme_byte, is_uri_byte, is_email_byte, is_domain_byte}
+use Rattle.std.specs.Prelude.{Bool, if◌then◌else◌, ◌&&◌, ◌≡◌, ◌<◌, ◌≤◌, ◌+◌, ◌-◌, ℕ, true, List, [], ◌∷◌, Option, None, Some, drop, length, map, slice_index, take}
+use Rattle.markdown_options.specs.declared.configuration.Constructs.{Constructs}
+use Rattle.markdown_definition.specs.HardBreak.{is_trailing_break}
+use Rattle.markdown_definition.specs.Columns.{is_white}
+use Rattle.markdown_definition.specs.Columns as columns
+use Rattle.markdown_definition.specs.Content.{content_codes, line_ending_code}
+use Rattle.markdown_definition.specs.CharacterReference.{CharacterName, Named, Numbered, CharacterReference, character_reference, number_of, numbered_text}
+use Rattle.inline_leaves.specs.declared.autolink.Address.{Address}
+use Rattle.inline_leaves.specs.declared.reference.Form.{Form}
+use Rattle.inline_leaves.specs.declared.reference.FormKind.{FormKind}
+use Rattle.inline_leaves.specs.declared.reference.FormKind.TheVariants as form
+use Rattle.markdown_definition.specs.CodeText.{code_text}
+use Rattle.markdown_definition.specs.Inline as inline
+use Rattle.markdown_definition.specs.Inline.{Inline}
+use Rattle.link_parts.specs.Codes.{IsCut}
+use Rattle.inline_leaves.specs.declared.leaf.Leaf.{Leaf}
+use Rattle.inline_leaves.specs.declared.space.Ending.{Ending}
+use Rattle.inline_leaves.specs.declared.leaf.LeafPart.{LeafPart}
+use Rattle.inline_leaves.specs.declared.leaf.LeafPart.TheVariants.{Escape, Character, Number, Code, Backticks, Autolink, Html, EscapedBreak, TrailingBreak, LineEnd, Spaces}
+
+-- the parts that a construct makes
+abbrev pub parts_of : LeafPart → List Inline
+parts_of (Escape byte) = inline.Escape byte ∷ []
+parts_of (Character text) = inline.Character text.now ∷ []
+parts_of (Number radix digits) = inline.Character (numbered_text (number_of radix digits.now)) ∷ []
+parts_of (Code text) = inline.Code (code_text (content_codes text.now)) ∷ []
+parts_of (Backticks text) = map inline.Data text.now
+parts_of (Autolink email text) = inline.Autolink email text.now ∷ []
+parts_of (Html text) = inline.Html (content_codes text.now) ∷ []
+parts_of EscapedBreak = inline.EscapedBreak ∷ []
+parts_of TrailingBreak = inline.TrailingBreak ∷ []
+parts_of (LineEnd ending) = inline.LineEnd (line_ending_code ending) ∷ []
+parts_of Spaces = []
+
+-- how many codes stand before the rest of a content
+abbrev pub size_before : List ℕ → List ℕ → ℕ
+size_before content rest = length (content_codes content) - length (content_codes rest)
+
+-- the construct that a content begins with, if it begins with one
+abbrev pub found_leaf : List ℕ → Option Leaf → Option inline.Leaf
+found_leaf content None = None
+found_leaf content (Some found) = Some (inline.leaf (parts_of found.part) (size_before content found.after.now))
+
+-- what follows the first codes of a content, at least one
+pub record IsAfter (content rest : List ℕ) : Type 0 where
+  pub shorter : length rest < length content
+  pub place : rest ≡ drop (length content - length rest) content
+  pub fewer : length (content_codes rest) < length (content_codes content)
+  pub codes : content_codes rest ≡ drop (size_before content rest) (content_codes content)
+
+-- a place after an ASCII byte, and not inside a line ending
+pub record IsEnd (content : List ℕ) (end : ℕ) : Type 0 where
+  pub some : 0 < end
+  pub within : end ≤ length content
+  pub ascii : slice_index content (end - 1) < 128
+  pub cut : IsCut content end
+
+-- what an escaped byte makes
+abbrev pub escape_leaf : Option ℕ → Option inline.Leaf
+escape_leaf None = None
+escape_leaf (Some byte) = Some (inline.leaf (inline.Escape byte ∷ []) 2)
+
+-- a backslash, and a byte that it escapes
+pub record IsEscape (bytes : List ℕ) (byte : ℕ) : Type 0 where
+  pub within : 2 ≤ length bytes
+  pub backslash : slice_index bytes 0 ≡ 92
+  pub escaped : slice_index bytes 1 ≡ byte
+  pub visible : 32 < byte
+  pub ascii : byte < 128
+
+-- a line ending comes first: its code, and the bytes of it
+pub record ReadsEnding (bytes : List ℕ) (found : Ending) : Type 0 where
+  pub codes : content_codes bytes ≡ line_ending_code found.ending ∷ content_codes (drop found.size bytes)
+  pub some : 0 < found.size
+  pub within : found.size ≤ length bytes
+  pub ascii : slice_index bytes (found.size - 1) < 128
+  pub cut : IsCut bytes found.size
+
+-- so many spaces and tabs come first
+pub record IsWhite (bytes : List ℕ) (size : ℕ) : Type 0 where
+  pub within : size ≤ length bytes
+  pub indent : size ≡ columns.indent (content_codes bytes)
+  pub bare : content_codes (drop size bytes) ≡ columns.bare (content_codes bytes)
+  pub codes : length (content_codes bytes) ≡ size + length (content_codes (drop size bytes))
+  pub passes : (k : ℕ) → k < size → is_white (slice_index bytes k) ≡ true
+
+-- what spaces and tabs at a line's end make
+abbrev pub spaces_parts : Constructs → List ℕ → List Inline
+spaces_parts on content = if on.hard_break_trailing && is_trailing_break content then inline.TrailingBreak ∷ [] else []
+
+-- so many backticks at a place
+pub record IsRun (bytes : List ℕ) (at size : ℕ) : Type 0 where
+  pub within : at + size ≤ length bytes
+  pub backticks : (k : ℕ) → k < size → slice_index bytes (at + k) ≡ 96
+
+-- the bytes of a class
+abbrev pub is_of : ByteClass → ℕ → Bool
+is_of Scheme b = is_scheme_byte b
+is_of Uri b = is_uri_byte b
+is_of Email b = is_email_byte b
+is_of Domain b = is_domain_byte b
+is_of Name b = is_ascii_alphanumeric b
+is_of Digit b = is_ascii_digit b
+is_of Hexadecimal b = is_ascii_hexdigit b
+
+-- bytes of which none is CR, before a `;`
+pub record IsValue (bytes : List ℕ) (size : ℕ) : Type 0 where
+  pub within : size < length bytes
+  pub plain : (k : ℕ) → k < size → slice_index bytes k ≡ 13 → ⊥
+  pub semicolon : slice_index bytes size ≡ 59
+
+-- the name or the number that a reference's text is
+abbrev pub name_of : FormKind → List ℕ → CharacterName
+name_of form.Name text = Named text
+name_of form.Decimal digits = Numbered (number_of 10 digits)
+name_of form.Hexadecimal digits = Numbered (number_of 16 digits)
+
+-- a reference by its form
+abbrev pub found_form : List ℕ → Option Form → Option CharacterReference
+found_form bytes None = None
+found_form bytes (Some found) =
+    Some (character_reference (name_of found.kind (take found.size (drop found.start bytes))) (drop (found.start + found.size + 1) bytes))
+
+-- where a form stands
+pub record IsForm (bytes : List ℕ) (found : Form) : Type 0 where
+  pub start : found.start < length bytes
+  pub ascii : (k : ℕ) → k < found.start → slice_index bytes k < 128
+  pub plain : (k : ℕ) → k < found.start → slice_index bytes k ≡ 13 → ⊥
+  pub some : 0 < found.start
+  pub value : IsValue (drop found.start bytes) found.size
+
+-- the parts that a character makes
+abbrev pub character_parts : List ℕ → List Inline
+character_parts text = inline.Character text ∷ []
+
+-- the first bytes, of which none is CR
+pub record IsPlain (bytes : List ℕ) (size : ℕ) : Type 0 where
+  pub within : size ≤ length bytes
+  pub plain : (k : ℕ) → k < size → slice_index bytes k ≡ 13 → ⊥
+
+-- the bytes of an address, before a `>`
+pub record IsAddress (bytes : List ℕ) (size : ℕ) : Type 0 where
+  pub within : size < length bytes
+  pub plain : (k : ℕ) → k < size → slice_index bytes k ≡ 13 → ⊥
+  pub greater : slice_index bytes size ≡ 62
+
+-- what an address makes
+abbrev pub address_leaf : List ℕ → Option Address → Option inline.Leaf
+address_leaf bytes None = None
+address_leaf bytes (Some found) = Some (inline.leaf (inline.Autolink found.email (take found.size bytes) ∷ []) (found.size + 2))

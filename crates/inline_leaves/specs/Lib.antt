@@ -1,0 +1,4 @@
+pub mod Leaves
+pub mod Html
+pub mod Scanned
+pub mod Searched

@@ -1,0 +1,7 @@
+-- What a content's end lacks.
+use Rattle.std.specs.Prelude.{◌≡◌, ◌-◌, ℕ, List, None, drop, length}
+use Rattle.markdown_definition.specs.HtmlText.{after_first}
+
+-- a text stands nowhere in so many bytes at a content's end
+abbrev pub Lacks : List ℕ → List ℕ → ℕ → Type 0
+Lacks text content size = after_first text (drop (length content - size) content) ≡ None

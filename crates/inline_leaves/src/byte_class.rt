@@ -1,0 +1,66 @@
+//! Classes of bytes, and how far they reach.
+ghost use Rattle.std.specs.Prelude.{◌≡◌};
+ghost use Rattle.std.specs.List.{prefix_len};
+ghost use Rattle.markdown_definition.specs.Letters.{begins_with_letter};
+ghost use Rattle.inline_leaves.specs.Leaves.{is_of, IsPlain};
+
+/// A class of bytes.
+#[derive(Clone, Copy)]
+pub enum ByteClass {
+    /// Of a URI's scheme: a letter, a digit, `+`, `.` or `-` (CommonMark 6.5).
+    Scheme,
+    /// Of a URI after its scheme: no control character, space, `<` or `>` (CommonMark 6.5).
+    Uri,
+    /// Of an email address before its `@` (CommonMark 6.5).
+    Email,
+    /// Of a domain: a letter, a digit, `-`, or `.` between its labels (CommonMark 6.5).
+    Domain,
+    /// Of a character's name: a letter or a digit (CommonMark 2.5).
+    Name,
+    /// A decimal digit.
+    Digit,
+    /// A hexadecimal digit.
+    Hexadecimal,
+}
+
+/// Whether a byte is of a class.
+pub fn is_of(class: ByteClass, byte: u8) -> bool
+    ensures { result ≡ is_of class byte }
+{
+    match class {
+        ByteClass::Scheme => {
+            byte.is_ascii_alphanumeric() || byte == b'+' || byte == b'.' || byte == b'-'
+        }
+        ByteClass::Uri => byte > b' ' && byte != b'<' && byte != b'>' && byte != 127,
+        ByteClass::Email => {
+            byte.is_ascii_alphanumeric() || b".!#$%&'*+/=?^_`{|}~-".contains(&byte)
+        }
+        ByteClass::Domain => byte.is_ascii_alphanumeric() || byte == b'-' || byte == b'.',
+        ByteClass::Name => byte.is_ascii_alphanumeric(),
+        ByteClass::Digit => byte.is_ascii_digit(),
+        ByteClass::Hexadecimal => byte.is_ascii_hexdigit(),
+    }
+}
+
+/// How many bytes of a class come first.
+pub fn prefix_size(class: ByteClass, bytes: &[u8]) -> usize
+    ensures size { result ≡ prefix_len (is_of class) bytes.now }
+    ensures plain { IsPlain bytes.now result }
+{
+    for (i, b) in bytes.iter().enumerate() {
+        if !is_of(class, *b) {
+            return i;
+        }
+    }
+    bytes.len()
+}
+
+/// Whether a letter comes first.
+pub fn begins_with_letter(bytes: &[u8]) -> bool
+    ensures { result ≡ begins_with_letter bytes.now }
+{
+    match bytes {
+        [] => false,
+        [b, ..] => b.is_ascii_alphabetic(),
+    }
+}

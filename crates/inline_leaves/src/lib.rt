@@ -1,0 +1,19 @@
+//! The inline constructs that hold no other (CommonMark 6).
+#![tactic(auto)]
+
+pub mod autolink;
+pub mod byte_class;
+pub mod code_text;
+pub mod cut;
+pub mod escape;
+pub mod html_text;
+pub mod leaf;
+pub mod leaf_at;
+pub mod line_break;
+pub mod reference;
+pub mod searches;
+pub mod space;
+#[cfg(test)]
+mod tests;
+
+pub use leaf::{Leaf, LeafPart};

@@ -1,0 +1,111 @@
+//! Searches to the end of a content that found nothing, so that none is made twice.
+ghost use Rattle.std.specs.Prelude.{◌≡◌, ◌≤◌, ◌-◌, [], ◌∷◌, None, drop, length, true};
+ghost use Rattle.markdown_definition.specs.HtmlText.{after_first};
+ghost use Rattle.link_parts.specs.Codes.{IsRest};
+ghost use Rattle.inline_leaves.specs.Html.{html_after, ClosesText};
+ghost use Rattle.inline_leaves.specs.Searched.{Lacks};
+
+use crate::byte_class::begins_with_letter;
+use crate::html_text::{html_text_at, text_end};
+use crate::leaf::Leaf;
+use link_parts::part::from;
+use markdown_options::Constructs;
+
+/// How much of a content's end is known to lack what closes raw HTML (CommonMark 6.6).
+#[derive(Clone, Copy)]
+pub struct Searches<'a> {
+    content: &'a str,
+    // How many bytes at the content's end are known to hold no `-->`, no `?>`, no `>` and no `]]>`.
+    comment: usize,
+    instruction: usize,
+    declaration: usize,
+    cdata: usize,
+    ghost no_comment: { after_first (45 ∷ 45 ∷ 62 ∷ []) (drop (length content.now - comment) content.now) ≡ None },
+    ghost no_instruction: { after_first (63 ∷ 62 ∷ []) (drop (length content.now - instruction) content.now) ≡ None },
+    ghost no_declaration: { after_first (62 ∷ []) (drop (length content.now - declaration) content.now) ≡ None },
+    ghost no_cdata: { after_first (93 ∷ 93 ∷ 62 ∷ []) (drop (length content.now - cdata) content.now) ≡ None },
+}
+
+impl<'a> Searches<'a> {
+    ghost use Rattle.std.specs.Prelude.{IfSome};
+    ghost use Rattle.markdown_definition.specs.HtmlText.{html_text_at};
+    ghost use Rattle.markdown_definition.specs.Content.{content_codes};
+    ghost use Rattle.inline_leaves.specs.Leaves.{found_leaf, IsAfter};
+
+    /// Before any search in a content.
+    pub fn new(content: &'a str) -> Searches<'a>
+        ensures { result.content ≡ content.entry }
+    {
+        Searches {
+            content,
+            comment: 0,
+            instruction: 0,
+            declaration: 0,
+            cdata: 0,
+        }
+    }
+
+    /// Raw HTML at the start of a rest of the content (CommonMark 6.6).
+    pub fn html_text_at(&mut self, on: &Constructs, rest: &'a str) -> Option<Leaf<'a>>
+        requires { IsRest self.old.content.now rest.now }
+        ensures content { self.new.content ≡ self.old.content }
+        ensures read { found_leaf rest.now result ≡ html_text_at on.now (content_codes rest.now) }
+        ensures place { IfSome result (λ found. IsAfter rest.now found.after.now) }
+    {
+        // What is found here is found again by the call below: each byte is searched twice at most.
+        if self.lacks_end(rest.as_bytes()) {
+            return None;
+        }
+        html_text_at(on, rest)
+    }
+
+    /// Whether nothing closes the raw HTML that these bytes would begin, by its first bytes.
+    fn lacks_end(&mut self, bytes: &[u8]) -> bool
+        requires { IsRest self.old.content.now bytes.now }
+        ensures content { self.new.content ≡ self.old.content }
+        ensures none { result ≡ true → html_after bytes.now ≡ None }
+    {
+        let content = self.content.as_bytes();
+        if bytes.starts_with(b"<!--") {
+            let rest = from(bytes, 4);
+            if rest.starts_with(b">") || rest.starts_with(b"->") {
+                return false;
+            }
+            self.comment = search(b"-->", content, rest, self.comment);
+            return rest.len() <= self.comment;
+        }
+        if bytes.starts_with(b"<?") {
+            let rest = from(bytes, 2);
+            self.instruction = search(b"?>", content, rest, self.instruction);
+            return rest.len() <= self.instruction;
+        }
+        if bytes.starts_with(b"<![CDATA[") {
+            let rest = from(bytes, 9);
+            self.cdata = search(b"]]>", content, rest, self.cdata);
+            return rest.len() <= self.cdata;
+        }
+        if bytes.starts_with(b"<!") && begins_with_letter(from(bytes, 2)) {
+            let rest = from(bytes, 2);
+            self.declaration = search(b">", content, rest, self.declaration);
+            return rest.len() <= self.declaration;
+        }
+        false
+    }
+}
+
+/// How many bytes of a content's end are known to lack a text, after a search in a rest of it.
+fn search(text: &[u8], content: &[u8], rest: &[u8], known: usize) -> usize
+    requires text { ClosesText text.now }
+    requires known { Lacks text.now content.now known }
+    requires rest { IsRest content.now rest.now }
+    ensures known { Lacks text.now content.now result }
+    ensures rest { length rest.now ≤ result → after_first text.now rest.now ≡ None }
+{
+    if rest.len() <= known {
+        return known;
+    }
+    match text_end(text, rest, 0) {
+        Some(_) => known,
+        None => rest.len(),
+    }
+}
