@@ -83,7 +83,9 @@ fn is_same(want: &Want, other: &Want) -> bool
     want.marker == other.marker && want.may_open == other.may_open && want.rest == other.rest
 }
 
-/// Whether an opener may pair with such a closer (CommonMark 6.2, rules 9 and 10).
+/// Whether an opener may pair with such a closer (CommonMark 6.2): of one byte, something left of it,
+/// and where one of the two may both open and close, what is left of them makes a multiple of three
+/// together only if it does so of each alone.
 fn fits(opener: &Run, want: &Want) -> bool
     ensures { result ≡ fits (run_view opener.now) want.now }
 {
