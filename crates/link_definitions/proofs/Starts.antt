@@ -19,7 +19,7 @@ use Rattle.markdown_definition.specs.LinkDefinition.{with_label, definition_at}
 use Rattle.markdown_definition.specs.ParagraphLines.{HaveNoEnding, AreLines}
 use Rattle.markdown_definition.proofs.ContentBytes.{IsInLine, codes_in_line}
 use Rattle.markdown_definition.proofs.DefinitionParts.{the_same, spaces_pass, spaces_stop}
-use Rattle.link_definitions.specs.Contents.{begins_label}
+use Rattle.link_definitions.specs.Contents.{begins_label, begins_with_bracket}
 
 -- nothing, or a line ending and what follows it
 abbrev EndsHere : List ℕ → Type 0
@@ -81,3 +81,8 @@ may_begin_not (q ∷ others) p first h none =
     let clean = owed_clean q.owed text (first_clean (piece_line q) (piece_lines others) h) in
     no_definition (piece_line q) (piece_lines others) h
     (ap begins_label (owed_passed q.owed text ∙ ap after_spaces (sym (plain_codes text clean))) ∙ ap (λ (x : Piece). begins_label (after_spaces (content_codes x.text.now))) same ∙ none)
+
+-- what the first piece begins with
+pub first_begins : (pieces : List Piece) (p : Piece) → slice_get pieces 0 ≡ Some p → begins_label (after_spaces (content_codes p.text.now)) ≡ begins_with_bracket pieces
+first_begins [] p first = absurd (none-some p first)
+first_begins (q ∷ others) p first = ap (λ (x : Piece). begins_label (after_spaces (content_codes x.text.now))) (sym (the_same q p first))

@@ -1,8 +1,10 @@
 -- How many bytes lines have in a content.
 use Rattle.std.specs.Prelude.{ℕ, Bool, false, ◌==◌, List, [], ◌∷◌, length}
 use Rattle.std.specs.List.{sum_by}
+use Rattle.markdown_definition.specs.declared.row.Piece.{Piece}
 use Rattle.markdown_definition.specs.Blocks.{BlockLine}
-use Rattle.markdown_definition.specs.Content.{line_text}
+use Rattle.markdown_definition.specs.Content.{content_codes, line_text}
+use Rattle.markdown_definition.specs.LinkSpace.{after_spaces}
 
 -- how many bytes a line has with its ending, and lines have
 abbrev pub room : BlockLine → ℕ
@@ -15,3 +17,8 @@ total ls = sum_by room ls
 abbrev pub begins_label : List ℕ → Bool
 begins_label [] = false
 begins_label (c ∷ cs) = c == 91
+
+-- whether one comes first after the spaces and tabs of the first line
+abbrev pub begins_with_bracket : List Piece → Bool
+begins_with_bracket [] = false
+begins_with_bracket (piece ∷ others) = begins_label (after_spaces (content_codes piece.text.now))

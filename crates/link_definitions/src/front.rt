@@ -12,7 +12,7 @@ ghost use Rattle.markdown_definition.specs.LinkSpace.{after_spaces};
 ghost use Rattle.markdown_definition.specs.ParagraphLines.{AreLines};
 ghost use Rattle.markdown_definition.specs.Rows.{piece_lines, piece_line};
 ghost use Rattle.markdown_definition.specs.Tree.{is_some_line};
-ghost use Rattle.link_definitions.specs.Contents.{room, total, begins_label};
+ghost use Rattle.link_definitions.specs.Contents.{room, total, begins_label, begins_with_bracket};
 ghost use Rattle.link_definitions.specs.Ends.{EndsAt};
 
 use link_parts::code::next_code;
@@ -33,7 +33,8 @@ pub struct DefinitionEnd {
 
 /// Whether a definition may begin on the first of these lines.
 pub fn may_begin(lines: &[Piece<'_>]) -> bool
-    ensures { result ≡ false → AreLines (piece_lines lines.now) → definition_at (content_of (own_lines (piece_lines lines.now))) ≡ None }
+    ensures bracket { result ≡ begins_with_bracket lines.now }
+    ensures none { result ≡ false → AreLines (piece_lines lines.now) → definition_at (content_of (own_lines (piece_lines lines.now))) ≡ None }
 {
     match lines.first() {
         None => false,

@@ -2,10 +2,15 @@ use Rattle.std.proofs.Common.{List, ℕ, sym, ap, ◌∙◌}
 use Rattle.markdown_definition.specs.Content.{content_codes}
 use Rattle.markdown_definition.specs.LinkSpace.{after_spaces}
 use Rattle.link_definitions.specs.Contents.{begins_label}
-use Rattle.link_definitions.proofs.Starts.{may_begin_not}
+use Rattle.link_definitions.proofs.Starts.{may_begin_not, first_begins}
 use Rattle.link_definitions.proofs.front.may_begin.Goals as goal
 
-pub returns-in-Some : goal.returns-in-Some
-returns-in-Some c = λ none clean.
+pub returns-in-Some-clause-none : goal.returns-in-Some-clause-none
+returns-in-Some-clause-none c = λ none clean.
     may_begin_not c.args.lines.now c.in-Some.line.now (sym c.in-Some.ensures.value) clean
     (ap (λ (bytes : List ℕ). begins_label (after_spaces (content_codes bytes))) (sym c.as_bytes.ensures.value) ∙ sym c.begins_label.ensures ∙ none)
+
+pub returns-in-Some-clause-bracket : goal.returns-in-Some-clause-bracket
+returns-in-Some-clause-bracket c =
+    c.begins_label.ensures ∙ ap (λ (bytes : List ℕ). begins_label (after_spaces (content_codes bytes))) c.as_bytes.ensures.value
+    ∙ first_begins c.args.lines.now c.in-Some.line.now (sym c.in-Some.ensures.value)
