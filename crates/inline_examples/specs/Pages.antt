@@ -21,7 +21,8 @@ use Rattle.markdown_definition.specs.declared.beside.Kind.{Kind}
 use Rattle.markdown_definition.specs.declared.beside.Kind.TheVariants.{Whitespace}
 use Rattle.markdown_definition.specs.InlineCode.{inline_content}
 use Rattle.markdown_definition.specs.Scan.{InlineContext, inlines}
-use Rattle.markdown_definition.specs.InlineHtml.{InlineMeaning, Linked, linked, inline_html}
+use Rattle.markdown_definition.specs.Inline.{Linked, linked}
+use Rattle.markdown_definition.specs.InlineHtml.{InlineMeaning, inline_html}
 
 -- ---- tables
 

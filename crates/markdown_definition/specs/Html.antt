@@ -10,8 +10,8 @@ use Rattle.markdown_definition.specs.declared.container.Container.{Container}
 use Rattle.markdown_definition.specs.declared.container.Container.TheVariants.{Quote, Item}
 use Rattle.markdown_definition.specs.Lines.{ending_text, first_line, without_mark}
 use Rattle.markdown_definition.specs.Columns.{trimmed, code_byte, bytes_of}
-use Rattle.markdown_definition.specs.Encode.{encode, plain}
-use Rattle.markdown_definition.specs.TagFilter.{tags_filtered}
+use Rattle.markdown_definition.specs.Encode.{encode}
+use Rattle.markdown_definition.specs.HtmlRaw.{raw_html}
 use Rattle.markdown_definition.specs.Tree.{BlockLine, Block, Paragraph, Heading, Break, IndentedCode, FencedCode, Html, Definition, Holds, Items, Ending, Blank, Blocks, Nil, Cons, own_lines, is_ending, blocks}
 use Rattle.markdown_definition.specs.Lists.{grouped, is_loose}
 use Rattle.markdown_definition.specs.Pieces.{Piece, Bytes, Eol, Fresh, layout}
@@ -32,13 +32,6 @@ code_line line = encode (map code_byte line.codes) ++ ending_text line.ending
 
 abbrev pub code_of : List BlockLine → List ℕ
 code_of ls = flat_map code_line ls
-
--- raw HTML is printed as it is where that is allowed, and may be filtered; otherwise as text (CommonMark 4.6, GFM 6.11)
-abbrev pub filtered : CompileOptions → List ℕ → List ℕ
-filtered options bytes = if options.gfm_tagfilter then tags_filtered bytes else bytes
-
-abbrev pub raw_html : CompileOptions → List ℕ → List ℕ
-raw_html options bytes = if options.allow_dangerous_html then plain (filtered options bytes) else encode bytes
 
 -- lines of HTML with their endings; the columns that are left of a tab aren't printed
 abbrev pub html_line : CompileOptions → BlockLine → List ℕ

@@ -6,6 +6,14 @@ pub data Target : Type 0 where
   Resource : List ℕ → Option (List ℕ) → Target
   Reference : List ℕ → Target
 
+-- where a link or an image leads: a destination and a title, by their codes as they are written
+pub record Linked : Type 0 where
+  pub destination : List ℕ
+  pub title : Option (List ℕ)
+
+abbrev pub linked : List ℕ → Option (List ℕ) → Linked
+linked destination title = record { destination = destination; title = title }
+
 -- A part of a text: a byte; a byte after the backslash that escapes it; the text that a character reference stands for; the text of a code span; an autolink to an email address or not, with what stands between its brackets; raw HTML by its codes; a hard line break by a backslash; one by spaces; the code of a line ending; emphasis; strong emphasis; a link; an image with its description.
 mutual
   pub data Inline : Type 0 where

@@ -6,17 +6,9 @@ use Rattle.markdown_options.specs.declared.configuration.CompileOptions.{Compile
 use Rattle.markdown_definition.specs.Columns.{bytes_of, bare}
 use Rattle.markdown_definition.specs.Content.{is_eol}
 use Rattle.markdown_definition.specs.Encode.{encode, encoded_byte, plain}
-use Rattle.markdown_definition.specs.Html.{raw_html}
-use Rattle.markdown_definition.specs.Inline.{Target, Resource, Reference, Inline, Data, Escape, Character, Code, Autolink, Html, EscapedBreak, TrailingBreak, LineEnd, Emphasis, Strong, Link, Image, Inlines, Nil, Cons}
+use Rattle.markdown_definition.specs.HtmlRaw.{raw_html}
+use Rattle.markdown_definition.specs.Inline.{Target, Resource, Reference, Linked, linked, Inline, Data, Escape, Character, Code, Autolink, Html, EscapedBreak, TrailingBreak, LineEnd, Emphasis, Strong, Link, Image, Inlines, Nil, Cons}
 use Rattle.markdown_definition.specs.Strings.{string_text, eol_bytes}
-
--- a destination and a title, by their codes as they are written
-pub record Linked : Type 0 where
-  pub destination : List ℕ
-  pub title : Option (List ℕ)
-
-abbrev pub linked : List ℕ → Option (List ℕ) → Linked
-linked destination title = record { destination = destination; title = title }
 
 -- what is printed is given by: the options, the texts of named characters, what the definition of a label leads to, and how the URL of a link and of an image is printed as a value of its attribute
 pub record InlineMeaning : Type 0 where
@@ -27,10 +19,10 @@ pub record InlineMeaning : Type 0 where
   pub link_url : List ℕ → List ℕ
   pub image_url : List ℕ → List ℕ
 
--- where a link or an image leads
-abbrev pub leads_to : InlineMeaning → Target → Linked
-leads_to meaning (Resource destination title) = linked destination title
-leads_to meaning (Reference label) = unwrap_or (meaning.definition label) (linked [] None)
+-- where a link or an image leads, by what the definition of a label leads to
+abbrev pub leads_to : (List ℕ → Option Linked) → Target → Linked
+leads_to definition (Resource destination title) = linked destination title
+leads_to definition (Reference label) = unwrap_or (definition label) (linked [] None)
 
 -- the URL of a destination: its text, in which NUL is U+FFFD (CommonMark 6.3)
 abbrev pub url_of : InlineMeaning → Linked → List ℕ
@@ -136,8 +128,8 @@ abbrev mutual
   part_html meaning (LineEnd code) = eol_bytes code
   part_html meaning (Emphasis kids) = codes "<em>" ++ inline_html meaning kids ++ codes "</em>"
   part_html meaning (Strong kids) = codes "<strong>" ++ inline_html meaning kids ++ codes "</strong>"
-  part_html meaning (Link target kids) = link_tag meaning (leads_to meaning target) ++ inline_html meaning kids ++ codes "</a>"
-  part_html meaning (Image target kids) = image_tag meaning (leads_to meaning target) (description meaning.compile kids)
+  part_html meaning (Link target kids) = link_tag meaning (leads_to meaning.definition target) ++ inline_html meaning kids ++ codes "</a>"
+  part_html meaning (Image target kids) = image_tag meaning (leads_to meaning.definition target) (description meaning.compile kids)
 
   -- the HTML of parts, one after another
   pub inline_html : InlineMeaning → Inlines → List ℕ

@@ -18,6 +18,7 @@ pub mod ParagraphLines
 pub mod Tree
 pub mod Lists
 pub mod Pieces
+pub mod HtmlRaw
 pub mod Html
 pub mod Rows
 pub mod Laws
@@ -51,6 +52,8 @@ pub mod Spans
 pub mod Scan
 pub mod Strings
 pub mod InlineHtml
+pub mod InlineRows
+pub mod Targets
 pub mod References
 pub mod ReferenceRows
 pub mod BuiltinReferences

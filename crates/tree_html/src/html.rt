@@ -5,7 +5,8 @@
 ghost use Rattle.std.specs.Prelude.{◌≡◌, ℕ, replicate, ◌++◌, OnOk, string_bytes, true, false};
 ghost use Rattle.markdown_definition.specs.Tree.{Html, own_lines};
 ghost use Rattle.markdown_definition.specs.Columns.{bytes_of, tab_column};
-ghost use Rattle.markdown_definition.specs.Html.{block_pieces, html_of, raw_html};
+ghost use Rattle.markdown_definition.specs.Html.{block_pieces, html_of};
+ghost use Rattle.markdown_definition.specs.HtmlRaw.{raw_html};
 ghost use Rattle.markdown_definition.specs.Rows.{piece_lines};
 ghost use Rattle.tree_html.specs.Printed.{laid};
 

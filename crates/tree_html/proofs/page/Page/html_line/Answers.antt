@@ -1,6 +1,6 @@
 use Rattle.std.proofs.Common.{◌≡◌, ◌++◌, ℕ, ◌<◌, string_bytes, sym, subst, get_or, arith}
 use Rattle.std.specs.Result.{OnOk}
-use Rattle.markdown_definition.specs.Html.{raw_html}
+use Rattle.markdown_definition.specs.HtmlRaw.{raw_html}
 use Rattle.tree_html.proofs.Owed.{bytes_owed}
 use Rattle.tree_html.proofs.page.Page.html_line.Goals as goal
 

@@ -4,7 +4,8 @@ use Rattle.markdown_options.specs.declared.line_ending.LineEnding.{LineEnding}
 use Rattle.markdown_definition.specs.Lines.{ending_text}
 use Rattle.markdown_definition.specs.Columns.{bytes_of}
 use Rattle.markdown_definition.specs.Tree.{BlockLine, own_lines, last_ending}
-use Rattle.markdown_definition.specs.Html.{html_of, raw_html}
+use Rattle.markdown_definition.specs.Html.{html_of}
+use Rattle.markdown_definition.specs.HtmlRaw.{raw_html}
 use Rattle.markdown_definition.specs.Rows.{piece_line, piece_lines}
 use Rattle.markdown_definition.proofs.RowSteps.{no_piece}
 use Rattle.markdown_definition.proofs.OwnLines.{lines_printed, last_ending_more}
