@@ -3,18 +3,24 @@ use Rattle.std.specs.Prelude.{ℕ, List, [], ◌∷◌, map}
 use Rattle.std.specs.List.{flat_map}
 use Rattle.std.specs.Option.{option_map}
 use Rattle.markdown_definition.specs.Content.{content_codes}
-use Rattle.markdown_definition.specs.Inline.{Linked, linked, Inline, Data}
+use Rattle.markdown_definition.specs.Inline.{linked, Inline, Data}
+use Rattle.markdown_definition.specs.Inline as inline
 use Rattle.markdown_definition.specs.InlineRows as rows
 use Rattle.inline_leaves.specs.Leaves.{parts_of}
 use Rattle.attention.specs.View.{span_view}
+use Rattle.inline_rows.specs.declared.row.Linked.{Linked}
 use Rattle.inline_rows.specs.declared.row.LinkTarget.{LinkTarget}
 use Rattle.inline_rows.specs.declared.row.LinkTarget.TheVariants.{Resource, Definition}
 use Rattle.inline_rows.specs.declared.row.InlineRow.{InlineRow}
 use Rattle.inline_rows.specs.declared.row.InlineRow.TheVariants.{Text, Leaf, EnterSpan, EnterLink, EnterImage, Exit}
 
+-- where a link leads, by codes
+abbrev pub linked_view : Linked → inline.Linked
+linked_view l = linked (content_codes l.destination.now) (option_map (λ text. content_codes text.now) l.title)
+
 -- where a target leads, given where the definitions lead by their places
-abbrev pub target_linked : (ℕ → Linked) → LinkTarget → Linked
-target_linked at (Resource destination title) = linked (content_codes destination.now) (option_map (λ text. content_codes text.now) title)
+abbrev pub target_linked : (ℕ → inline.Linked) → LinkTarget → inline.Linked
+target_linked at (Resource linked) = linked_view linked
 target_linked at (Definition place) = at place
 
 -- parts of a text
@@ -22,7 +28,7 @@ abbrev pub data_rows : List ℕ → List rows.InlineRow
 data_rows bytes = map (λ b. rows.Part (Data b)) bytes
 
 -- the definition's rows that a row stands for
-abbrev pub row_view : (ℕ → Linked) → InlineRow → List rows.InlineRow
+abbrev pub row_view : (ℕ → inline.Linked) → InlineRow → List rows.InlineRow
 row_view at (Text text) = data_rows text.now
 row_view at (Leaf part) = map rows.Part (parts_of part)
 row_view at (EnterSpan span) = rows.EnterSpan (span_view span) ∷ []
@@ -30,5 +36,5 @@ row_view at (EnterLink target) = rows.EnterLink (target_linked at target) ∷ []
 row_view at (EnterImage target) = rows.EnterImage (target_linked at target) ∷ []
 row_view at Exit = rows.Leave ∷ []
 
-abbrev pub rows_view : (ℕ → Linked) → List InlineRow → List rows.InlineRow
+abbrev pub rows_view : (ℕ → inline.Linked) → List InlineRow → List rows.InlineRow
 rows_view at rows = flat_map (row_view at) rows

@@ -2,14 +2,20 @@
 use attention::Span;
 use inline_leaves::LeafPart;
 
+/// Where a link or an image leads, as it is written (CommonMark 6.3).
+#[derive(Clone, Copy)]
+pub struct Linked<'a> {
+    /// The destination, empty where none is written, without the brackets around it.
+    pub destination: &'a str,
+    /// The title, without the quotes or parentheses around it.
+    pub title: Option<&'a str>,
+}
+
 /// What a link or an image leads to (CommonMark 6.3).
 #[derive(Clone, Copy)]
 pub enum LinkTarget<'a> {
-    /// The destination and the title of a resource, as they are written.
-    Resource {
-        destination: &'a str,
-        title: Option<&'a str>,
-    },
+    /// A resource.
+    Resource(Linked<'a>),
     /// The definition at this place among those of the document.
     Definition(usize),
 }

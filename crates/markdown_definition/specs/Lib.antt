@@ -59,4 +59,5 @@ pub mod ReferenceRows
 pub mod BuiltinReferences
 pub mod Decoded
 pub mod Urls
+pub mod Meaning
 pub mod LawfulRows
