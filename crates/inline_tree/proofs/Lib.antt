@@ -1,0 +1,4 @@
+pub mod Readings
+pub mod Sound
+pub mod Formed
+pub mod Changes
