@@ -1,9 +1,9 @@
 //! What starts the text of a link or an image (CommonMark 6.3 and 6.4).
 //!
 //!     start ::= '[' | '!' '['
-ghost use Rattle.std.specs.Prelude.{◌≡◌, ◌||◌};
+ghost use Rattle.std.specs.Prelude.{◌≡◌, ◌||◌, length};
 ghost use Rattle.inline_tree.specs.Shows.{start_view, entered};
-ghost use Rattle.markdown_definition.specs.Scan.{makes_link, may_form};
+ghost use Rattle.markdown_definition.specs.Scan.{makes_link, may_form, start_bytes};
 
 use inline_rows::{InlineRow, LinkTarget};
 
@@ -17,6 +17,16 @@ pub(crate) enum LabelStart {
 }
 
 impl LabelStart {
+    /// How many bytes it has.
+    pub(crate) fn size(self) -> usize
+        ensures { result ≡ length (start_bytes (start_view self)) }
+    {
+        match self {
+            LabelStart::Link => 1,
+            LabelStart::Image => 2,
+        }
+    }
+
     /// Whether it may form something, given whether its text holds a link: no link holds another.
     pub(crate) fn may_form(self, holds_link: bool) -> bool
         ensures { result ≡ may_form (start_view self) holds_link }

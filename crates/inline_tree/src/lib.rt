@@ -2,4 +2,8 @@
 #![tactic(auto)]
 
 mod label;
+mod plain;
 mod reading;
+pub mod scan;
+
+pub use scan::inline_rows;
