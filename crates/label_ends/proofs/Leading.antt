@@ -1,5 +1,5 @@
 -- Where the target of a label end leads.
-use Rattle.std.proofs.Common.{◌≡◌, ℕ, List, [], None, Some, ap, sym, ◌∙◌, subst}
+use Rattle.std.proofs.Common.{◌≡◌, ℕ, List, [], None, ap, sym, ◌∙◌, subst}
 use Rattle.std.specs.Option.{option_map, unwrap_or}
 use Rattle.markdown_definition.specs.Inline.{Target, Linked, linked}
 use Rattle.markdown_definition.specs.Inline as inline
