@@ -1,7 +1,6 @@
 -- One step of the scan, by what comes first.
 use Rattle.std.proofs.Common.{◌≡◌, ℕ, zero, suc, ◌+◌, ◌-◌, ◌*◌, ◌<◌, ◌≤◌, Bool, true, false, cond, ◌&&◌, eqb, List, [], ◌∷◌, ◌++◌, map, refl, sym, ap, ap₂, ◌∙◌, length, arith, subst, take, drop, Option, None, Some}
 use Rattle.std.proofs.lemmas.Bool.{cond-true, cond-false, true≢false}
-use Rattle.std.proofs.lemmas.Option.{Some-inj}
 use Rattle.std.proofs.lemmas.List.{drop-drop}
 use Rattle.markdown_definition.specs.InlineCode.{InlineCode, codes_of}
 use Rattle.markdown_definition.specs.Inline.{Data, Leaf}
@@ -14,8 +13,13 @@ use Rattle.markdown_definition.proofs.InlineSizes.{leaf_fits}
 use Rattle.inline_tree.specs.Shows.{unformed_in, formed_in}
 use Rattle.inline_tree.specs.Scanned.{ended_here}
 
+is_there : {A : Type 0} → Option A → Bool
+is_there None = false
+is_there (Some x) = true
+
 no_none : {A : Type 0} → (x : A) → None ≡ Some x → ⊥
-no_none x e = elim e [ ]
+unfolding is_there
+no_none x e = true≢false (sym (ap is_there e))
 
 module _ (context : InlineContext) where
   pub leaf_goes : (r : Reading) (view : List InlineCode) (found : Leaf) → leaf_at context (codes_of view) ≡ Some found

@@ -4,3 +4,4 @@ pub mod Formed
 pub mod Changes
 pub mod Goes
 pub mod Views
+pub mod Texts

@@ -1,2 +1,3 @@
 pub mod Shows
 pub mod Scanned
+pub mod Plain

@@ -1,5 +1,5 @@
 -- A content that is being read, as the definition reads it.
-use Rattle.std.specs.Prelude.{◌≡◌, ◌<◌, ◌≤◌, ◌-◌, ℕ, Bool, List, [], ◌∷◌, Option, None, Some, drop, length}
+use Rattle.std.specs.Prelude.{◌≡◌, ◌<◌, ◌≤◌, ◌-◌, ℕ, Bool, List, [], ◌∷◌, Option, None, Some, drop, take, length, slice_index}
 use Rattle.std.specs.List.{All}
 use Rattle.markdown_options.specs.declared.configuration.Constructs.{Constructs}
 use Rattle.markdown_definition.specs.Content.{content_codes}
@@ -7,12 +7,14 @@ use Rattle.markdown_definition.specs.LinkDefinition.{Definition}
 use Rattle.markdown_definition.specs.InlineHtml.{leads_to}
 use Rattle.markdown_definition.specs.Scan as scan
 use Rattle.markdown_definition.specs.LabelEnd.{Ended}
-use Rattle.markdown_definition.specs.Scan.{InlineContext, ended_by}
+use Rattle.markdown_definition.specs.Scan.{InlineContext, ended_by, start_bytes}
 use Rattle.markdown_definition.specs.Targets.{is_label_of, linked_at, linked_by}
 use Rattle.inline_content.specs.declared.content.Content.{Content}
 use Rattle.inline_content.specs.View.{view_at}
-use Rattle.inline_leaves.specs.Leaves.{size_before}
+use Rattle.inline_leaves.specs.Leaves.{size_before, IsAfter, IsEnd}
 use Rattle.link_parts.specs.Codes.{IsRest}
+use Rattle.attention.specs.declared.run.Run.{Run}
+use Rattle.inline_tree.specs.declared.label.LabelStart.{LabelStart}
 use Rattle.inline_tree.specs.declared.label.OpenLabel.{OpenLabel}
 use Rattle.inline_tree.specs.declared.reading.Reading.{Reading}
 use Rattle.inline_tree.specs.declared.scan.Scanner.{Scanner}
@@ -45,3 +47,19 @@ pub record IsPlaced {A : Type 0} (content : Content) (s : Scanner A) : Type 0 wh
 abbrev pub ended_here : InlineContext → List ℕ → List scan.OpenLabel → scan.Text → Option Ended
 ended_here context content [] inner = None
 ended_here context content (label ∷ others) inner = ended_by context content label inner
+
+-- a byte that is a code of one byte
+pub record IsSingle (bytes : List ℕ) : Type 0 where
+  pub ascii : slice_index bytes 0 < 128
+  pub next : IsAfter bytes (drop 1 bytes)
+  pub code : content_codes bytes ≡ slice_index bytes 0 ∷ content_codes (drop 1 bytes)
+
+-- a run comes first
+pub record IsRunFront (bytes : List ℕ) (run : Run) : Type 0 where
+  pub end : IsEnd bytes run.size
+  pub first : take 1 bytes ≡ run.marker ∷ []
+
+-- a label start comes first
+pub record StartsLabel (bytes : List ℕ) (start : LabelStart) : Type 0 where
+  pub end : IsEnd bytes (length (start_bytes (start_view start)))
+  pub first : take (length (start_bytes (start_view start))) bytes ≡ start_bytes (start_view start)

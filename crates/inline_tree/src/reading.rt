@@ -15,6 +15,9 @@ ghost use Rattle.attention.specs.View.{run_view};
 ghost use Rattle.inline_rows.specs.View.{rows_view, target_linked};
 ghost use Rattle.inline_rows.specs.declared.row.InlineRow.{InlineRow as SeenRow};
 ghost use Rattle.span_rows.specs.Container.{IsContainer, AreTold, AreWithin};
+ghost use Rattle.std.specs.List.{All};
+ghost use Rattle.link_parts.specs.Codes.{IsRest};
+ghost use Rattle.inline_tree.specs.declared.label.OpenLabel.{OpenLabel as SeenLabel};
 ghost use Rattle.inline_tree.specs.Shows.{Shows, IsSound, OpensAt, opened, formed_last, unformed_last};
 
 use crate::label::{LabelStart, OpenLabel};
@@ -61,6 +64,7 @@ impl<'a, A: Allocator> Reading<'a, A> {
     pub(crate) fn text(&mut self, text: &'a str) -> Result<(), AllocError>
         requires sound { IsSound self.old }
         ensures sound { OnOk result (IsSound self.new) }
+        ensures from { (rest : List ℕ) → All (λ (o : SeenLabel). IsRest o.from.now rest) self.old.labels.items → OnOk result (All (λ (o : SeenLabel). IsRest o.from.now rest) self.new.labels.items) }
         ensures read { (leads : Target → Linked) (at : ℕ → Linked) (r : scan.Reading) → Shows leads at self.old r → OnOk result (Shows leads at self.new (read_tokens (map Item (map Data text.now)) r)) }
     {
         self.rows.push(InlineRow::Text(text))?;
@@ -71,6 +75,7 @@ impl<'a, A: Allocator> Reading<'a, A> {
     pub(crate) fn leaf(&mut self, part: LeafPart<'a>) -> Result<(), AllocError>
         requires sound { IsSound self.old }
         ensures sound { OnOk result (IsSound self.new) }
+        ensures from { (rest : List ℕ) → All (λ (o : SeenLabel). IsRest o.from.now rest) self.old.labels.items → OnOk result (All (λ (o : SeenLabel). IsRest o.from.now rest) self.new.labels.items) }
         ensures read { (leads : Target → Linked) (at : ℕ → Linked) (r : scan.Reading) → Shows leads at self.old r → OnOk result (Shows leads at self.new (read_tokens (map Item (parts_of part.entry)) r)) }
     {
         self.rows.push(InlineRow::Leaf(part))?;
@@ -82,6 +87,7 @@ impl<'a, A: Allocator> Reading<'a, A> {
         requires sound { IsSound self.old }
         requires byte { byte.now ≡ run.marker ∷ [] }
         ensures sound { OnOk result (IsSound self.new) }
+        ensures from { (rest : List ℕ) → All (λ (o : SeenLabel). IsRest o.from.now rest) self.old.labels.items → OnOk result (All (λ (o : SeenLabel). IsRest o.from.now rest) self.new.labels.items) }
         ensures read { (leads : Target → Linked) (at : ℕ → Linked) (r : scan.Reading) → Shows leads at self.old r → OnOk result (Shows leads at self.new (read_tokens (Delimiters (run_view run) ∷ []) r)) }
     {
         self.slots.push(self.rows.len())?;
@@ -95,6 +101,7 @@ impl<'a, A: Allocator> Reading<'a, A> {
         requires sound { IsSound self.old }
         requires text { OpensAt start text.now }
         ensures sound { OnOk result (IsSound self.new) }
+        ensures from { (rest : List ℕ) → All (λ (o : SeenLabel). IsRest o.from.now rest) self.old.labels.items → IsRest from.now rest → OnOk result (All (λ (o : SeenLabel). IsRest o.from.now rest) self.new.labels.items) }
         ensures read { (leads : Target → Linked) (at : ℕ → Linked) (r : scan.Reading) → Shows leads at self.old r → OnOk result (Shows leads at self.new (opened start from.now r)) }
     {
         self.labels.push(OpenLabel {
@@ -113,6 +120,7 @@ impl<'a, A: Allocator> Reading<'a, A> {
     pub(crate) fn unform(&mut self)
         requires sound { IsSound self.old }
         ensures sound { IsSound self.new }
+        ensures from { (rest : List ℕ) → All (λ (o : SeenLabel). IsRest o.from.now rest) self.old.labels.items → All (λ (o : SeenLabel). IsRest o.from.now rest) self.new.labels.items }
         ensures read { (leads : Target → Linked) (at : ℕ → Linked) (r : scan.Reading) → Shows leads at self.old r → Shows leads at self.new (unformed_last r) }
     {
         if let Some(label) = self.labels.pop() {
@@ -124,6 +132,7 @@ impl<'a, A: Allocator> Reading<'a, A> {
     pub(crate) fn form(&mut self, target: LinkTarget<'a>) -> Result<(), AllocError>
         requires sound { IsSound self.old }
         ensures sound { OnOk result (IsSound self.new) }
+        ensures from { (rest : List ℕ) → All (λ (o : SeenLabel). IsRest o.from.now rest) self.old.labels.items → OnOk result (All (λ (o : SeenLabel). IsRest o.from.now rest) self.new.labels.items) }
         ensures read { (leads : Target → Linked) (at : ℕ → Linked) (r : scan.Reading) (t : Target) → target_linked at target.entry ≡ leads t → Shows leads at self.old r → OnOk result (Shows leads at self.new (formed_last t r)) }
     {
         let Some(label) = self.labels.pop() else {
