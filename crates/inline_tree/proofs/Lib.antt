@@ -5,3 +5,4 @@ pub mod Changes
 pub mod Goes
 pub mod Views
 pub mod Texts
+pub mod Follow

@@ -1,7 +1,7 @@
 //! The scan of a content from left to right (CommonMark 6 and appendix, phase 2).
 //!
 //!     content ::= white* (text | leaf | run | start | ']')*
-ghost use Rattle.std.specs.Prelude.{◌≡◌, ◌<◌, ◌≤◌, ◌==◌, ◌&&◌, ℕ, List, [], ◌∷◌, Option, None, true, length, map, IfOk, IfSome, OnOk, take, drop, codes};
+ghost use Rattle.std.specs.Prelude.{◌≡◌, ◌<◌, ◌≤◌, ◌==◌, ◌&&◌, ℕ, List, [], ◌∷◌, Option, None, true, length, map, IfOk, IfSome, OnOk, take, drop, slice_index};
 ghost use Rattle.std.specs.List.{All, prefix_len};
 ghost use Rattle.std.specs.Option.{option_map};
 ghost use Rattle.std.specs.Str.{IsCharBoundary};
@@ -12,7 +12,6 @@ ghost use Rattle.markdown_definition.specs.Content.{content_codes};
 ghost use Rattle.markdown_definition.specs.Inline.{Target, Linked, Data};
 ghost use Rattle.markdown_definition.specs.InlineHtml.{leads_to};
 ghost use Rattle.markdown_definition.specs.InlineRows.{inline_rows};
-ghost use Rattle.markdown_definition.specs.Letters.{begins_with};
 ghost use Rattle.markdown_definition.specs.LinkDefinition.{Definition};
 ghost use Rattle.markdown_definition.specs.Scan as scan;
 ghost use Rattle.markdown_definition.specs.Scan.{inlines, label_start_at, read_tokens, start_bytes};
@@ -194,7 +193,7 @@ impl<'a, A: Allocator + Clone> Scanner<'a, A> {
         if let Some(start) = label_start_at(source.on, self.rest) {
             return self.start(start);
         }
-        if source.on.label_end && self.rest.starts_with("]") {
+        if is_label_end(source.on, self.rest) {
             self.end(source)
         } else {
             self.text(1)
@@ -225,7 +224,7 @@ impl<'a, A: Allocator + Clone> Scanner<'a, A> {
         requires first { IsSingle self.old.rest.now }
         requires no_run { run_at source.now.on.now (view_at (T.punctuation_of source.now.tables.now) source.now.content self.old.rest.now) ≡ None }
         requires no_start { label_start_at source.now.on.now (content_codes self.old.rest.now) ≡ None }
-        requires bracket { (source.now.on.now.label_end && begins_with (codes "]") self.old.rest.now) ≡ true }
+        requires bracket { (source.now.on.now.label_end && (slice_index self.old.rest.now 0 == 93)) ≡ true }
         ensures placed { OnOk result (IsPlaced source.now.content self.new) }
         ensures shorter { OnOk result (length self.new.rest.now < length self.old.rest.now) }
         ensures read { (ds : List Definition) (final : scan.Reading) → HasLabels source.now.labels.now (labels_of ds) → Follows source.now.on.now (T.reference_of source.now.tables.now) (T.punctuation_of source.now.tables.now) ds source.now.content self.old final → OnOk result (Follows source.now.on.now (T.reference_of source.now.tables.now) (T.punctuation_of source.now.tables.now) ds source.now.content self.new final) }
@@ -263,6 +262,14 @@ impl<'a, A: Allocator + Clone> Scanner<'a, A> {
             None => Ok(None),
         }
     }
+}
+
+/// Whether a `]` comes first that may end a label (CommonMark 6.3).
+fn is_label_end(on: &Constructs, rest: &str) -> bool
+    requires { 0 < length rest.now }
+    ensures { result ≡ (on.now.label_end && (slice_index rest.now 0 == 93)) }
+{
+    on.label_end && rest.as_bytes()[0] == b']'
 }
 
 /// The label start that a content begins with (CommonMark 6.3 and 6.4).
