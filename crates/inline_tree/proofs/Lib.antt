@@ -5,3 +5,5 @@ pub mod Changes
 pub mod Goes
 pub mod Views
 pub mod Texts
+pub mod Placed
+pub mod Ended
