@@ -1,15 +1,14 @@
 -- What a `]` forms with the innermost label start that is open.
-use Rattle.std.proofs.Common.{◌≡◌, ℕ, zero, suc, ◌+◌, ◌-◌, ◌<◌, ◌≤◌, Bool, true, false, List, [], ◌∷◌, ◌++◌, Option, None, Some, refl, sym, ap, ap₂, ◌∙◌, get_or, length, arith, subst, reverse, take, drop}
+use Rattle.std.proofs.Common.{◌≡◌, ℕ, zero, suc, ◌+◌, ◌-◌, ◌<◌, Bool, true, false, List, [], ◌∷◌, ◌++◌, Option, None, Some, refl, sym, ap, ap₂, ◌∙◌, get_or, length, arith, subst, reverse, take, drop}
 use Rattle.std.specs.List.{All, slice_get}
 use Rattle.std.proofs.lemmas.Bool.{cond-true, cond-false, true≢false}
 use Rattle.std.proofs.lemmas.Option.{slice_get_within, slice_get-get_or, get_or_from_slice_get}
 use Rattle.std.proofs.lemmas.List.{length-append, take_at, get_or-drop, take-append-drop, drop_more, length-drop}
 use Rattle.markdown_definition.specs.Content.{content_codes, before}
 use Rattle.markdown_definition.specs.Inline.{Target, Linked}
-use Rattle.markdown_definition.specs.LabelEnd.{Ended, label_end_at}
+use Rattle.markdown_definition.specs.LabelEnd.{label_end_at}
 use Rattle.markdown_definition.specs.Scan as scan
-use Rattle.markdown_definition.specs.Scan.{InlineContext, ended_by, may_form}
-use Rattle.markdown_definition.specs.Spans.{Token}
+use Rattle.markdown_definition.specs.Scan.{InlineContext, may_form}
 use Rattle.attention.specs.declared.run.Run.{Run}
 use Rattle.inline_rows.specs.declared.row.InlineRow.{InlineRow}
 use Rattle.link_parts.specs.Codes.{IsRest, IsCut}

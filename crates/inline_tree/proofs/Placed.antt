@@ -1,13 +1,13 @@
 -- The place of a scan after what comes next.
-use Rattle.std.proofs.Common.{◌≡◌, ℕ, ◌+◌, ◌-◌, ◌<◌, ◌≤◌, List, [], ◌∷◌, refl, sym, ap, ◌∙◌, length, arith, get_or, subst, drop, Bool, false, eqb, ◌&&◌, inl, inr}
+use Rattle.std.proofs.Common.{◌≡◌, ℕ, ◌-◌, List, [], ◌∷◌, refl, sym, ap, ◌∙◌, length, arith, get_or, drop, false, eqb, ◌&&◌, inl, inr}
 use Rattle.std.specs.Prelude.{codes}
 use Rattle.std.specs.List.{All}
 use Rattle.std.proofs.lemmas.Bool.{cases_Bool, eqb-true, true≢false, eq-eqb, and_left}
 use Rattle.markdown_definition.specs.Content.{content_codes}
 use Rattle.markdown_definition.specs.Letters.{begins_with}
 use Rattle.link_parts.specs.Codes.{IsRest}
-use Rattle.inline_leaves.specs.Leaves.{IsAfter, IsEnd}
-use Rattle.inline_leaves.proofs.Codes.{is_after, plain_code, at_return}
+use Rattle.inline_leaves.specs.Leaves.{IsAfter}
+use Rattle.inline_leaves.proofs.Codes.{plain_code, at_return}
 use Rattle.inline_tree.specs.declared.label.OpenLabel.{OpenLabel}
 use Rattle.inline_tree.specs.Scanned.{IsPlace}
 use Rattle.inline_tree.proofs.Views.{rest_of_rest, next_place, after_next}
@@ -22,26 +22,17 @@ whole_rest content = record {
     none : (n : ℕ) → n - n ≡ 0
     none n = omega arith
 
-pub whole_place : (content : List ℕ) → IsPlace content content
-whole_place content = record {
-  rest_of = whole_rest content;
-  fewer = omega arith;
-  codes = sym (ap (λ n. drop n (content_codes content)) (none (length (content_codes content))));
-}
-  where
-    none : (n : ℕ) → n - n ≡ 0
-    none n = omega arith
-
 pub place_after : (content rest after : List ℕ) → IsPlace content rest → IsAfter rest after → IsPlace content after
 place_after content rest after p a = next_place content rest after p (after_next rest after a)
 
-pub end_after : (content rest after : List ℕ) (n : ℕ) → IsPlace content rest → after ≡ drop n rest → IsEnd rest n → IsPlace content after
-end_after content rest after n p e end = place_after content rest after p (is_after rest after n e end.some end.within end.cut)
+-- what stands after label starts that are open
+pub labels_rest : (rest after : List ℕ) (os : List OpenLabel) → IsRest rest after → All (λ (o : OpenLabel). IsRest o.from.now rest) os
+    → All (λ (o : OpenLabel). IsRest o.from.now after) os
+labels_rest rest after os r all = λ k d lt. rest_of_rest (get_or os k d).from.now rest after (all k d lt) r
 
 pub labels_after : (rest after : List ℕ) (os : List OpenLabel) → IsAfter rest after → All (λ (o : OpenLabel). IsRest o.from.now rest) os
     → All (λ (o : OpenLabel). IsRest o.from.now after) os
-labels_after rest after os a all = λ k d lt.
-    rest_of_rest (get_or os k d).from.now rest after (all k d lt) (record { within = omega (arith, a.shorter); place = a.place; })
+labels_after rest after os a all = labels_rest rest after os (record { within = omega (arith, a.shorter); place = a.place; }) all
 
 -- ---- label starts
 

@@ -1,4 +1,4 @@
-use Rattle.std.proofs.Common.{◌≡◌, ℕ, ◌-◌, ap, ap₂, subst, sym, ◌∙◌, length, take, drop, List, Option, None, Some}
+use Rattle.std.proofs.Common.{◌≡◌, ◌-◌, ap, ap₂, subst, sym, ◌∙◌, length, drop, List, Option, None, Some}
 use Rattle.std.specs.Prelude.{IfOk}
 use Rattle.std.specs.List.{slice_get}
 use Rattle.markdown_definition.specs.Content.{before, content_codes}
@@ -20,7 +20,7 @@ returns-then-not-may_form-clause-read g c leads at r on names ds has h =
     let last = sym (last_of c.deref.result.now s.labels.items (Some o) c.deref.ensures.value c.in-Some.ensures.value) in
     let none : ended_here (context_by on names ds) (content_codes c.args.self.now.rest.now) r.open_labels r.now ≡ None =
         ended.last_may_not leads at (context_by on names ds) (content_codes c.args.self.now.rest.now) s.rows.items s.runs.items s.slots.items s.labels.items _ o r.open_labels r.now s.holds_link
-        (ended.innermost s.labels.items o last) h.holds_link (sym c.may_form.ensures ∙ ?) h.by in
+        (ended.innermost s.labels.items o last) h.holds_link (sym c.may_form.ensures ∙ c.if-not-may_form.true) h.by in
     subst (λ (e : Option Ended). IsEnded (labels_of ds) c.args.after.now None e) (sym none) tt
 
 pub returns-else-not-may_form-clause-read : goal.returns-else-not-may_form-clause-read
@@ -36,7 +36,7 @@ returns-else-not-may_form-clause-read g c leads at r on names ds has h =
     let behind : drop 1 (content_codes rest) ≡ content_codes after = ap (λ xs. drop 1 (content_codes xs)) c.requires.bracket in
     let found : ended_here (context_by on names ds) (content_codes rest) r.open_labels r.now ≡ label_end_at (is_label_of ds) (content_codes c.text_before.result.now) (content_codes after) =
         ended.last_may leads at (context_by on names ds) (content_codes rest) s.rows.items s.runs.items s.slots.items s.labels.items _ o r.open_labels r.now s.holds_link
-        (ended.innermost s.labels.items o last) h.holds_link (sym c.may_form.ensures ∙ ?) h.by
+        (ended.innermost s.labels.items o last) h.holds_link (sym c.may_form.ensures ∙ c.if-not-may_form.false) h.by
         ∙ ap₂ (λ a b. label_end_at (is_label_of ds) a b) text behind in
     subst (λ (e : Option Ended). IfOk c.label_end.result (λ found. IsEnded (labels_of ds) after found e)) (sym found) (c.label_end.ensures.read (labels_of ds) has)
 
