@@ -30,7 +30,7 @@ pub before_bracket : (from rest after : List ℕ) → IsRest from rest → rest 
 before_bracket from rest after place bracket =
     let n = length from - length rest in
     let here : get_or from n 0 ≡ 93 =
-        ap (λ k. get_or from k 0) (omega arith) ∙ sym (get_or-drop n from 0 0) ∙ ap (λ xs. get_or xs 0 0) (sym place.place ∙ bracket) in
+    ap (λ k. get_or from k 0) (omega arith) ∙ sym (get_or-drop n from 0 0) ∙ ap (λ xs. get_or xs 0 0) (sym place.place ∙ bracket) in
     let front = content_codes (take n from) in
     let joined : content_codes from ≡ front ++ content_codes rest = bracket_cut from n here ∙ ap (λ xs. front ++ content_codes xs) (sym place.place) in
     let sizes : length (content_codes from) ≡ length front + length (content_codes rest) = ap length joined ∙ length-append front (content_codes rest) in

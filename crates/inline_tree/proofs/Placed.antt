@@ -32,7 +32,7 @@ labels_rest rest after os r all = λ k d lt. rest_of_rest (get_or os k d).from.n
 
 pub labels_after : (rest after : List ℕ) (os : List OpenLabel) → IsAfter rest after → All (λ (o : OpenLabel). IsRest o.from.now rest) os
     → All (λ (o : OpenLabel). IsRest o.from.now after) os
-labels_after rest after os a all = labels_rest rest after os (record { within = omega (arith, a.shorter); place = a.place; }) all
+labels_after rest after os a all = labels_rest rest after os (record { within = omega (arith, a.shorter); place = a.place }) all
 
 -- ---- label starts
 

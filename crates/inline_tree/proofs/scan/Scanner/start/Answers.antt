@@ -29,5 +29,5 @@ pub returns-clause-read : goal.returns-clause-read
 returns-clause-read g c leads at r h =
     let rest = c.args.self.now.rest.now in
     let there : c.cut_after-after.result.now ≡ drop (length (start_bytes (start_view c.args.start))) rest =
-        c.cut_after-after.ensures.rest ∙ ap (λ n. drop n rest) c.size-size.ensures in
+    c.cut_after-after.ensures.rest ∙ ap (λ n. drop n rest) c.size-size.ensures in
     subst (λ from. Shows leads at c.start.new.self (opened c.args.start from r)) there (c.in_ok-start.ensures.read leads at r h)
