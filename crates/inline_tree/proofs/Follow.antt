@@ -3,6 +3,7 @@ use Rattle.std.proofs.Common.{◌≡◌, ℕ, zero, suc, ◌+◌, ◌-◌, ◌<�
 use Rattle.std.specs.List.{prefix_len}
 use Rattle.std.specs.Str.{IsCharBoundary, IsUtf8}
 use Rattle.std.proofs.lemmas.Str.{IsCharBoundary-after_ascii}
+use Rattle.std.specs.Prelude.{IfSome}
 use Rattle.std.specs.Result.{OnOk}
 use Rattle.std.specs.declared.result.Result.{Result}
 use Rattle.std.specs.declared.result.Result.TheVariants.{Ok, Err}
@@ -157,6 +158,10 @@ end_next rest after a = record {
   fewer = omega (arith, ap length a.codes, length-drop (size_before rest after) (content_codes rest));
   codes = a.codes;
 }
+
+-- the place of an end that was found
+pub some_place : {rest : List ℕ} {o : Option LabelEnd} {found : LabelEnd} → o ≡ Some found → IfSome o (λ end. IsAfterEnd rest end.after.now) → IsAfterEnd rest found.after.now
+some_place {rest} {o} {found} is h = subst (λ x. IfSome x (λ end. IsAfterEnd rest end.after.now)) is h
 
 -- an end that was found is the definition's
 pub record IsFound (ls : List (List ℕ)) (rest : List ℕ) (found : LabelEnd) (o : Option Ended) : Type 0 where

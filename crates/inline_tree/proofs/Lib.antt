@@ -6,3 +6,5 @@ pub mod Goes
 pub mod Views
 pub mod Texts
 pub mod Follow
+pub mod Placed
+pub mod Ended

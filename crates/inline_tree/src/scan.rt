@@ -104,6 +104,23 @@ fn after_white(text: &str) -> &str
     cut_after(text, size)
 }
 
+/// The content from a place on that isn't inside a character.
+fn rest_from(text: &str, at: usize) -> &str
+    requires { IsCharBoundary text.now at }
+    ensures { result.now ≡ drop at text.now }
+{
+    &text[at..]
+}
+
+/// The first byte of a text, which is ASCII.
+fn first_byte(text: &str) -> &str
+    requires some { 0 < length text.now }
+    requires ascii { slice_index text.now 0 < 128 }
+    ensures { result.now ≡ take 1 text.now }
+{
+    text_before(text, 1)
+}
+
 impl<'a, A: Allocator + Clone> Scanner<'a, A> {
     /// Reads what comes next.
     fn step<T: Tables>(&mut self, source: &Source<'a, T, A>) -> Result<(), AllocError>
@@ -133,7 +150,7 @@ impl<'a, A: Allocator + Clone> Scanner<'a, A> {
         ensures read { (leads : Target → Linked) (at : ℕ → Linked) (r : scan.Reading) → Shows leads at self.old.reading r → OnOk result (Shows leads at self.new.reading (read_tokens (map Item (map Data (take size self.old.rest.now))) r)) }
     {
         self.reading.text(text_before(self.rest, size))?;
-        self.rest = cut_after(self.rest, size);
+        self.rest = rest_from(self.rest, size);
         Ok(())
     }
 
@@ -169,12 +186,13 @@ impl<'a, A: Allocator + Clone> Scanner<'a, A> {
     /// A run (CommonMark 6.2).
     fn run(&mut self, run: Run) -> Result<(), AllocError>
         requires sound { IsSound self.old.reading }
+        requires first { IsSingle self.old.rest.now }
         requires front { IsRunFront self.old.rest.now run }
         ensures placed { (content : SeenContent) → IsPlaced content self.old → OnOk result (IsPlaced content self.new) }
         ensures rest { OnOk result (self.new.rest.now ≡ drop run.size self.old.rest.now) }
         ensures read { (leads : Target → Linked) (at : ℕ → Linked) (r : scan.Reading) → Shows leads at self.old.reading r → OnOk result (Shows leads at self.new.reading (read_tokens (Delimiters (run_view run) ∷ []) r)) }
     {
-        self.reading.run(run, text_before(self.rest, 1))?;
+        self.reading.run(run, first_byte(self.rest))?;
         self.rest = cut_after(self.rest, run.size);
         Ok(())
     }

@@ -13,8 +13,12 @@ use Rattle.inline_content.specs.View.{view_at}
 use Rattle.inline_leaves.specs.Leaves.{parts_of, size_before, found_leaf, IsAfter}
 use Rattle.inline_leaves.specs.Scanned.{leaf_in}
 use Rattle.inline_tree.specs.Plain.{is_text_at}
-use Rattle.inline_tree.specs.Scanned.{context_by, Follows, IsPlaced, IsPlace, IsSingle}
-use Rattle.inline_tree.specs.Shows.{start_view, opened}
+use Rattle.inline_tree.specs.Scanned.{context_by, ended_here, Follows, IsPlaced, IsPlace, IsSingle}
+use Rattle.inline_tree.specs.Shows.{start_view, opened, formed_in, unformed_in}
+use Rattle.markdown_definition.specs.Targets.{labels_of}
+use Rattle.label_ends.specs.Ends.{IsEnded, IsAfterEnd}
+use Rattle.label_ends.proofs.Leading.{target_leads}
+use Rattle.inline_tree.proofs.Placed as placed
 use Rattle.inline_tree.proofs.Follow as follow
 use Rattle.inline_tree.proofs.Follow.{on_ok}
 use Rattle.inline_tree.proofs.Texts as texts
