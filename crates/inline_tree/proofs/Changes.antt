@@ -4,11 +4,10 @@ use Rattle.std.specs.Prelude.{◌||◌, false, true}
 use Rattle.std.proofs.lemmas.Bool.{false≢true}
 use Rattle.std.specs.Prelude.{replicate}
 use Rattle.std.specs.List.{flat_map}
-use Rattle.std.proofs.lemmas.List.{append-nil, length-append, reverse-append, take_all, length-drop, length-take-le}
+use Rattle.std.proofs.lemmas.List.{length-append, reverse-append, take_all, length-drop, length-take-le}
 use Rattle.markdown_definition.specs.Inline.{Target, Inline, Data}
 use Rattle.markdown_definition.specs.Inline as inline
 use Rattle.markdown_definition.specs.InlineRows.{part_rows}
-use Rattle.markdown_definition.specs.Content.{content_codes}
 use Rattle.markdown_definition.specs.Scan as scan
 use Rattle.markdown_definition.specs.Scan.{start_bytes, label_part, makes_link}
 use Rattle.markdown_definition.specs.Spans.{Token, Item, Delimiters, emphasized}
@@ -16,7 +15,7 @@ use Rattle.attention.specs.View.{run_view}
 use Rattle.attention.specs.declared.run.Run.{Run}
 use Rattle.inline_rows.specs.View.{rows_view, row_view, data_rows, target_linked}
 use Rattle.inline_rows.specs.declared.row.InlineRow.{InlineRow}
-use Rattle.inline_rows.specs.declared.row.InlineRow.TheVariants.{Text, Exit}
+use Rattle.inline_rows.specs.declared.row.InlineRow.TheVariants.{Exit}
 use Rattle.inline_rows.specs.declared.row.LinkTarget.{LinkTarget}
 use Rattle.span_rows.specs.Container.{AreWithin, AreBytes, AreTold, text_of}
 use Rattle.inline_tree.specs.declared.label.OpenLabel.{OpenLabel}

@@ -1,5 +1,5 @@
 -- What follows what is read: one step at a place.
-use Rattle.std.proofs.Common.{◌≡◌, ℕ, zero, suc, ◌+◌, ◌-◌, ◌<◌, ◌≤◌, Bool, true, false, ◌&&◌, ◌||◌, ◌⊎◌, inl, inr, eqb, List, [], ◌∷◌, ◌++◌, map, refl, sym, ap, ap₂, ◌∙◌, length, arith, subst, take, drop, get_or, Option, None, Some}
+use Rattle.std.proofs.Common.{◌≡◌, ℕ, zero, suc, ◌+◌, ◌-◌, ◌<◌, ◌≤◌, Bool, true, false, ◌&&◌, ◌||◌, ◌⊎◌, inl, inr, eqb, List, [], ◌∷◌, map, refl, sym, ap, ap₂, ◌∙◌, length, arith, subst, take, drop, get_or, Option, None, Some}
 use Rattle.std.specs.List.{prefix_len}
 use Rattle.std.specs.Str.{IsCharBoundary, IsUtf8}
 use Rattle.std.proofs.lemmas.Str.{IsCharBoundary-after_ascii}
@@ -7,15 +7,14 @@ use Rattle.std.specs.Prelude.{IfSome}
 use Rattle.std.specs.Result.{OnOk}
 use Rattle.std.specs.declared.result.Result.{Result}
 use Rattle.std.specs.declared.result.Result.TheVariants.{Ok, Err}
-use Rattle.std.proofs.lemmas.Bool.{false≢true, true≢false, or_cases, and_parts, eqb-true, eqb-false, cases_Bool, cond-true, and_from}
+use Rattle.std.proofs.lemmas.Bool.{or_cases, and_parts, eqb-true, eqb-false, cases_Bool, cond-true}
 use Rattle.std.proofs.lemmas.List.{length-drop, length-map, get_or-take}
 use Rattle.std.proofs.lemmas.List.Sums.{prefix_len_passes, prefix_len-le-length}
 use Rattle.markdown_options.specs.declared.configuration.Constructs.{Constructs}
 use Rattle.markdown_definition.specs.Content.{content_codes}
 use Rattle.markdown_definition.specs.InlineCode.{InlineCode, codes_of}
-use Rattle.markdown_definition.specs.Inline.{Inline, Data, Leaf, leaf}
+use Rattle.markdown_definition.specs.Inline.{Inline, Data, leaf}
 use Rattle.markdown_definition.specs.Attention.{run_at, is_marker}
-use Rattle.markdown_definition.specs.Attention as attention
 use Rattle.markdown_definition.specs.Spans.{Item, Delimiters}
 use Rattle.markdown_definition.specs.LabelEnd.{Ended}
 use Rattle.markdown_definition.specs.LinkDefinition.{Definition}
@@ -23,7 +22,6 @@ use Rattle.markdown_definition.specs.Scan as scan
 use Rattle.markdown_definition.specs.Scan.{InlineContext, label_start_at, start_bytes, start_more, read_tokens, leaf_at}
 use Rattle.attention.specs.View.{run_view}
 use Rattle.attention.specs.declared.run.Run.{Run}
-use Rattle.link_parts.specs.Codes.{IsCut}
 use Rattle.inline_content.specs.declared.content.Content.{Content}
 use Rattle.inline_content.specs.View.{view_at}
 use Rattle.inline_content.specs.Fronts.{StartsRun}
@@ -170,7 +168,7 @@ pub record IsFound (ls : List (List ℕ)) (rest : List ℕ) (found : LabelEnd) (
   pub as_end : IsEnd ls rest found end
 
 pub found_is : (ls : List (List ℕ)) (rest : List ℕ) (found : LabelEnd) (o : Option Ended) → IsEnded ls rest (Some found) o → IsFound ls rest found o
-found_is ls rest found (Some e) h = record { end = e; is = refl; as_end = h; }
+found_is ls rest found (Some e) h = record { end = e; is = refl; as_end = h }
 found_is ls rest found None h = absurd h
 
 pub none_is : (ls : List (List ℕ)) (rest : List ℕ) (o : Option Ended) → IsEnded ls rest None o → o ≡ None
@@ -249,7 +247,7 @@ module _ (on : Constructs) (names : List ℕ → Option (List ℕ)) (p : ℕ →
       moved rest (drop k rest) now (opened s (drop k rest) now) final k place (after_next rest (drop k rest) after) (sym (size_plain k rest (drop k rest) refl front.end.within plain)) same
       (goes.start_view_goes (context_by on names ds) now (view_at p content rest) (start_view s) k (start_count s) (view_count rest place (omega (arith, after.fewer))) (none_left rest place none) no_run
       (ap (label_start_at on) codes ∙ sym is)
-      ∙ ap (λ from. scan.scan (context_by on names ds) 0 (scan.reading (scan.text [] false) (record { start = start_view s; from = from; outer = now.now; } ∷ now.open_labels)) (drop k (view_at p content rest))) left)
+      ∙ ap (λ from. scan.scan (context_by on names ds) 0 (scan.reading (scan.text [] false) (record { start = start_view s; from = from; outer = now.now } ∷ now.open_labels)) (drop k (view_at p content rest))) left)
 
   -- a `]` that forms nothing
   pub nothing_follows : (rest : List ℕ) (now final : scan.Reading) → IsPlace content.text.now rest → leaf_in on names (content_codes rest) ≡ None
@@ -279,7 +277,7 @@ module _ (on : Constructs) (names : List ℕ → Option (List ℕ)) (p : ℕ →
       let there = next_place content.text.now rest (drop 1 rest) place (single_next rest single) in
       let one = ap (λ n. drop n (view_at p content rest)) (sym (single_size rest single)) ∙ view_next p content rest (drop 1 rest) place (single_next rest single) in
       let left : drop e.size (drop 1 (view_at p content rest)) ≡ view_at p content after =
-          ap (drop e.size) one ∙ ap (λ n. drop n (view_at p content (drop 1 rest))) size ∙ view_next p content (drop 1 rest) after there next in
+      ap (drop e.size) one ∙ ap (λ n. drop n (view_at p content (drop 1 rest))) size ∙ view_next p content (drop 1 rest) after there next in
       ap (scan.scan (context_by on names ds) 0 (formed_in e.target now.open_labels now.now)) (sym left)
       ∙ sym (goes.formed_view_goes (context_by on names ds) now (view_at p content rest) e (view_count rest place (omega (arith, single.next.fewer))) (none_left rest place none) no_run
       (ap (label_start_at on) codes ∙ no_start) end (first ∙ bracket)

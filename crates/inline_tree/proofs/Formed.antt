@@ -1,5 +1,5 @@
 -- A link or an image is formed.
-use Rattle.std.proofs.Common.{◌≡◌, ℕ, zero, suc, ◌+◌, ◌-◌, ◌<◌, ◌≤◌, List, [], ◌∷◌, ◌++◌, map, refl, sym, ap, ap₂, ◌∙◌, length, arith, subst, append_assoc, take, drop, set}
+use Rattle.std.proofs.Common.{◌≡◌, ℕ, ◌+◌, List, [], ◌∷◌, ◌++◌, refl, sym, ap, ap₂, ◌∙◌, length, subst, append_assoc, take, drop, set}
 use Rattle.std.specs.List.{flat_map}
 use Rattle.std.proofs.lemmas.List.{append-nil, length-append, take_at, drop_at}
 use Rattle.std.proofs.lemmas.List.{take-append-drop}
@@ -22,8 +22,8 @@ use Rattle.span_rows.proofs.Container as container
 use Rattle.inline_tree.specs.declared.label.LabelStart.{LabelStart}
 use Rattle.inline_tree.specs.declared.label.LabelStart.TheVariants as start
 use Rattle.inline_tree.specs.declared.label.OpenLabel.{OpenLabel}
-use Rattle.inline_tree.specs.Shows.{IsOpen, AreOpen, NoneOpen, Inside, ShowsBy, start_view, entered}
-use Rattle.inline_tree.proofs.Readings.{HasLabel, has_label}
+use Rattle.inline_tree.specs.Shows.{AreOpen, NoneOpen, Inside, ShowsBy, start_view, entered}
+use Rattle.inline_tree.proofs.Readings.{has_label}
 
 module _ (leads : Target → inline.Linked) (at : ℕ → inline.Linked) where
   -- the rows of what is formed
@@ -54,11 +54,11 @@ module _ (leads : Target → inline.Linked) (at : ℕ → inline.Linked) where
   form_outer _ _ _ _ _ _ _ target t all kids (Inside rows more runs more_runs slots more_slots opens labels o label row outer inside is view) leads_there before told =
       let inner = drop (length ((rows ++ more) ++ row ∷ [])) all in
       let split : all ≡ ((rows ++ more) ++ row ∷ []) ++ inner =
-          sym (take-append-drop (length ((rows ++ more) ++ row ∷ [])) all) ∙ ap (λ xs. xs ++ inner) before in
+      sym (take-append-drop (length ((rows ++ more) ++ row ∷ [])) all) ∙ ap (λ xs. xs ++ inner) before in
       let enter = entered o.start target in
       let part = label_part label.start t kids in
       let made : rows_view at (enter ∷ (inner ++ Exit ∷ [])) ≡ flat_map (part_rows leads) (part ∷ []) =
-          formed_rows o.start target t inner kids leads_there told ∙ ap (λ s. flat_map (part_rows leads) (label_part s t kids ∷ [])) is.start in
+      formed_rows o.start target t inner kids leads_there told ∙ ap (λ s. flat_map (part_rows leads) (label_part s t kids ∷ [])) is.start in
       record {
         outer_rows = rows;
         now_rows = more ++ (enter ∷ (inner ++ Exit ∷ []));
@@ -109,7 +109,7 @@ module _ (leads : Target → inline.Linked) (at : ℕ → inline.Linked) where
   is_inner rows runs slots o opens labels tokens s =
       let there = has_label leads at rows runs slots o opens labels tokens s in
       let outer : AreOpen leads at s.outer_rows s.outer_runs s.outer_slots (o ∷ opens) (there.label ∷ there.others) =
-          subst (AreOpen leads at s.outer_rows s.outer_runs s.outer_slots (o ∷ opens)) there.labels_are s.outer in
+      subst (AreOpen leads at s.outer_rows s.outer_runs s.outer_slots (o ∷ opens)) there.labels_are s.outer in
       let count = there.is.runs in
       let count2 : o.runs ≡ length s.outer_slots = count ∙ sym (outer_counts s.outer_rows s.outer_runs s.outer_slots (o ∷ opens) labels s.outer) in
       record {

@@ -1,13 +1,12 @@
 -- One step of the scan, by what comes first.
-use Rattle.std.proofs.Common.{◌≡◌, ℕ, zero, suc, ◌+◌, ◌-◌, ◌*◌, ◌<◌, ◌≤◌, Bool, true, false, cond, ◌&&◌, eqb, List, [], ◌∷◌, ◌++◌, map, refl, sym, ap, ap₂, ◌∙◌, length, arith, subst, take, drop, Option, None, Some, get_or}
-use Rattle.std.proofs.lemmas.Bool.{cond-true, cond-false, true≢false}
-use Rattle.std.proofs.lemmas.List.{drop-drop}
+use Rattle.std.proofs.Common.{◌≡◌, ℕ, ◌+◌, ◌-◌, ◌<◌, Bool, true, false, ◌&&◌, eqb, List, [], ◌∷◌, map, refl, sym, ap, ◌∙◌, length, arith, drop, Option, None, Some, get_or}
+use Rattle.std.proofs.lemmas.Bool.{cond-true, true≢false}
 use Rattle.markdown_definition.specs.InlineCode.{InlineCode, codes_of}
 use Rattle.markdown_definition.specs.Inline.{Data, Leaf}
 use Rattle.markdown_definition.specs.Attention.{Run, run_at}
 use Rattle.markdown_definition.specs.Spans.{Item, Delimiters}
 use Rattle.markdown_definition.specs.LabelEnd.{Ended}
-use Rattle.markdown_definition.specs.Scan.{InlineContext, leaf_at, LabelStart, label_start_at, start_more, text, Text, OpenLabel, Reading, reading, read_tokens, Next, last_step, label_end_step, ended_step, ended_by, step, and_then, scan}
+use Rattle.markdown_definition.specs.Scan.{InlineContext, leaf_at, LabelStart, label_start_at, start_more, text, Text, OpenLabel, Reading, reading, read_tokens, label_end_step, ended_step, and_then, scan}
 use Rattle.markdown_definition.proofs.Scanning.{scan_skipped, scan_step, step_leaf, step_run, step_start, step_last}
 use Rattle.markdown_definition.proofs.InlineSizes.{leaf_fits}
 use Rattle.inline_tree.specs.Shows.{unformed_in, formed_in}

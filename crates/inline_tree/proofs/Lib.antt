@@ -6,5 +6,6 @@ pub mod Goes
 pub mod Views
 pub mod Texts
 pub mod Follow
+pub mod Whole
 pub mod Placed
 pub mod Ended

@@ -1,14 +1,13 @@
 -- More is read.
-use Rattle.std.proofs.Common.{◌≡◌, ℕ, zero, suc, ◌+◌, ◌-◌, ◌<◌, ◌≤◌, List, [], ◌∷◌, ◌++◌, map, refl, sym, ap, ap₂, ◌∙◌, length, arith, subst, append_assoc, take, drop}
+use Rattle.std.proofs.Common.{◌≡◌, ℕ, ◌+◌, ◌-◌, List, [], ◌∷◌, ◌++◌, map, refl, sym, ap, ◌∙◌, length, arith, subst, append_assoc}
 use Rattle.std.specs.List.{flat_map, fold}
 use Rattle.std.proofs.lemmas.List.{append-nil, length-append}
 use Rattle.markdown_definition.specs.Inline.{Target, Inline, Data}
 use Rattle.markdown_definition.specs.Inline as inline
-use Rattle.markdown_definition.specs.InlineRows as rows
-use Rattle.markdown_definition.specs.InlineRows.{part_rows, inline_rows}
+use Rattle.markdown_definition.specs.InlineRows.{part_rows}
 use Rattle.markdown_definition.specs.Scan as scan
 use Rattle.markdown_definition.specs.Scan.{LinkStart, ImageStart, start_bytes, start_tokens, label_part, unformed, formed, whole_text}
-use Rattle.markdown_definition.specs.Spans.{Token, Item, Delimiters, emphasized}
+use Rattle.markdown_definition.specs.Spans.{Token, Item, Delimiters}
 use Rattle.attention.specs.View.{run_view}
 use Rattle.attention.specs.declared.run.Run.{Run}
 use Rattle.inline_rows.specs.View.{rows_view, row_view, data_rows}
@@ -16,7 +15,7 @@ use Rattle.inline_rows.specs.declared.row.InlineRow.{InlineRow}
 use Rattle.span_rows.specs.Container.{IsContainer, AreBytes}
 use Rattle.span_rows.proofs.Container as container
 use Rattle.inline_tree.specs.declared.label.OpenLabel.{OpenLabel}
-use Rattle.inline_tree.specs.Shows.{IsOpen, AreOpen, NoneOpen, Inside, ShowsBy, unformed_in, formed_in}
+use Rattle.inline_tree.specs.Shows.{IsOpen, AreOpen, NoneOpen, Inside, ShowsBy}
 
 -- the rows of a label start that forms nothing
 start_rows : (leads : Target → inline.Linked) (start : scan.LabelStart) → data_rows (start_bytes start) ++ [] ≡ flat_map (part_rows leads) (map Data (start_bytes start))
@@ -96,10 +95,10 @@ module _ (leads : Target → inline.Linked) (at : ℕ → inline.Linked) where
   unform_outer _ now_rows _ now_runs _ now_slots _ _ _ _ ts (Inside rows more runs more_runs slots more_slots opens labels o label row outer inside is view) now =
       let begun = container.items leads at more (row ∷ []) (length rows) more_runs more_slots label.outer.tokens (map Data (start_bytes label.start)) inside (ap (λ v. v ++ []) view ∙ start_rows leads label.start) in
       let place : length ((rows ++ more) ++ row ∷ []) ≡ length rows + length (more ++ row ∷ []) =
-          ap length (append_assoc rows more (row ∷ [])) ∙ length-append rows (more ++ row ∷ []) in
+      ap length (append_assoc rows more (row ∷ [])) ∙ length-append rows (more ++ row ∷ []) in
       let all =
-          container.join leads at (more ++ row ∷ []) now_rows (length rows) more_runs now_runs more_slots now_slots (label.outer.tokens ++ map Item (map Data (start_bytes label.start))) ts begun
-          (subst (λ n. IsContainer leads at now_rows n now_runs now_slots ts) place now) in
+      container.join leads at (more ++ row ∷ []) now_rows (length rows) more_runs now_runs more_slots now_slots (label.outer.tokens ++ map Item (map Data (start_bytes label.start))) ts begun
+      (subst (λ n. IsContainer leads at now_rows n now_runs now_slots ts) place now) in
       record {
         outer_rows = rows;
         now_rows = (more ++ row ∷ []) ++ now_rows;

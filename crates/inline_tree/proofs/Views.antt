@@ -1,6 +1,6 @@
 -- What is left of a content, as the definition has it.
-use Rattle.std.proofs.Common.{◌≡◌, ℕ, zero, suc, ◌+◌, ◌-◌, ◌<◌, ◌≤◌, Bool, List, [], ◌∷◌, ◌++◌, map, refl, sym, ap, ap₂, ◌∙◌, length, arith, subst, take, drop}
-use Rattle.std.proofs.lemmas.List.{drop-drop, length-drop, length-map}
+use Rattle.std.proofs.Common.{◌≡◌, ℕ, ◌+◌, ◌-◌, ◌<◌, ◌≤◌, Bool, List, [], ◌∷◌, refl, sym, ap, ◌∙◌, length, arith, drop}
+use Rattle.std.proofs.lemmas.List.{drop-drop}
 use Rattle.markdown_definition.specs.Content.{content_codes}
 use Rattle.markdown_definition.specs.InlineCode.{InlineCode, codes_of}
 use Rattle.markdown_definition.proofs.Scanning.{drop-codes_of}
@@ -44,7 +44,7 @@ next_place content rest after p n =
 
 pub after_next : (rest after : List ℕ) → IsAfter rest after → IsNext rest after
 after_next rest after a = record {
-  rest_of = record { within = omega (arith, a.shorter); place = a.place; };
+  rest_of = record { within = omega (arith, a.shorter); place = a.place };
   fewer = omega (arith, a.fewer);
   codes = a.codes;
 }

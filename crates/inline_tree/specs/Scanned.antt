@@ -1,23 +1,26 @@
 -- A content that is being read, as the definition reads it.
-use Rattle.std.specs.Prelude.{◌≡◌, ◌<◌, ◌≤◌, ◌-◌, ℕ, Bool, List, [], ◌∷◌, Option, None, Some, drop, take, length, slice_index}
-use Rattle.std.specs.List.{All}
+use Rattle.std.specs.Prelude.{◌≡◌, ◌<◌, ◌≤◌, ℕ, Bool, false, List, [], ◌∷◌, Option, None, drop, take, length, slice_index}
+use Rattle.std.specs.List.{All, prefix_len}
 use Rattle.std.specs.Str.{IsCharBoundary}
 use Rattle.markdown_options.specs.declared.configuration.Constructs.{Constructs}
+use Rattle.markdown_definition.specs.Columns.{is_white}
 use Rattle.markdown_definition.specs.Content.{content_codes}
+use Rattle.markdown_definition.specs.InlineCode.{InlineCode}
 use Rattle.markdown_definition.specs.LinkDefinition.{Definition}
 use Rattle.markdown_definition.specs.InlineHtml.{leads_to}
 use Rattle.markdown_definition.specs.Scan as scan
 use Rattle.markdown_definition.specs.LabelEnd.{Ended}
 use Rattle.markdown_definition.specs.Scan.{InlineContext, ended_by, start_bytes}
-use Rattle.markdown_definition.specs.Targets.{is_label_of, linked_at, linked_by}
+use Rattle.markdown_definition.specs.Targets.{is_label_of, labels_of, linked_at, linked_by}
 use Rattle.inline_content.specs.declared.content.Content.{Content}
-use Rattle.inline_content.specs.View.{view_at}
+use Rattle.inline_content.specs.View.{content_view, view_at}
 use Rattle.inline_leaves.specs.Leaves.{size_before, IsAfter, IsEnd}
+use Rattle.link_labels.specs.declared.table.LabelTable.{LabelTable}
+use Rattle.link_labels.specs.Table.{HasLabels}
 use Rattle.link_parts.specs.Codes.{IsRest}
 use Rattle.attention.specs.declared.run.Run.{Run}
 use Rattle.inline_tree.specs.declared.label.LabelStart.{LabelStart}
 use Rattle.inline_tree.specs.declared.label.OpenLabel.{OpenLabel}
-use Rattle.inline_tree.specs.declared.reading.Reading.{Reading}
 use Rattle.inline_tree.specs.declared.scan.Scanner.{Scanner}
 use Rattle.inline_tree.specs.Shows.{Shows, IsSound, start_view}
 
@@ -66,3 +69,14 @@ pub record IsRunFront (bytes : List ℕ) (run : Run) : Type 0 where
 pub record StartsLabel (bytes : List ℕ) (start : LabelStart) : Type 0 where
   pub end : IsEnd bytes (length (start_bytes (start_view start)))
   pub first : take (length (start_bytes (start_view start))) bytes ≡ start_bytes (start_view start)
+
+-- what all of a content is read as, but for the spaces and tabs at its start
+abbrev pub scanned : Constructs → (List ℕ → Option (List ℕ)) → (ℕ → Bool) → List Definition → Content → scan.Reading
+scanned on names is_punctuation ds content =
+    let view = content_view is_punctuation content in
+    scan.scan (context_by on names ds) 0 (scan.reading (scan.text [] false) []) (drop (prefix_len (λ (c : InlineCode). is_white c.code) view) view)
+
+-- a content that is being read to this end
+pub record IsScanning {A : Type 0} (on : Constructs) (names : List ℕ → Option (List ℕ)) (is_punctuation : ℕ → Bool) (labels : LabelTable A) (content : Content) (s : Scanner A) : Type 0 where
+  pub placed : IsPlaced content s
+  pub follows : (ds : List Definition) → HasLabels labels (labels_of ds) → Follows on names is_punctuation ds content s (scanned on names is_punctuation ds content)

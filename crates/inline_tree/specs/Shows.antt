@@ -1,6 +1,5 @@
 -- What is read so far, as the definition has it.
-use Rattle.std.specs.Prelude.{◌≡◌, ◌<◌, ◌≤◌, ◌+◌, ℕ, zero, suc, Bool, false, ◌||◌, List, [], ◌∷◌, ◌++◌, map, length, reverse}
-use Rattle.std.specs.List.{flat_map}
+use Rattle.std.specs.Prelude.{◌≡◌, ◌<◌, ◌≤◌, ℕ, false, List, [], ◌∷◌, ◌++◌, length, reverse}
 use Rattle.markdown_definition.specs.Content.{content_codes}
 use Rattle.markdown_definition.specs.Inline.{Target, Data}
 use Rattle.markdown_definition.specs.Inline as inline
@@ -10,7 +9,7 @@ use Rattle.markdown_definition.specs.Spans.{Token}
 use Rattle.attention.specs.declared.run.Run.{Run}
 use Rattle.inline_rows.specs.declared.row.LinkTarget.{LinkTarget}
 use Rattle.inline_rows.specs.declared.row.InlineRow.{InlineRow}
-use Rattle.inline_rows.specs.declared.row.InlineRow.TheVariants.{Text, EnterLink, EnterImage}
+use Rattle.inline_rows.specs.declared.row.InlineRow.TheVariants.{EnterLink, EnterImage}
 use Rattle.inline_rows.specs.View.{row_view, data_rows}
 use Rattle.span_rows.specs.Container.{IsContainer, AreWithin}
 use Rattle.inline_tree.specs.declared.label.LabelStart.{LabelStart}

@@ -47,6 +47,7 @@ impl<'a, A: Allocator + Clone> Reading<'a, A> {
     pub(crate) fn new(alloc: A) -> Result<Reading<'a, A>, AllocError>
         ensures nothing { (leads : Target → Linked) (at : ℕ → Linked) → IfOk result (λ reading. Shows leads at reading (scan.reading (scan.text [] false) [])) }
         ensures sound { IfOk result IsSound }
+        ensures none { IfOk result (λ reading. reading.labels.items ≡ []) }
     {
         Ok(Reading {
             rows: Vec::new(alloc.clone()?),
@@ -97,7 +98,12 @@ impl<'a, A: Allocator> Reading<'a, A> {
     }
 
     /// A label start of these bytes, before the content from there on (CommonMark 6.3 and 6.4).
-    pub(crate) fn start(&mut self, start: LabelStart, text: &'a str, from: &'a str) -> Result<(), AllocError>
+    pub(crate) fn start(
+        &mut self,
+        start: LabelStart,
+        text: &'a str,
+        from: &'a str,
+    ) -> Result<(), AllocError>
         requires sound { IsSound self.old }
         requires text { OpensAt start text.now }
         ensures sound { OnOk result (IsSound self.new) }
@@ -157,14 +163,25 @@ impl<'a, A: Allocator> Reading<'a, A> {
         requires sound { IsSound self }
         ensures read { (leads : Target → Linked) (at : ℕ → Linked) (r : scan.Reading) → Shows leads at self.entry r → IfOk result (λ rows. rows_view at rows.items ≡ inline_rows leads (emphasized (whole_text r).tokens)) }
     {
-        let Reading { mut rows, runs, slots, mut pairing, .. } = self;
+        let Reading {
+            mut rows,
+            runs,
+            slots,
+            mut pairing,
+            ..
+        } = self;
         tell_inner(&mut rows, &runs, &slots, &mut pairing)?;
         Ok(rows)
     }
 }
 
 /// Tells the runs of a container apart.
-fn tell_inner<A: Allocator>(rows: &mut Vec<InlineRow<'_>, A>, runs: &[Run], slots: &[usize], pairing: &mut Pairing<A>) -> Result<(), AllocError>
+fn tell_inner<A: Allocator>(
+    rows: &mut Vec<InlineRow<'_>, A>,
+    runs: &[Run],
+    slots: &[usize],
+    pairing: &mut Pairing<A>,
+) -> Result<(), AllocError>
     requires { AreWithin runs.now slots.now (length rows.old.items) }
     ensures length { length rows.new.items ≡ length rows.old.items }
     ensures told { (leads : Target → Linked) (at : ℕ → Linked) (outer inner : List SeenRow) (tokens : List Token) → rows.old.items ≡ outer ++ inner → IsContainer leads at inner (length outer) runs.now slots.now tokens → OnOk result (AreTold leads at outer tokens rows.new.items) }
@@ -173,7 +190,11 @@ fn tell_inner<A: Allocator>(rows: &mut Vec<InlineRow<'_>, A>, runs: &[Run], slot
 }
 
 /// This row so many times.
-fn push_copies<'a, A: Allocator>(rows: &mut Vec<InlineRow<'a>, A>, row: InlineRow<'a>, count: usize) -> Result<(), AllocError>
+fn push_copies<'a, A: Allocator>(
+    rows: &mut Vec<InlineRow<'a>, A>,
+    row: InlineRow<'a>,
+    count: usize,
+) -> Result<(), AllocError>
     ensures { OnOk result (rows.new.items ≡ rows.old.items ++ replicate count row.entry) }
 {
     for _i in 0..count {

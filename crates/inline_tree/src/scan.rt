@@ -263,7 +263,11 @@ impl<'a, A: Allocator + Clone> Scanner<'a, A> {
 
     /// What a `]` before this content forms with the innermost label start that is open, unless a
     /// link would hold a link (CommonMark 6.3).
-    fn ended(&self, labels: &LabelTable<A>, after: &'a str) -> Result<Option<LabelEnd<'a>>, AllocError>
+    fn ended(
+        &self,
+        labels: &LabelTable<A>,
+        after: &'a str,
+    ) -> Result<Option<LabelEnd<'a>>, AllocError>
         requires placed { All (λ (o : SeenLabel). IsRest o.from.now self.now.rest.now) self.now.reading.labels.items }
         requires bracket { self.now.rest.now ≡ 93 ∷ after.now }
         ensures read { (leads : Target → Linked) (at : ℕ → Linked) (r : scan.Reading) (on : SeenConstructs) (names : List ℕ → Option (List ℕ)) (ds : List Definition) → HasLabels labels.now (labels_of ds) → Shows leads at self.now.reading r → IfOk result (λ found. IsEnded (labels_of ds) after.now found (ended_here (context_by on names ds) (content_codes self.now.rest.now) r.open_labels r.now)) }
@@ -275,7 +279,11 @@ impl<'a, A: Allocator + Clone> Scanner<'a, A> {
                     return Ok(None);
                 }
                 let from = label.from;
-                label_end(labels, text_before(from, from.len() - self.rest.len()), after)
+                label_end(
+                    labels,
+                    text_before(from, from.len() - self.rest.len()),
+                    after,
+                )
             }
             None => Ok(None),
         }

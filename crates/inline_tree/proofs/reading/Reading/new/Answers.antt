@@ -1,13 +1,5 @@
-use Rattle.std.proofs.Common.{◌≡◌, ℕ, zero, suc, ◌+◌, ◌-◌, ◌<◌, ◌≤◌, Bool, false, List, [], ◌∷◌, ◌++◌, map, refl, sym, ap, ap₂, ◌∙◌, length, arith, subst, reverse, rules, inl, inr}
-use Rattle.std.proofs.lemmas.List.{append-nil, length-append, reverse-append}
-use Rattle.markdown_definition.specs.Inline.{Target, Linked, Data}
-use Rattle.markdown_definition.specs.Scan as scan
-use Rattle.inline_leaves.specs.Leaves.{parts_of}
+use Rattle.std.proofs.Common.{[], refl, sym, ap, subst, reverse}
 use Rattle.span_rows.proofs.Container as container
-use Rattle.inline_tree.specs.Shows.{Shows, ShowsBy, IsSound, AreOutside, opened, formed_last, unformed_last, formed_in, unformed_in, start_view}
-use Rattle.inline_tree.proofs.Readings as readings
-use Rattle.inline_tree.proofs.Sound as sound
-use Rattle.inline_tree.proofs.Formed as formed
 use Rattle.inline_tree.specs.Shows.{AreOpen, NoneOpen}
 use Rattle.inline_tree.proofs.reading.Reading.new.Goals as goal
 

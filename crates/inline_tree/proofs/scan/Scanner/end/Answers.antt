@@ -1,27 +1,22 @@
-use Rattle.std.proofs.Common.{◌≡◌, ℕ, zero, suc, ◌+◌, ◌-◌, ◌<◌, ◌≤◌, Bool, true, false, ◌&&◌, eqb, List, [], ◌∷◌, ◌++◌, map, refl, sym, ap, ap₂, ◌∙◌, length, arith, subst, take, drop, get_or, Option, None, Some, inl, inr}
+use Rattle.std.proofs.Common.{eqb, map, ap, ◌∙◌, subst, take, drop, get_or}
 use Rattle.std.proofs.lemmas.Bool.{and_parts, eqb-true}
-use Rattle.std.specs.Str.{IsCharBoundary, IsUtf8}
 use Rattle.markdown_definition.specs.Content.{content_codes}
 use Rattle.markdown_definition.specs.Inline.{Data}
 use Rattle.markdown_definition.specs.Scan as scan
 use Rattle.markdown_definition.specs.Scan.{read_tokens, start_bytes}
-use Rattle.markdown_definition.specs.Spans.{Item, Delimiters}
+use Rattle.markdown_definition.specs.Spans.{Item}
 use Rattle.markdown_definition.specs.InlineHtml.{leads_to}
 use Rattle.markdown_definition.specs.Targets.{linked_at, linked_by}
-use Rattle.attention.specs.View.{run_view}
 use Rattle.inline_content.specs.View.{view_at}
-use Rattle.inline_leaves.specs.Leaves.{parts_of, size_before, found_leaf, IsAfter}
-use Rattle.inline_leaves.specs.Scanned.{leaf_in}
-use Rattle.inline_tree.specs.Plain.{is_text_at}
-use Rattle.inline_tree.specs.Scanned.{context_by, ended_here, Follows, IsPlaced, IsPlace, IsSingle}
-use Rattle.inline_tree.specs.Shows.{start_view, opened, formed_in, unformed_in}
+use Rattle.inline_leaves.specs.Leaves.{size_before}
+use Rattle.inline_tree.specs.Scanned.{context_by, ended_here}
+use Rattle.inline_tree.specs.Shows.{formed_in, unformed_in}
 use Rattle.markdown_definition.specs.Targets.{labels_of}
 use Rattle.label_ends.specs.Ends.{IsEnded, IsAfterEnd}
 use Rattle.label_ends.proofs.Leading.{target_leads}
 use Rattle.inline_tree.proofs.Placed as placed
 use Rattle.inline_tree.proofs.Follow as follow
 use Rattle.inline_tree.proofs.Follow.{on_ok}
-use Rattle.inline_tree.proofs.Texts as texts
 use Rattle.inline_tree.proofs.Views as views
 use Rattle.inline_tree.proofs.scan.Scanner.end.Goals as goal
 
@@ -69,7 +64,7 @@ returns-in_ok-form-in-Some-clause-read g c ds final has f =
     let there = subst (λ r. IsAfterEnd r found.after.now) left (follow.some_place c.in-Some.is c.in_ok-end.ensures.place) in
     let next = follow.end_next (drop 1 rest) found.after.now there in
     let ended = subst (λ o. IsEnded (labels_of ds) c.cut_after-after.result.now o (ended_here (context_by on names ds) (content_codes rest) f.now.open_labels f.now.now)) c.in-Some.is
-        (c.in_ok-end.ensures.read leads at f.now on names ds has f.shows) in
+    (c.in_ok-end.ensures.read leads at f.now on names ds has f.shows) in
     let is = follow.found_is (labels_of ds) c.cut_after-after.result.now found (ended_here (context_by on names ds) (content_codes rest) f.now.open_labels f.now.now) ended in
     let both = and_parts on.label_end (eqb (get_or rest 0 0) 93) c.requires.bracket in
     record {
@@ -102,7 +97,7 @@ returns-in-None-clause-read g c ds final has f =
     let leads = leads_to (linked_by ds) in
     let at = linked_at ds in
     let ended = subst (λ o. IsEnded (labels_of ds) c.cut_after-after.result.now o (ended_here (context_by on names ds) (content_codes rest) f.now.open_labels f.now.now)) c.in-None.is
-        (c.in_ok-end.ensures.read leads at f.now on names ds has f.shows) in
+    (c.in_ok-end.ensures.read leads at f.now on names ds has f.shows) in
     let none = follow.none_is (labels_of ds) c.cut_after-after.result.now (ended_here (context_by on names ds) (content_codes rest) f.now.open_labels f.now.now) ended in
     let both = and_parts on.label_end (eqb (get_or rest 0 0) 93) c.requires.bracket in
     on_ok c.text.result c.text.ensures.rest (c.text.ensures.read leads at (unformed_in f.now.open_labels f.now.now) (c.unform.ensures.read leads at f.now f.shows))

@@ -1,28 +1,14 @@
-use Rattle.std.proofs.Common.{◌≡◌, ℕ, zero, suc, ◌+◌, ◌-◌, ◌<◌, ◌≤◌, Bool, true, false, ◌&&◌, eqb, List, [], ◌∷◌, ◌++◌, map, refl, sym, ap, ap₂, ◌∙◌, length, arith, subst, take, drop, get_or, Option, None, Some, inl, inr}
-use Rattle.std.proofs.lemmas.Bool.{and_parts, eqb-true}
-use Rattle.std.specs.Str.{IsCharBoundary, IsUtf8}
-use Rattle.markdown_definition.specs.Content.{content_codes}
-use Rattle.markdown_definition.specs.Inline.{Data}
+use Rattle.std.proofs.Common.{[], ◌∷◌, ap, ◌∙◌}
 use Rattle.markdown_definition.specs.Scan as scan
 use Rattle.markdown_definition.specs.Scan.{read_tokens, start_bytes}
-use Rattle.markdown_definition.specs.Spans.{Item, Delimiters}
+use Rattle.markdown_definition.specs.Spans.{Delimiters}
 use Rattle.markdown_definition.specs.InlineHtml.{leads_to}
 use Rattle.markdown_definition.specs.Targets.{linked_at, linked_by}
 use Rattle.attention.specs.View.{run_view}
 use Rattle.inline_content.specs.View.{view_at}
-use Rattle.inline_leaves.specs.Leaves.{parts_of, size_before, found_leaf, IsAfter}
-use Rattle.inline_leaves.specs.Scanned.{leaf_in}
-use Rattle.inline_tree.specs.Plain.{is_text_at}
-use Rattle.inline_tree.specs.Scanned.{context_by, ended_here, Follows, IsPlaced, IsPlace, IsSingle}
-use Rattle.inline_tree.specs.Shows.{start_view, opened, formed_in, unformed_in}
-use Rattle.markdown_definition.specs.Targets.{labels_of}
-use Rattle.label_ends.specs.Ends.{IsEnded, IsAfterEnd}
-use Rattle.label_ends.proofs.Leading.{target_leads}
-use Rattle.inline_tree.proofs.Placed as placed
+use Rattle.inline_tree.specs.Scanned.{context_by}
 use Rattle.inline_tree.proofs.Follow as follow
 use Rattle.inline_tree.proofs.Follow.{on_ok}
-use Rattle.inline_tree.proofs.Texts as texts
-use Rattle.inline_tree.proofs.Views as views
 use Rattle.inline_tree.proofs.scan.Scanner.run_or_label.Goals as goal
 
 pub run-requires-clause-front : goal.run-requires-clause-front

@@ -1,28 +1,19 @@
-use Rattle.std.proofs.Common.{◌≡◌, ℕ, zero, suc, ◌+◌, ◌-◌, ◌<◌, ◌≤◌, Bool, true, false, ◌&&◌, eqb, List, [], ◌∷◌, ◌++◌, map, refl, sym, ap, ap₂, ◌∙◌, length, arith, subst, take, drop, get_or, Option, None, Some, inl, inr}
-use Rattle.std.proofs.lemmas.Bool.{and_parts, eqb-true}
-use Rattle.std.specs.Str.{IsCharBoundary, IsUtf8}
+use Rattle.std.proofs.Common.{◌≡◌, ℕ, ◌<◌, true, false, map, sym, ap, ◌∙◌, length, arith, subst, take, drop, get_or}
+use Rattle.std.specs.Str.{IsUtf8}
 use Rattle.markdown_definition.specs.Content.{content_codes}
 use Rattle.markdown_definition.specs.Inline.{Data}
 use Rattle.markdown_definition.specs.Scan as scan
 use Rattle.markdown_definition.specs.Scan.{read_tokens, start_bytes}
-use Rattle.markdown_definition.specs.Spans.{Item, Delimiters}
+use Rattle.markdown_definition.specs.Spans.{Item}
 use Rattle.markdown_definition.specs.InlineHtml.{leads_to}
 use Rattle.markdown_definition.specs.Targets.{linked_at, linked_by}
-use Rattle.attention.specs.View.{run_view}
 use Rattle.inline_content.specs.View.{view_at}
-use Rattle.inline_leaves.specs.Leaves.{parts_of, size_before, found_leaf, IsAfter}
-use Rattle.inline_leaves.specs.Scanned.{leaf_in}
+use Rattle.inline_leaves.specs.Leaves.{parts_of, found_leaf, IsAfter}
 use Rattle.inline_tree.specs.Plain.{is_text_at}
-use Rattle.inline_tree.specs.Scanned.{context_by, ended_here, Follows, IsPlaced, IsPlace, IsSingle}
-use Rattle.inline_tree.specs.Shows.{start_view, opened, formed_in, unformed_in}
-use Rattle.markdown_definition.specs.Targets.{labels_of}
-use Rattle.label_ends.specs.Ends.{IsEnded, IsAfterEnd}
-use Rattle.label_ends.proofs.Leading.{target_leads}
-use Rattle.inline_tree.proofs.Placed as placed
+use Rattle.inline_tree.specs.Scanned.{context_by}
 use Rattle.inline_tree.proofs.Follow as follow
 use Rattle.inline_tree.proofs.Follow.{on_ok}
 use Rattle.inline_tree.proofs.Texts as texts
-use Rattle.inline_tree.proofs.Views as views
 use Rattle.inline_tree.proofs.scan.Scanner.step.Goals as goal
 
 pub text-requires-clause-boundary : goal.text-requires-clause-boundary
@@ -66,7 +57,7 @@ run_or_label-requires-clause-first g c =
     let rest = c.args.self.now.rest.now in
     let n = c.text_size-size.result in
     let none = texts.nothing_is_text rest n (omega (arith, c.if-size-gt0.false)) c.requires.some
-        (subst (λ bs. n < length bs → is_text_at (drop n (content_codes bs)) ≡ false) c.as_bytes.ensures.value c.text_size-size.ensures.stops) in
+    (subst (λ bs. n < length bs → is_text_at (drop n (content_codes bs)) ≡ false) c.as_bytes.ensures.value c.text_size-size.ensures.stops) in
     follow.single_of rest (subst IsUtf8 c.as_bytes.ensures.value c.as_bytes.ensures.utf8) c.requires.some
     (texts.special_byte source.on.now (g.T.Tables.reference_of source.tables.now) rest c.requires.some none
     (sym c.leaf_at.ensures.read ∙ ap (found_leaf rest) c.in-None.is))
