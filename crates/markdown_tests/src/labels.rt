@@ -1,7 +1,7 @@
 //! The labels of documents: texts, a label, and the place of the first definition that has it.
 
 use block_tree::block_rows;
-use link_table::document_labels;
+use link_table::{definition_contents, document_definitions};
 use markdown::Constructs;
 use std::alloc::AllocError;
 
@@ -29,8 +29,9 @@ fn finds_labels(rt: HostRuntime) -> Result<(), AllocError> {
     let on = Constructs::default();
     for (text, label, place) in LABELS {
         let blocks = block_rows(rt.alloc(), text, &on)?;
-        let labels = document_labels(rt.alloc(), &blocks.rows, &blocks.pieces)?;
-        assert_eq!(rt; labels.find(label.as_bytes())?, place, "at {text:?}");
+        let contents = definition_contents(rt.alloc(), &blocks.rows, &blocks.pieces)?;
+        let found = document_definitions(rt.alloc(), &contents)?;
+        assert_eq!(rt; found.labels.find(label.as_bytes())?, place, "at {text:?}");
     }
     Ok(())
 }
