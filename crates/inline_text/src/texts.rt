@@ -16,6 +16,7 @@ use markdown_options::{Options, Tables};
 use std::alloc::{AllocError, Allocator};
 
 /// What the texts of a document are read and printed by.
+#[derive(Drop)]
 pub struct Texts<'a, T, A: Allocator + Clone> {
     pub options: &'a Options,
     pub tables: &'a T,
