@@ -1,3 +1,4 @@
+mod Computing
 mod CharacterEscapes
 mod CharacterReferences
 mod CodeSpans
