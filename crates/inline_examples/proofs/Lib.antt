@@ -12,3 +12,4 @@ mod Readings
 mod Off
 mod Neighbours
 mod Mixed
+mod Documents
