@@ -5,6 +5,7 @@ mod ReferenceTexts
 mod UrlTexts
 pub mod Plain
 pub mod Scanning
+pub mod InlineParts
 pub mod PlainText
 pub mod Visible
 pub mod LinkRenaming

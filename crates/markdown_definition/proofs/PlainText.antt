@@ -1,10 +1,10 @@
 -- The text of lines where every construct is off: the lines without the spaces and tabs at their ends, encoded.
 use Rattle.std.proofs.Common.{◌≡◌, ℕ, ◌+◌, ◌-◌, ◌<◌, suc, zero, List, [], ◌∷◌, ◌++◌, Option, None, Some, Bool, true, false, cond, ◌&&◌, eqb, leb, inl, inr, refl, sym, ap, ◌∙◌, subst, append_assoc, arith, take, drop, length, map}
 use Rattle.std.specs.Prelude.{reverse}
-use Rattle.std.specs.List.{fold, flat_map, prefix_len, suffix_len}
+use Rattle.std.specs.List.{flat_map, prefix_len, suffix_len}
 use Rattle.std.proofs.Math.Seq.{drop-append_seam}
 use Rattle.std.proofs.lemmas.Bool.{true≢false, both_ways, cases_Bool, cond-true, cond-false, and_parts, and_cases, or_from, ne_eqb, eqb-true, le-leb}
-use Rattle.std.proofs.lemmas.List.{append-nil, length-reverse, map-append, reverse-append}
+use Rattle.std.proofs.lemmas.List.{length-reverse, map-append, reverse-append}
 use Rattle.std.proofs.lemmas.List.Folds.{prefix_len-append}
 use Rattle.std.proofs.lemmas.List.Sums.{suffix_len-le-length}
 use Rattle.markdown_options.specs.declared.line_ending.LineEnding.{LineEnding}
@@ -18,16 +18,16 @@ use Rattle.markdown_definition.specs.Encode.{encode}
 use Rattle.markdown_definition.specs.Blocks.{BlockLine}
 use Rattle.markdown_definition.specs.Content.{is_eol, ending_code, line_codes, content_of}
 use Rattle.markdown_definition.specs.InlineCode.{InlineCode, codes_of, next_kind, with_kinds, line_content, inline_content}
-use Rattle.markdown_definition.specs.Inline.{Inline, Data, LineEnd, Inlines, Nil, Cons, followed_by, Leaf, leaf, or_else}
+use Rattle.markdown_definition.specs.Inline.{Inline, Data, LineEnd, Leaf, leaf, or_else}
 use Rattle.markdown_definition.specs.HardBreak.{ends_here, line_end_at, line_spaces_at}
-use Rattle.markdown_definition.specs.Pairing.{Pair, pairs}
-use Rattle.markdown_definition.specs.Spans.{Item, runs_of, Holds, rows_from, Nest, nest, nest_row, nested, emphasized}
+use Rattle.markdown_definition.specs.Spans.{Item, emphasized}
 use Rattle.markdown_definition.specs.Scan.{InlineContext, leaf_at, text, Reading, reading, read_tokens, Next, leaf_step, step, and_then, scan, whole_text, inlines}
 use Rattle.markdown_definition.specs.Strings.{or_byte}
 use Rattle.markdown_definition.specs.InlineHtml.{InlineMeaning, part_html, inline_html}
 use Rattle.markdown_definition.specs.Document.{Document, meaning_of, text_of}
 use Rattle.markdown_definition.specs.Targets.{is_label_of}
 use Rattle.markdown_definition.proofs.Scanning.{drop-codes_of}
+use Rattle.markdown_definition.proofs.InlineParts.{read_nothing, white_codes, html_of_parts}
 
 -- a line of text: the spaces and tabs at its ends are dropped
 abbrev pub line_text : BlockLine → List ℕ
@@ -49,7 +49,7 @@ AreText (line ∷ next ∷ others) = AreInLine line.codes × ((e : LineEnding) �
 
 -- ---- what a content begins with
 
-and_no : (x y : Bool) → y ≡ false → (x && y) ≡ false
+pub and_no : (x y : Bool) → y ≡ false → (x && y) ≡ false
 and_no true y e = e
 and_no false y e = refl
 
@@ -76,9 +76,6 @@ parts_byte : (c : ℕ) (cs : List ℕ) → found_at (c ∷ cs) ≡ None → part
 parts_byte c cs is = ap (λ o. (or_byte c o).parts ++ parts ((or_byte c o).size - 1) cs) is
 
 -- ---- the scan
-
-read_nothing : (r : Reading) → r ≡ read_tokens [] r
-read_nothing r = ap (λ ts. reading (text ts r.now.holds_link) r.open_labels) (sym (append-nil r.now.tokens))
 
 module _ (names : List ℕ → Option (List ℕ)) (is_defined : List ℕ → Bool) where
   abbrev all_off : InlineContext
@@ -116,36 +113,12 @@ module _ (names : List ℕ → Option (List ℕ)) (is_defined : List ℕ → Boo
       ∙ read_more found.parts (parts (found.size - 1) (codes_of cs)) r
   plain_scan (suc k) r (c ∷ cs) = plain_scan k r cs
 
--- ---- what parts without runs print
-
-held : (ps : List Pair) (is : List Inline) → rows_from ps 0 (map Item is) ≡ map Holds is
-held ps [] = refl
-held ps (i ∷ is) = ap (λ rows. Holds i ∷ rows) (held ps is)
-
-white_codes : (content : List InlineCode) → prefix_len (λ (c : InlineCode). is_white c.code) content ≡ indent (codes_of content)
-white_codes [] = refl
-white_codes (c ∷ cs) = ap (λ n. cond (is_white c.code) (1 + n) 0) (white_codes cs)
+-- ---- what a content prints
 
 module _ (meaning : InlineMeaning) where
   -- what a content prints
   abbrev printed : List ℕ → List ℕ
   printed content = flat_map (part_html meaning) (parts 0 content)
-
-  html_followed : (is : Inlines) (last : Inline) → inline_html meaning (followed_by is last) ≡ inline_html meaning is ++ part_html meaning last
-  html_followed Nil last = append-nil (part_html meaning last)
-  html_followed (Cons i is) last =
-      ap (λ x. part_html meaning i ++ x) (html_followed is last) ∙ sym (append_assoc (part_html meaning i) (inline_html meaning is) (part_html meaning last))
-
-  html_held : (n : Nest) (is : List Inline)
-      → inline_html meaning (fold nest_row n (map Holds is)).now ≡ inline_html meaning n.now ++ flat_map (part_html meaning) is
-  html_held n [] = sym (append-nil (inline_html meaning n.now))
-  html_held n (i ∷ is) =
-      html_held (nest_row n (Holds i)) is
-      ∙ ap (λ x. x ++ flat_map (part_html meaning) is) (html_followed n.now i)
-      ∙ append_assoc (inline_html meaning n.now) (part_html meaning i) (flat_map (part_html meaning) is)
-
-  html_of_parts : (is : List Inline) → inline_html meaning (emphasized (map Item is)) ≡ flat_map (part_html meaning) is
-  html_of_parts is = ap (λ rows. inline_html meaning (nested rows)) (held (pairs (runs_of (map Item is))) is) ∙ html_held (nest Nil []) is
 
   html_of_codes : (names : List ℕ → Option (List ℕ)) (is_defined : List ℕ → Bool) (content : List InlineCode)
       → inline_html meaning (inlines (all_off names is_defined) content) ≡ printed (bare (codes_of content))
@@ -153,7 +126,7 @@ module _ (meaning : InlineMeaning) where
       let start = prefix_len (λ (c : InlineCode). is_white c.code) content in
       let nothing : Reading = reading (text [] false) [] in
       ap (λ r. inline_html meaning (emphasized (whole_text r).tokens)) (plain_scan names is_defined 0 nothing (drop start content))
-      ∙ html_of_parts (parts 0 (codes_of (drop start content)))
+      ∙ html_of_parts meaning (parts 0 (codes_of (drop start content)))
       ∙ ap printed (drop-codes_of start content ∙ ap (λ n. drop n (codes_of content)) (white_codes content))
 
 -- ---- spaces and tabs
@@ -181,12 +154,12 @@ no_indent : (rest : List ℕ) → ends_here rest ≡ true → indent rest ≡ 0
 no_indent [] e = refl
 no_indent (c ∷ cs) e = cond-false (is_white c) _ 0 (eol_not_white c e)
 
-bare_white : (b : ℕ) (rest : List ℕ) → is_white b ≡ true → bare (b ∷ rest) ≡ bare rest
+pub bare_white : (b : ℕ) (rest : List ℕ) → is_white b ≡ true → bare (b ∷ rest) ≡ bare rest
 bare_white b rest white =
     let e : indent (b ∷ rest) ≡ suc (indent rest) = cond-true (is_white b) (1 + indent rest) 0 white ∙ omega arith in
     ap (λ n. drop n (b ∷ rest)) e
 
-bare_other : (b : ℕ) (rest : List ℕ) → is_white b ≡ false → bare (b ∷ rest) ≡ b ∷ rest
+pub bare_other : (b : ℕ) (rest : List ℕ) → is_white b ≡ false → bare (b ∷ rest) ≡ b ∷ rest
 bare_other b rest other = ap (λ n. drop n (b ∷ rest)) (cond-false (is_white b) (1 + indent rest) 0 other)
 
 bare_before : (bs rest : List ℕ) → ends_here rest ≡ true → bare (bs ++ rest) ≡ bare bs ++ rest
