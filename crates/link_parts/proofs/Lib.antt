@@ -1,2 +1,5 @@
 pub mod Bare
 pub mod Cuts
+pub mod Places
+pub mod Splits
+pub mod Texts

@@ -8,8 +8,10 @@ pub mod label;
 pub mod part;
 pub mod resource;
 pub mod space;
+pub mod text;
 pub mod title;
 
 pub use definition::LinkDefinition;
 pub use part::Part;
 pub use space::{spaces, white};
+pub use text::{TextPart, TextResource};

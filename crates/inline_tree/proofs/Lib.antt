@@ -1,0 +1,7 @@
+pub mod Readings
+pub mod Sound
+pub mod Formed
+pub mod Changes
+pub mod Goes
+pub mod Views
+pub mod Texts

@@ -1,0 +1,3 @@
+pub mod Shows
+pub mod Scanned
+pub mod Plain
