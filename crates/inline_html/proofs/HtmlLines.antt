@@ -1,6 +1,6 @@
 -- Raw HTML, line by line.
-use Rattle.std.proofs.Common.{◌≡◌, ◌||◌, ℕ, zero, suc, ◌+◌, ◌<◌, ◌≤◌, List, [], ◌∷◌, ◌++◌, Bool, true, false, cond, not, eqb, refl, sym, ap, ◌∙◌, get_or, length, drop, take, arith, inl, inr, append_assoc}
-use Rattle.std.specs.List.{flat_map, filter, prefix_len}
+use Rattle.std.proofs.Common.{◌≡◌, ◌||◌, ℕ, zero, suc, ◌+◌, ◌<◌, ◌≤◌, List, [], ◌∷◌, ◌++◌, Bool, true, false, cond, eqb, refl, sym, ap, ◌∙◌, get_or, length, drop, take, arith, inl, inr, append_assoc}
+use Rattle.std.specs.List.{flat_map, prefix_len}
 use Rattle.std.proofs.lemmas.Bool.{cases_Bool, cond-false, cond-true, eqb-true, ne_eqb, not_from_false, or_cases, true≢false}
 use Rattle.std.proofs.lemmas.List.{append-nil, length-drop}
 use Rattle.markdown_options.specs.declared.configuration.CompileOptions.{CompileOptions}
@@ -10,12 +10,12 @@ use Rattle.markdown_options.specs.LineEndings.{ending_bytes}
 use Rattle.markdown_definition.specs.Columns.{bare, bytes_of, indent, is_byte, is_white}
 use Rattle.markdown_definition.specs.Content.{content_codes, is_eol, line_ending_code}
 use Rattle.markdown_definition.specs.Encode.{encode, plain}
-use Rattle.markdown_definition.specs.HtmlRaw.{filtered, raw_html}
-use Rattle.markdown_definition.specs.InlineHtml.{HtmlLine, html_text_line, in_first_line, html_line_bytes, html_lines, html_lines_bytes, html_text_bytes, later_line_bytes}
+use Rattle.markdown_definition.specs.HtmlRaw.{raw_html}
+use Rattle.markdown_definition.specs.InlineHtml.{HtmlLine, html_text_line, in_first_line, html_line_bytes, html_lines, html_lines_bytes, later_line_bytes}
 use Rattle.markdown_definition.specs.Strings.{begins_with_eol, eol_bytes}
 use Rattle.markdown_definition.specs.TagFilter.{tags_filtered}
 use Rattle.inline_html.specs.CodeBytes.{is_in_line}
-use Rattle.inline_html.specs.HtmlBytes.{Ends, PrintsEnding, ends, goes_on, first_bytes}
+use Rattle.inline_html.specs.HtmlBytes.{PrintsEnding, ends, goes_on, first_bytes}
 use Rattle.inline_html.proofs.InLine.{in_line_eol, line_codes, line_left}
 use Rattle.inline_html.proofs.KeptText.{AreBytes}
 

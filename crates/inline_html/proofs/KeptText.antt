@@ -1,9 +1,9 @@
 -- The bytes of a string that stand for themselves.
-use Rattle.std.proofs.Common.{◌≡◌, ℕ, zero, suc, ◌+◌, ◌-◌, ◌<◌, ◌≤◌, List, [], ◌∷◌, ◌++◌, Bool, true, false, cond, not, ◌||◌, ◌&&◌, eqb, leb, Option, None, Some, refl, sym, ap, ◌∙◌, get_or, length, drop, take, arith, inl, inr, subst}
+use Rattle.std.proofs.Common.{◌≡◌, ℕ, zero, suc, ◌+◌, ◌-◌, ◌<◌, ◌≤◌, List, [], ◌∷◌, ◌++◌, Bool, true, false, cond, ◌||◌, ◌&&◌, eqb, leb, Option, None, Some, refl, sym, ap, ◌∙◌, get_or, length, drop, take, arith, inl, inr, subst}
 use Rattle.std.specs.Char.{is_ascii_punctuation}
 use Rattle.std.specs.Str.{IsCharBoundary, IsUtf8}
 use Rattle.std.specs.List.{flat_map, prefix_len}
-use Rattle.std.proofs.lemmas.Bool.{cases_Bool, cond-false, cond-true, cond_both, cases_lt, and_cases, leb-false, not-false, eqb-true, eqb-false, ne_eqb, or_cases, or_parts, or_from, and_left, and_right, not-true, false≢true, true≢false}
+use Rattle.std.proofs.lemmas.Bool.{cases_Bool, cond-false, cond-true, cond_both, cases_lt, and_cases, leb-false, not-false, eqb-true, eqb-false, ne_eqb, or_cases, or_parts, or_from, and_left, and_right, not-true, true≢false}
 use Rattle.std.proofs.lemmas.List.{get_or-drop, length-drop}
 use Rattle.std.proofs.lemmas.List.Concat.{flat_map-append}
 use Rattle.std.proofs.lemmas.List.Sums.{prefix_len_passes, prefix_len_stops, prefix_len-le-length}
@@ -13,9 +13,9 @@ use Rattle.markdown_options.specs.declared.configuration.Constructs.{Constructs}
 use Rattle.markdown_definition.specs.Columns.{is_white, indent, bare}
 use Rattle.markdown_definition.specs.Content.{content_codes, is_eol}
 use Rattle.markdown_definition.specs.CharacterEscape.{escape_at}
-use Rattle.markdown_definition.specs.CharacterReference.{reference_at, reference_of, reference_form}
+use Rattle.markdown_definition.specs.CharacterReference.{reference_at, reference_of}
 use Rattle.markdown_definition.specs.HardBreak.{line_end_at}
-use Rattle.markdown_definition.specs.Inline.{Inline, Leaf, leaf, or_else, LineEnd}
+use Rattle.markdown_definition.specs.Inline.{Inline, Leaf, leaf, or_else}
 use Rattle.markdown_definition.specs.Strings.{begins_with_eol, spaces_at, string_bytes, string_leaf_at, string_parts, string_text}
 use Rattle.markdown_definition.proofs.Scanning.{string_step, string_byte}
 use Rattle.inline_leaves.specs.Leaves.{IsAfter, size_before}

@@ -1,9 +1,8 @@
 -- Characters by their number.
-use Rattle.std.proofs.Common.{◌≡◌, ℕ, zero, suc, ◌+◌, ◌-◌, ◌*◌, ◌<◌, ◌≤◌, List, [], ◌∷◌, Bool, true, false, cond, ◌||◌, ◌&&◌, refl, sym, ap, ◌∙◌, arith, inl, inr}
+use Rattle.std.proofs.Common.{◌≡◌, ℕ, zero, suc, ◌+◌, ◌-◌, ◌*◌, ◌<◌, ◌≤◌, Bool, true, false, cond, ◌||◌, ◌&&◌, refl, sym, ap, ◌∙◌, arith, inl, inr}
 use Rattle.std.specs.Prelude.{min, ◌^◌, ◌%◌, ◌==◌, nat_le, nat_lt}
-use Rattle.std.specs.Char.{encode_utf8, digit_value}
-use Rattle.std.specs.Int.{is_in_range}
-use Rattle.std.proofs.lemmas.Bool.{cases_Bool, cond-true, cond-false, le-leb, leb-true, leb-false}
+use Rattle.std.specs.Char.{encode_utf8}
+use Rattle.std.proofs.lemmas.Bool.{cases_Bool, cond-true, le-leb, leb-true, leb-false}
 use Rattle.std.proofs.Math.Nat.{le-mul_of_pos_right, mul-zero}
 use Rattle.markdown_definition.specs.Encode.{replacement_character}
 use Rattle.markdown_definition.specs.CharacterReference as written

@@ -4,10 +4,9 @@ use Rattle.std.specs.List.{fold}
 use Rattle.std.proofs.lemmas.List.{append-nil}
 use Rattle.std.proofs.lemmas.List.Sums.{fold-append}
 use Rattle.markdown_definition.specs.Inline.{Target, Linked, Inline, Data, Escape, Character, Code, Autolink, Html, EscapedBreak, TrailingBreak, LineEnd, Emphasis, Strong, Link, Image, Inlines, Nil, Cons}
-use Rattle.markdown_definition.specs.InlineHtml.{InlineMeaning, leads_to, url_of, title_attribute, link_tag, image_tag, description, inline_html, part_description, part_html}
+use Rattle.markdown_definition.specs.InlineHtml.{InlineMeaning, leads_to, title_attribute, link_tag, image_tag, description, inline_html, part_description, part_html}
 use Rattle.markdown_definition.specs.InlineRows.{InlineRow, Leave, part_rows, inline_rows}
-use Rattle.markdown_definition.specs.Spans.{Span, IsEmphasis, IsStrong}
-use Rattle.inline_html.specs.Printed.{Opened, opened, Printed, printed_at, is_described, span_start, span_end, image_start, image_end, part_printed, enter, leave, row_printed}
+use Rattle.inline_html.specs.Printed.{Opened, opened, printed_at, is_described, image_start, image_end, part_printed, enter, row_printed}
 
 abbrev inlines_printed : InlineMeaning → Bool → Inlines → List ℕ
 inlines_printed meaning described is = cond described (description meaning.compile is) (inline_html meaning is)

@@ -1,5 +1,5 @@
 -- What is open, as the definition has it.
-use Rattle.std.specs.Prelude.{ℕ, Bool, true, false, List, [], ◌∷◌, Option, None, codes, map, reverse, slice_index_or}
+use Rattle.std.specs.Prelude.{ℕ, Bool, true, false, List, [], None, codes, map, reverse, slice_index_or}
 use Rattle.markdown_definition.specs.Inline as inline
 use Rattle.markdown_definition.specs.InlineHtml.{InlineMeaning}
 use Rattle.attention.specs.View.{span_view}

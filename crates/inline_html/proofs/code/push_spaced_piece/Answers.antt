@@ -1,6 +1,5 @@
-use Rattle.std.proofs.Common.{◌≡◌, ◌++◌, ◌<◌, ◌≤◌, false, ℕ, [], ◌∷◌, string_bytes, sym, ap, ◌∙◌, append_assoc, arith, drop, take, length, subst}
+use Rattle.std.proofs.Common.{◌≡◌, ◌++◌, false, string_bytes, sym, ap, ◌∙◌, append_assoc, arith, drop, take, length}
 use Rattle.std.specs.List.{prefix_len}
-use Rattle.std.specs.Str.{IsCharBoundary}
 use Rattle.std.proofs.lemmas.List.{length-drop}
 use Rattle.markdown_definition.specs.Content.{content_codes}
 use Rattle.markdown_definition.specs.Strings.{begins_with_eol}

@@ -1,8 +1,8 @@
-use Rattle.std.proofs.Common.{◌≡◌, ◌++◌, ◌<◌, ◌∷◌, string_bytes, sym, ap, ◌∙◌, arith, length, drop, subst}
+use Rattle.std.proofs.Common.{◌++◌, ◌∷◌, string_bytes, sym, ap, ◌∙◌, arith, length, subst}
 use Rattle.std.proofs.lemmas.List.{length-drop}
 use Rattle.markdown_definition.specs.Content.{content_codes, line_ending_code}
 use Rattle.inline_leaves.specs.Leaves.{ReadsEnding}
-use Rattle.inline_html.specs.HtmlBytes.{Ends, PrintsEnding, ends}
+use Rattle.inline_html.specs.HtmlBytes.{ends}
 use Rattle.inline_html.proofs.html.push_ending.Goals as goal
 
 pub returns : goal.returns

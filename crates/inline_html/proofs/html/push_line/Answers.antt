@@ -1,4 +1,4 @@
-use Rattle.std.proofs.Common.{◌≡◌, ◌++◌, ◌<◌, ◌≤◌, string_bytes, sym, ap, ◌∙◌, arith, drop, length, subst}
+use Rattle.std.proofs.Common.{◌++◌, string_bytes, ap, ◌∙◌, arith, subst}
 use Rattle.std.specs.List.{prefix_len}
 use Rattle.markdown_definition.specs.HtmlRaw.{raw_html}
 use Rattle.inline_html.specs.CodeBytes.{is_in_line}

@@ -1,4 +1,4 @@
-use Rattle.std.proofs.Common.{arith, drop, length}
+use Rattle.std.proofs.Common.{arith, drop}
 use Rattle.std.proofs.lemmas.List.{length-drop}
 use Rattle.std.proofs.lemmas.List.Sums.{prefix_len-le-length}
 use Rattle.inline_html.specs.Kept.{is_ink}

@@ -1,10 +1,6 @@
-use Rattle.std.proofs.Common.{◌≡◌, ◌++◌, ◌<◌, ◌-◌, ℕ, List, Option, None, Some, get_or, string_bytes, sym, ap, ◌∙◌, arith, drop, take, length, subst}
-use Rattle.std.specs.Prelude.{None, Some}
-use Rattle.markdown_definition.specs.Inline as inline
-use Rattle.inline_leaves.specs.Leaves.{found_leaf}
+use Rattle.std.proofs.Common.{◌≡◌, ◌++◌, string_bytes, sym, ap, ◌∙◌, arith, drop, take, subst}
 use Rattle.std.specs.List.{flat_map}
 use Rattle.std.specs.Str.{IsCharBoundary}
-use Rattle.std.proofs.lemmas.List.{take_rest}
 use Rattle.markdown_definition.specs.Strings as strings
 use Rattle.inline_leaves.specs.Leaves.{parts_of}
 use Rattle.inline_html.specs.Forms.{formed}
