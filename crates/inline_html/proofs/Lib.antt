@@ -4,5 +4,6 @@ pub mod InLine
 pub mod KeptText
 pub mod LeafTexts
 pub mod Numbers
+pub mod OpenStack
 pub mod PartTexts
 pub mod RowsPrinted
