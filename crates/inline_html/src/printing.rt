@@ -7,6 +7,7 @@ use markdown_options::{CompileOptions, Constructs};
 use std::alloc::{AllocError, Allocator};
 
 /// What rows are printed by.
+#[derive(Drop)]
 pub struct Printing<'a, T> {
     /// Which constructs are on.
     pub on: &'a Constructs,

@@ -68,7 +68,7 @@ impl<A: Allocator + Clone> Page<A> {
             return Ok(());
         }
         self.html.push_str(" class=\"language-")?;
-        texts.push_info(&mut self.html, &mut self.buffers, info)?;
+        texts.push_info(&mut self.html, info)?;
         self.html.push_str("\"")
     }
 
