@@ -1,2 +1,4 @@
 pub mod Bare
 pub mod Cuts
+pub mod Texts
+pub mod TextParts
