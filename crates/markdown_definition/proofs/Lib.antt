@@ -19,3 +19,4 @@ pub mod NearestOpener
 pub mod ClosingRuns
 pub mod Scanning
 pub mod InlineSizes
+pub mod ReferenceForms
