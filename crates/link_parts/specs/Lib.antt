@@ -1,3 +1,3 @@
 pub mod Codes
-pub mod View
 pub mod Texts
+pub mod View

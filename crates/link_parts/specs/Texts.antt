@@ -1,39 +1,52 @@
--- What was read of a text, in codes.
-use Rattle.std.specs.Prelude.{◌≤◌, ◌<◌, ◌-◌, ℕ, List, Option, None, Some, length, slice_index}
+-- Contents that are texts.
+use Rattle.std.specs.Prelude.{◌≡◌, ◌<◌, ◌-◌, ℕ, if◌then◌else◌, ◌==◌, List, [], ◌∷◌, Option, None, Some, drop, length}
+use Rattle.std.specs.List.{flat_map}
 use Rattle.std.specs.Option.{option_map}
+use Rattle.std.specs.Str.{IsUtf8}
+use Rattle.markdown_definition.specs.Columns.{code_byte}
 use Rattle.markdown_definition.specs.Content.{content_codes, part}
 use Rattle.markdown_definition.specs.Content as content
-use Rattle.markdown_definition.specs.LinkDefinition.{definition, with_destination}
+use Rattle.markdown_definition.specs.LinkDefinition.{definition}
 use Rattle.markdown_definition.specs.LinkDefinition as link_definition
-use Rattle.markdown_definition.specs.LinkDestination.{destination_at}
-use Rattle.markdown_definition.specs.LinkSpace.{after_white}
-use Rattle.link_parts.specs.declared.part_text.TextPart.{TextPart}
-use Rattle.link_parts.specs.declared.definition_text.ColonLabel.{ColonLabel}
-use Rattle.link_parts.specs.declared.definition_text.DefinitionText.{DefinitionText}
+use Rattle.markdown_definition.specs.Resource as resource
+use Rattle.link_parts.specs.Codes.{IsCut}
+use Rattle.link_parts.specs.declared.text.TextDefinition.{TextDefinition}
+use Rattle.link_parts.specs.declared.text.TextPart.{TextPart}
+use Rattle.link_parts.specs.declared.text.TextResource.{TextResource}
 
-abbrev pub text_part_of : TextPart → content.Part
-text_part_of read = part (content_codes read.text.now) (content_codes read.rest.now)
+-- the bytes of a code
+abbrev pub code_text : ℕ → List ℕ
+code_text code = if code == 257 then 13 ∷ 10 ∷ [] else code_byte code ∷ []
+
+-- codes of a text
+abbrev pub IsText : List ℕ → Type 0
+IsText codes = IsUtf8 (flat_map code_text codes)
+
+abbrev pub text_part : TextPart → content.Part
+text_part read = part (content_codes read.text.now) (content_codes read.rest.now)
 
 abbrev pub found_text_part : Option TextPart → Option content.Part
 found_text_part None = None
-found_text_part (Some read) = Some (text_part_of read)
+found_text_part (Some read) = Some (text_part read)
 
-abbrev pub definition_text_of : DefinitionText → link_definition.Definition
-definition_text_of read =
+abbrev pub text_resource : TextResource → resource.LinkResource
+text_resource read =
+    record { destination = content_codes read.destination.now; title = option_map (λ text. content_codes text.now) read.title; rest = content_codes read.rest.now }
+
+abbrev pub found_text_resource : Option TextResource → Option resource.LinkResource
+found_text_resource None = None
+found_text_resource (Some read) = Some (text_resource read)
+
+abbrev pub text_definition : TextDefinition → link_definition.Definition
+text_definition read =
     definition (content_codes read.label.now) (content_codes read.destination.now) (option_map (λ text. content_codes text.now) read.title) (content_codes read.rest.now)
 
-abbrev pub found_definition_text : Option DefinitionText → Option link_definition.Definition
-found_definition_text None = None
-found_definition_text (Some read) = Some (definition_text_of read)
+abbrev pub found_text_definition : Option TextDefinition → Option link_definition.Definition
+found_text_definition None = None
+found_text_definition (Some read) = Some (text_definition read)
 
--- the definition that goes on after a label and a colon
-abbrev pub after_colon : Option ColonLabel → Option link_definition.Definition
-after_colon None = None
-after_colon (Some front) = with_destination (content_codes front.label.now) (destination_at None (after_white (content_codes front.rest.now)))
-
--- a place after an ASCII byte, and the first byte is another
-pub record IsEnclosed (content : List ℕ) (end : ℕ) : Type 0 where
-  pub some : 2 ≤ end
-  pub within : end ≤ length content
-  pub first : slice_index content 0 < 128
-  pub last : slice_index content (end - 1) < 128
+-- what follows the first codes of a content, at least one
+pub record IsLater (content rest : List ℕ) : Type 0 where
+  pub shorter : length rest < length content
+  pub place : rest ≡ drop (length content - length rest) content
+  pub cut : IsCut content (length content - length rest)

@@ -94,7 +94,7 @@ pub(crate) fn begins_with_space(content: &[u8]) -> bool
 }
 
 /// What follows the ending of this line, where only spaces and tabs are left of it.
-pub(crate) fn next_line(content: &[u8]) -> Option<&[u8]>
+fn next_line(content: &[u8]) -> Option<&[u8]>
     ensures read { option_map (λ rest. content_codes rest.now) result ≡ next_line (content_codes content.now) }
     ensures place { IfSome result (λ rest. IsRest content.now rest.now) }
 {

@@ -6,7 +6,7 @@ use Rattle.markdown_definition.specs.Inline.{Linked, linked}
 use Rattle.markdown_definition.specs.LinkDefinition.{Definition, definition, definition_at}
 use Rattle.markdown_definition.specs.Targets.{labels_of, no_definition}
 use Rattle.link_labels.specs.Table.{HasLabels}
-use Rattle.link_parts.specs.declared.definition_text.DefinitionText.{DefinitionText}
+use Rattle.link_parts.specs.declared.text.TextDefinition.{TextDefinition}
 use Rattle.inline_rows.specs.View.{linked_view}
 use Rattle.link_table.specs.declared.contents.DefinitionContents.{DefinitionContents}
 use Rattle.link_table.specs.declared.definitions.Definitions.{Definitions}
@@ -21,7 +21,7 @@ abbrev pub read_on : {A : Type 0} → String A → Definition
 read_on text = alone (definition_at (content_codes (string_bytes text)))
 
 -- the definition in a text, without what follows it
-abbrev pub read_of : DefinitionText → Definition
+abbrev pub read_of : TextDefinition → Definition
 read_of read = definition (content_codes read.label.now) (content_codes read.destination.now) (option_map (λ text. content_codes text.now) read.title) []
 
 -- where a definition leads

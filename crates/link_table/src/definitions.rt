@@ -7,7 +7,7 @@ ghost use Rattle.link_table.specs.Read.{HasContents, HasDefinitions, alone, read
 use crate::contents::DefinitionContents;
 use inline_rows::Linked;
 use link_labels::LabelTable;
-use link_parts::definition_text::{DefinitionText, definition_text};
+use link_parts::text::{TextDefinition, definition_of};
 use std::alloc::{AllocError, Allocator};
 
 /// The definitions of a document.
@@ -59,12 +59,12 @@ impl<'c, A: Allocator + Clone> Definitions<'c, A> {
 }
 
 /// The definition that a content is. Each content of a document is one.
-fn read_definition(content: &str) -> DefinitionText<'_>
+fn read_definition(content: &str) -> TextDefinition<'_>
     ensures { read_of result ≡ alone (definition_at (content_codes content.now)) }
 {
-    match definition_text(content) {
+    match definition_of(content) {
         Some(definition) => definition,
-        None => DefinitionText {
+        None => TextDefinition {
             label: &[],
             destination: "",
             title: None,

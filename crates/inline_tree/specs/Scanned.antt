@@ -1,0 +1,47 @@
+-- A content that is being read, as the definition reads it.
+use Rattle.std.specs.Prelude.{◌≡◌, ◌<◌, ◌≤◌, ◌-◌, ℕ, Bool, List, [], ◌∷◌, Option, None, Some, drop, length}
+use Rattle.std.specs.List.{All}
+use Rattle.markdown_options.specs.declared.configuration.Constructs.{Constructs}
+use Rattle.markdown_definition.specs.Content.{content_codes}
+use Rattle.markdown_definition.specs.LinkDefinition.{Definition}
+use Rattle.markdown_definition.specs.InlineHtml.{leads_to}
+use Rattle.markdown_definition.specs.Scan as scan
+use Rattle.markdown_definition.specs.LabelEnd.{Ended}
+use Rattle.markdown_definition.specs.Scan.{InlineContext, ended_by}
+use Rattle.markdown_definition.specs.Targets.{is_label_of, linked_at, linked_by}
+use Rattle.inline_content.specs.declared.content.Content.{Content}
+use Rattle.inline_content.specs.View.{view_at}
+use Rattle.inline_leaves.specs.Leaves.{size_before}
+use Rattle.link_parts.specs.Codes.{IsRest}
+use Rattle.inline_tree.specs.declared.label.OpenLabel.{OpenLabel}
+use Rattle.inline_tree.specs.declared.reading.Reading.{Reading}
+use Rattle.inline_tree.specs.declared.scan.Scanner.{Scanner}
+use Rattle.inline_tree.specs.Shows.{Shows, IsSound, start_view}
+
+-- the context of a document with these definitions
+abbrev pub context_by : Constructs → (List ℕ → Option (List ℕ)) → List Definition → InlineContext
+context_by on names ds = record { on = on; names = names; is_defined = is_label_of ds }
+
+-- what was read, and that the scan of what is left gives this in the end
+pub record Follows {A : Type 0} (on : Constructs) (names : List ℕ → Option (List ℕ)) (is_punctuation : ℕ → Bool) (ds : List Definition) (content : Content) (s : Scanner A) (final : scan.Reading) : Type 0 where
+  pub now : scan.Reading
+  pub shows : Shows (leads_to (linked_by ds)) (linked_at ds) s.reading now
+  pub same : scan.scan (context_by on names ds) 0 now (view_at is_punctuation content s.rest.now) ≡ final
+
+-- a rest of a content, whose codes are the last of the content's
+pub record IsPlace (content rest : List ℕ) : Type 0 where
+  pub rest_of : IsRest content rest
+  pub fewer : length (content_codes rest) ≤ length (content_codes content)
+  pub codes : content_codes rest ≡ drop (size_before content rest) (content_codes content)
+
+-- what is left, of the content and of what stands after each label start that is open
+pub record IsPlaced {A : Type 0} (content : Content) (s : Scanner A) : Type 0 where
+  pub searched : s.searches.content ≡ content.text
+  pub place : IsPlace content.text.now s.rest.now
+  pub labels : All (λ (o : OpenLabel). IsRest o.from.now s.rest.now) s.reading.labels.items
+  pub sound : IsSound s.reading
+
+-- what a `]` forms with the innermost label start that is open, if there is one
+abbrev pub ended_here : InlineContext → List ℕ → List scan.OpenLabel → scan.Text → Option Ended
+ended_here context content [] inner = None
+ended_here context content (label ∷ others) inner = ended_by context content label inner

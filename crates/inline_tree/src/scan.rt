@@ -1,0 +1,206 @@
+//! The scan of a content from left to right (CommonMark 6 and appendix, phase 2).
+//!
+//!     content ::= white* (text | leaf | run | start | ']')*
+ghost use Rattle.std.specs.Prelude.{◌≡◌, ◌<◌, ◌≤◌, ◌==◌, ◌&&◌, ℕ, List, Option, None, Some, true, false, length, IfOk, OnOk, take, drop, codes};
+ghost use Rattle.markdown_definition.specs.Attention.{run_at};
+ghost use Rattle.markdown_definition.specs.Content.{content_codes};
+ghost use Rattle.markdown_definition.specs.InlineRows.{inline_rows};
+ghost use Rattle.markdown_definition.specs.InlineHtml.{leads_to};
+ghost use Rattle.markdown_definition.specs.LinkDefinition.{Definition};
+ghost use Rattle.markdown_definition.specs.Letters.{begins_with};
+ghost use Rattle.markdown_definition.specs.Scan as scan;
+ghost use Rattle.markdown_definition.specs.Scan.{inlines, label_start_at};
+ghost use Rattle.markdown_definition.specs.Targets.{labels_of, linked_at, linked_by};
+ghost use Rattle.std.specs.Option.{option_map};
+ghost use Rattle.inline_content.specs.View.{content_view, view_at};
+ghost use Rattle.inline_leaves.specs.Leaves.{found_leaf, IsAfter};
+ghost use Rattle.inline_leaves.specs.Scanned.{leaf_in};
+ghost use Rattle.inline_rows.specs.View.{rows_view};
+ghost use Rattle.attention.specs.View.{run_view};
+ghost use Rattle.link_labels.specs.Table.{HasLabels};
+ghost use Rattle.label_ends.specs.Ends.{IsAfterEnd, IsEnded};
+ghost use Rattle.inline_tree.specs.Scanned.{context_by, Follows, IsPlaced};
+
+use crate::label::{LabelStart, OpenLabel};
+use crate::plain::text_size;
+use crate::reading::Reading;
+use attention::Run;
+use inline_content::Content;
+use inline_leaves::Leaf;
+use inline_leaves::cut::{cut_after, text_before};
+use inline_leaves::leaf_at::leaf_at;
+use inline_leaves::searches::Searches;
+use inline_leaves::space::white_size;
+use inline_rows::InlineRow;
+use label_ends::{LabelEnd, label_end};
+use link_labels::LabelTable;
+use markdown_options::{Constructs, Tables};
+use std::alloc::{AllocError, Allocator};
+
+/// What a content is read by.
+#[derive(Drop)]
+pub(crate) struct Source<'a, T, A: Allocator + Clone> {
+    pub(crate) on: &'a Constructs,
+    pub(crate) tables: &'a T,
+    pub(crate) labels: &'a LabelTable<A>,
+    pub(crate) content: Content<'a>,
+}
+
+/// A content that is being read.
+#[derive(Drop)]
+pub(crate) struct Scanner<'a, A: Allocator> {
+    pub(crate) searches: Searches<'a>,
+    /// What is left of it.
+    pub(crate) rest: &'a str,
+    pub(crate) reading: Reading<'a, A>,
+}
+
+/// The inline structure of a content as rows (CommonMark 6).
+pub fn inline_rows<'a, T: Tables, A: Allocator + Clone>(
+    alloc: A,
+    on: &'a Constructs,
+    tables: &'a T,
+    labels: &'a LabelTable<A>,
+    content: Content<'a>,
+) -> Result<Vec<InlineRow<'a>, A>, AllocError>
+    ensures { (ds : List Definition) → HasLabels labels.now (labels_of ds) → IfOk result (λ rows. rows_view (linked_at ds) rows.items ≡ inline_rows (leads_to (linked_by ds)) (inlines (context_by on.now (T.reference_of tables.now) ds) (content_view (T.punctuation_of tables.now) content.entry))) }
+{
+    let source = Source {
+        on,
+        tables,
+        labels,
+        content,
+    };
+    let mut scanner = Scanner {
+        searches: Searches::new(content.text()),
+        rest: after_white(content.text()),
+        reading: Reading::new(alloc)?,
+    };
+    while !scanner.rest.is_empty() {
+        scanner.step(&source)?;
+    }
+    let Scanner { reading, .. } = scanner;
+    reading.finish()
+}
+
+/// The content after its spaces and tabs.
+fn after_white(text: &str) -> &str {
+    let size = white_size(text.as_bytes());
+    if size == 0 {
+        return text;
+    }
+    cut_after(text, size)
+}
+
+impl<'a, A: Allocator + Clone> Scanner<'a, A> {
+    /// Reads what comes next.
+    fn step<T: Tables>(&mut self, source: &Source<'a, T, A>) -> Result<(), AllocError>
+        requires placed { IsPlaced source.now.content self.old }
+        requires some { 0 < length self.old.rest.now }
+        ensures placed { OnOk result (IsPlaced source.now.content self.new) }
+        ensures shorter { OnOk result (length self.new.rest.now < length self.old.rest.now) }
+        ensures read { (ds : List Definition) (final : scan.Reading) → HasLabels source.now.labels.now (labels_of ds) → Follows source.now.on.now (T.reference_of source.now.tables.now) (T.punctuation_of source.now.tables.now) ds source.now.content self.old final → OnOk result (Follows source.now.on.now (T.reference_of source.now.tables.now) (T.punctuation_of source.now.tables.now) ds source.now.content self.new final) }
+    {
+        let size = text_size(self.rest.as_bytes());
+        if size > 0 {
+            return self.text(size);
+        }
+        match leaf_at(source.on, source.tables, &mut self.searches, self.rest) {
+            Some(leaf) => self.leaf(leaf),
+            None => self.run_or_label(source),
+        }
+    }
+
+    /// Bytes of text, so many.
+    fn text(&mut self, size: usize) -> Result<(), AllocError> {
+        self.reading.text(text_before(self.rest, size))?;
+        self.rest = cut_after(self.rest, size);
+        Ok(())
+    }
+
+    /// A construct that holds no other.
+    fn leaf(&mut self, leaf: Leaf<'a>) -> Result<(), AllocError> {
+        self.reading.leaf(leaf.part)?;
+        self.rest = leaf.after;
+        Ok(())
+    }
+
+    /// A run, a label start, a `]`, or a byte of text.
+    fn run_or_label<T: Tables>(&mut self, source: &Source<'a, T, A>) -> Result<(), AllocError> {
+        match source.content.run_at(source.on, source.tables, self.rest) {
+            Some(run) => self.run(run),
+            None => self.label_or_byte(source),
+        }
+    }
+
+    /// A run (CommonMark 6.2).
+    fn run(&mut self, run: Run) -> Result<(), AllocError> {
+        self.reading.run(run, text_before(self.rest, 1))?;
+        self.rest = cut_after(self.rest, run.size);
+        Ok(())
+    }
+
+    /// A label start, a `]`, or a byte of text.
+    fn label_or_byte<T: Tables>(&mut self, source: &Source<'a, T, A>) -> Result<(), AllocError> {
+        if let Some(start) = label_start_at(source.on, self.rest) {
+            return self.start(start);
+        }
+        if source.on.label_end && self.rest.starts_with("]") {
+            self.end(source)
+        } else {
+            self.text(1)
+        }
+    }
+
+    /// A label start (CommonMark 6.3 and 6.4).
+    fn start(&mut self, start: LabelStart) -> Result<(), AllocError> {
+        let size = start.size();
+        let after = cut_after(self.rest, size);
+        self.reading
+            .start(start, text_before(self.rest, size), after)?;
+        self.rest = after;
+        Ok(())
+    }
+
+    /// A `]`: what it forms, or else text (CommonMark 6.3 and 6.4).
+    fn end<T: Tables>(&mut self, source: &Source<'a, T, A>) -> Result<(), AllocError> {
+        let after = cut_after(self.rest, 1);
+        match self.ended(source.labels, after)? {
+            Some(end) => {
+                self.reading.form(end.target)?;
+                self.rest = end.after;
+                Ok(())
+            }
+            None => {
+                self.reading.unform();
+                self.text(1)
+            }
+        }
+    }
+
+    /// What a `]` before this content forms with the innermost label start that is open, unless a
+    /// link would hold a link (CommonMark 6.3).
+    fn ended(&self, labels: &LabelTable<A>, after: &'a str) -> Result<Option<LabelEnd<'a>>, AllocError> {
+        match self.reading.labels.last() {
+            Some(label) => {
+                if !label.start.may_form(self.reading.holds_link) {
+                    return Ok(None);
+                }
+                let from = label.from;
+                label_end(labels, text_before(from, from.len() - self.rest.len()), after)
+            }
+            None => Ok(None),
+        }
+    }
+}
+
+/// The label start that a content begins with (CommonMark 6.3 and 6.4).
+fn label_start_at(on: &Constructs, rest: &str) -> Option<LabelStart> {
+    if on.label_start_image && rest.starts_with("![") {
+        return Some(LabelStart::Image);
+    }
+    if on.label_start_link && rest.starts_with("[") {
+        return Some(LabelStart::Link);
+    }
+    None
+}

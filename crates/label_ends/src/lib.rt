@@ -1,0 +1,9 @@
+//! What a `]` forms with the label start before it.
+#![tactic(auto)]
+
+pub mod forms;
+#[cfg(test)]
+mod tests;
+mod text;
+
+pub use forms::{LabelEnd, label_end};

@@ -1,0 +1,7 @@
+pub mod Balanced
+pub mod Container
+pub mod Depth
+pub mod Needed
+pub mod Runs
+pub mod Taken
+pub mod Writes
