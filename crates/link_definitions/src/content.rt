@@ -31,7 +31,7 @@ pub fn join_lines<A: Allocator>(
 }
 
 /// An ending, if there is one.
-fn push_ending<A: Allocator>(
+pub fn push_ending<A: Allocator>(
     content: &mut String<A>,
     ending: Option<LineEnding>,
 ) -> Result<(), AllocError>
@@ -44,7 +44,7 @@ fn push_ending<A: Allocator>(
 }
 
 /// A line without its ending.
-fn push_line<A: Allocator>(content: &mut String<A>, owed: u8, text: &str) -> Result<(), AllocError>
+pub fn push_line<A: Allocator>(content: &mut String<A>, owed: u8, text: &str) -> Result<(), AllocError>
     ensures { OnOk result (string_bytes content.new ≡ string_bytes content.old ++ map code_byte (replicate owed tab_column ++ text.now)) }
 {
     for _ in 0..owed {

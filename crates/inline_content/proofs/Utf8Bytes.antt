@@ -1,0 +1,51 @@
+-- The bytes of a text are below 256.
+use Rattle.std.proofs.Common.{◌≡◌, ℕ, zero, suc, ◌<◌, true, ltb, leb, ◌&&◌, List, [], ◌∷◌, ◌++◌, inl, inr, sym, ◌∙◌, get_or, subst, arith}
+use Rattle.std.specs.Char.{encode_utf8}
+use Rattle.std.specs.Str.{IsUtf8}
+use Rattle.std.proofs.lemmas.Bool.{cases_Bool, cases_lt, cond-true, cond-false, lt-ltb, le-ltb, ltb-true, and_parts}
+use Rattle.std.proofs.Math.Utf8.{encodes, scalar, scalars}
+
+abbrev AreBytes : List ℕ → Type 0
+AreBytes [] = Unit {0}
+AreBytes (b ∷ bs) = (b < 256) × AreBytes bs
+
+appended : (xs ys : List ℕ) → AreBytes xs → AreBytes ys → AreBytes (xs ++ ys)
+appended [] ys h k = k
+appended (x ∷ xs) ys h k = (h.0, appended xs ys h.1 k)
+
+scalar_bound : (c : ℕ) → scalar c ≡ true → c < 1114112
+scalar_bound c h = elim (cases_Bool (ltb c 55296)) [
+  | inl l ↦ let k = ltb-true c 55296 l in omega (arith, k)
+  | inr g ↦ ltb-true c 1114112 (and_parts (leb 57344 c) (ltb c 1114112) (sym (cond-false (ltb c 55296) true (leb 57344 c && ltb c 1114112) g) ∙ h)).1
+]
+
+character_bytes : (c : ℕ) → c < 1114112 → AreBytes (encode_utf8 c)
+unfolding encode_utf8
+character_bytes c small = elim (cases_lt c 128) [
+  | inl a ↦ subst AreBytes (sym (cond-true (ltb c 128) _ _ (lt-ltb c 128 a))) (omega (arith, a), tt)
+  | inr a ↦ elim (cases_lt c 2048) [
+    | inl b ↦ subst AreBytes (sym (cond-false (ltb c 128) _ _ (le-ltb c 128 a) ∙ cond-true (ltb c 2048) _ _ (lt-ltb c 2048 b))) (omega (arith, b), (omega arith, tt))
+    | inr b ↦ elim (cases_lt c 65536) [
+      | inl d ↦
+          subst AreBytes (sym (cond-false (ltb c 128) _ _ (le-ltb c 128 a) ∙ cond-false (ltb c 2048) _ _ (le-ltb c 2048 b) ∙ cond-true (ltb c 65536) _ _ (lt-ltb c 65536 d)))
+          (omega (arith, d), (omega arith, (omega arith, tt)))
+      | inr d ↦
+          subst AreBytes (sym (cond-false (ltb c 128) _ _ (le-ltb c 128 a) ∙ cond-false (ltb c 2048) _ _ (le-ltb c 2048 b) ∙ cond-false (ltb c 65536) _ _ (le-ltb c 65536 d)))
+          (omega (arith, small), (omega arith, (omega arith, (omega arith, tt))))
+    ]
+  ]
+]
+
+all_bytes : (cs : List ℕ) → scalars cs ≡ true → AreBytes (encodes cs)
+all_bytes [] h = tt
+all_bytes (c ∷ cs) h =
+    let k = and_parts (scalar c) (scalars cs) h in
+    appended (encode_utf8 c) (encodes cs) (character_bytes c (scalar_bound c k.0)) (all_bytes cs k.1)
+
+byte_at : (bs : List ℕ) → AreBytes bs → (k : ℕ) → get_or bs k 0 < 256
+byte_at [] h k = omega arith
+byte_at (b ∷ bs) h zero = h.0
+byte_at (b ∷ bs) h (suc k) = byte_at bs h.1 k
+
+pub utf8_bytes : (bs : List ℕ) → IsUtf8 bs → (k : ℕ) → get_or bs k 0 < 256
+utf8_bytes bs u = byte_at bs (subst AreBytes u.1.1 (all_bytes u.0 u.1.0))

@@ -1,0 +1,84 @@
+-- The codes of a content, cut between two of them, and what stands beside them.
+use Rattle.std.proofs.Common.{◌≡◌, ℕ, zero, suc, ◌+◌, ◌-◌, ◌<◌, Bool, true, List, [], ◌∷◌, ◌++◌, refl, ap, ◌∙◌, get_or, length, drop, append_assoc, arith}
+use Rattle.std.proofs.lemmas.Bool.{cond-true}
+use Rattle.std.proofs.lemmas.List.{length-append}
+use Rattle.markdown_definition.specs.declared.beside.Kind.{Kind}
+use Rattle.markdown_definition.specs.Content.{is_eol, content_codes}
+use Rattle.markdown_definition.specs.InlineCode.{InlineCode, codes_of}
+use Rattle.inline_content.specs.declared.mark.Mark.{Mark}
+use Rattle.inline_content.specs.declared.content.Content.{Content}
+use Rattle.inline_content.specs.Marks.{kind_at}
+use Rattle.inline_content.specs.View.{width, line_left, kind_after, kind_before, kind_between, view_from, marked, content_view}
+
+-- how many bytes codes are
+abbrev pub widths : List ℕ → ℕ
+widths [] = 0
+widths (c ∷ cs) = width c + widths cs
+
+module _ (p : ℕ → Bool) (marks : List Mark) where
+  -- the codes are those of the text
+  pub codes_from : (place : ℕ) (before : Kind) (cs : List ℕ) → codes_of (view_from p marks place before cs) ≡ cs
+  codes_from place before [] = refl
+  codes_from place before (c ∷ cs) = ap (λ x. c ∷ x) (codes_from (place + width c) (kind_before p marks (place + width c) before c (line_left cs)) cs)
+
+  -- ---- what is left after some codes
+
+  pub view_drop : (place : ℕ) (before : Kind) (front cs : List ℕ)
+      → drop (length front) (view_from p marks place before (front ++ cs)) ≡ view_from p marks (place + widths front) (kind_between p marks place before front cs) cs
+  view_drop place before [] cs = ap (λ n. view_from p marks n before cs) (omega arith)
+  view_drop place before (c ∷ front) cs =
+      let next = kind_before p marks (place + width c) before c (line_left (front ++ cs)) in
+      let e : place + width c + widths front ≡ place + (width c + widths front) = omega arith in
+      view_drop (place + width c) next front cs
+      ∙ ap (λ n. view_from p marks n (kind_between p marks (place + width c) next front cs) cs) e
+
+  -- the character after a code
+  pub after_at : (place : ℕ) (before : Kind) (cs : List ℕ) (n : ℕ) (d : InlineCode) → n < length cs
+      → (get_or (view_from p marks place before cs) n d).after ≡ kind_after p (get_or cs n 0) (line_left (drop (suc n) cs))
+  after_at place before [] n d h = absurd (omega (arith, h))
+  after_at place before (c ∷ cs) zero d h = refl
+  after_at place before (c ∷ cs) (suc n) d h =
+      after_at (place + width c) (kind_before p marks (place + width c) before c (line_left cs)) cs n d (omega (arith, h))
+
+  -- ---- the character before a place
+
+  pub between_append : (place : ℕ) (before : Kind) (xs ys cs : List ℕ)
+      → kind_between p marks place before (xs ++ ys) cs ≡ kind_between p marks (place + widths xs) (kind_between p marks place before xs (ys ++ cs)) ys cs
+  between_append place before [] ys cs = ap (λ n. kind_between p marks n before ys cs) (omega arith)
+  between_append place before (c ∷ xs) ys cs =
+      let left = line_left ((xs ++ ys) ++ cs) in
+      let next = kind_before p marks (place + width c) before c left in
+      let same = line_left (xs ++ (ys ++ cs)) in
+      let is : left ≡ same = ap line_left (append_assoc xs ys cs) in
+      let e : place + width c + widths xs ≡ place + (width c + widths xs) = omega arith in
+      between_append (place + width c) next xs ys cs
+      ∙ ap (λ l. kind_between p marks (place + width c + widths xs) (kind_between p marks (place + width c) (kind_before p marks (place + width c) before c l) xs (ys ++ cs)) ys cs) is
+      ∙ ap (λ n. kind_between p marks n (kind_between p marks (place + width c) (kind_before p marks (place + width c) before c same) xs (ys ++ cs)) ys cs) e
+
+  -- after a line ending a line starts
+  pub between_ending : (place : ℕ) (before : Kind) (xs : List ℕ) (e : ℕ) (cs : List ℕ) → is_eol e ≡ true
+      → kind_between p marks place before (xs ++ e ∷ []) cs ≡ kind_at marks (place + (widths xs + width e))
+  between_ending place before xs e cs h =
+      let n : place + widths xs + width e ≡ place + (widths xs + width e) = omega arith in
+      between_append place before xs (e ∷ []) cs ∙ cond-true (is_eol e) _ _ h ∙ ap (kind_at marks) n
+
+-- ---- the bytes of codes
+
+pub widths_append : (xs ys : List ℕ) → widths (xs ++ ys) ≡ widths xs + widths ys
+widths_append [] ys = omega arith
+widths_append (x ∷ xs) ys = let k = widths_append xs ys in omega (arith, k)
+
+pub codes_of_view : (p : ℕ → Bool) (content : Content) → codes_of (content_view p content) ≡ content_codes content.text.now
+codes_of_view p content = codes_from p content.marks.now 0 (kind_at content.marks.now 0) (content_codes content.text.now)
+
+-- the codes from a rest on, and the kind before them
+pub view_is : (p : ℕ → Bool) (marks : List Mark) (text rest front : List ℕ) → content_codes text ≡ front ++ content_codes rest
+    → drop (length (content_codes text) - length (content_codes rest)) (marked p marks text)
+    ≡ view_from p marks (widths front) (kind_between p marks 0 (kind_at marks 0) front (content_codes rest)) (content_codes rest)
+view_is p marks text rest front e =
+    let sizes : length (content_codes text) ≡ length front + length (content_codes rest) = ap length e ∙ length-append front (content_codes rest) in
+    let n : length (content_codes text) - length (content_codes rest) ≡ length front = omega (arith, sizes) in
+    ap (λ k. drop k (marked p marks text)) n
+    ∙ ap (λ cs. drop (length front) (view_from p marks 0 (kind_at marks 0) cs)) e
+    ∙ view_drop p marks 0 (kind_at marks 0) front (content_codes rest)
+    ∙ ap (λ k. view_from p marks k (kind_between p marks 0 (kind_at marks 0) front (content_codes rest)) (content_codes rest)) (omega arith)

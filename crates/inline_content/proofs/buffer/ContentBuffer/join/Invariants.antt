@@ -1,0 +1,20 @@
+use Rattle.std.proofs.Common.{◌≡◌, ◌≤◌, string_bytes, length, take}
+use Rattle.std.specs.List.{All}
+use Rattle.std.specs.List.Sorted.{IsNonDecreasingBy}
+use Rattle.markdown_definition.specs.Blocks.{last_ending}
+use Rattle.markdown_definition.specs.Rows.{piece_lines}
+use Rattle.markdown_definition.specs.Content.{content_text}
+use Rattle.inline_content.specs.declared.mark.Mark.{Mark}
+use Rattle.inline_content.specs.Lines.{marks_of}
+use Rattle.inline_content.specs.Marks.{mark_place}
+use Rattle.inline_content.proofs.buffer.ContentBuffer.join.Given as goal
+
+-- the lines so far are there and marked, and the ending of the last one waits
+abbrev pub invariant-loop-line : goal.invariant-loop-line
+invariant-loop-line g l = record {
+  so_far : string_bytes l.self.text ≡ content_text (piece_lines (take l.line-index l.lines));
+  marks : l.self.marks.items ≡ marks_of 0 (piece_lines (take l.line-index l.lines));
+  before : All (λ (m : Mark). m.place ≤ length (string_bytes l.self.text)) l.self.marks.items;
+  ordered : IsNonDecreasingBy mark_place l.self.marks.items;
+  waits : l.waiting ≡ last_ending (piece_lines (take l.line-index l.lines));
+}

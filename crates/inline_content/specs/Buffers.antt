@@ -1,0 +1,8 @@
+-- The codes that the content in a buffer stands for.
+use Rattle.std.specs.Prelude.{ℕ, Bool, List, string_bytes}
+use Rattle.markdown_definition.specs.InlineCode.{InlineCode}
+use Rattle.inline_content.specs.declared.buffer.ContentBuffer.{ContentBuffer}
+use Rattle.inline_content.specs.View.{marked}
+
+abbrev pub buffer_view : {A : Type 0} → (ℕ → Bool) → ContentBuffer A → List InlineCode
+buffer_view is_punctuation buffer = marked is_punctuation buffer.marks.items (string_bytes buffer.text)

@@ -1,0 +1,5 @@
+pub mod Marks
+pub mod View
+pub mod Lines
+pub mod Buffers
+pub mod Ends

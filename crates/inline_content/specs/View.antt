@@ -1,0 +1,53 @@
+-- The codes that a content stands for, and what stands beside them (CommonMark 6.2).
+use Rattle.std.specs.Prelude.{ℕ, ◌+◌, ◌-◌, Bool, if◌then◌else◌, ◌==◌, List, [], ◌∷◌, ◌++◌, drop, length}
+use Rattle.markdown_definition.specs.declared.beside.Kind.{Kind}
+use Rattle.markdown_definition.specs.declared.beside.Kind.TheVariants.{Whitespace}
+use Rattle.markdown_definition.specs.Content.{is_eol, content_codes}
+use Rattle.markdown_definition.specs.InlineCode.{InlineCode, inline_code, first_kind, next_kind}
+use Rattle.inline_content.specs.declared.mark.Mark.{Mark}
+use Rattle.inline_content.specs.declared.content.Content.{Content}
+use Rattle.inline_content.specs.Marks.{kind_at}
+
+-- how many bytes a code is
+abbrev pub width : ℕ → ℕ
+width code = if code == 257 then 2 else 1
+
+-- what is left of a line, with its ending
+abbrev pub line_left : List ℕ → List ℕ
+line_left [] = []
+line_left (c ∷ cs) = c ∷ (if is_eol c then [] else line_left cs)
+
+-- the kind of the character after a code, before what is left of its line
+abbrev pub kind_after : (ℕ → Bool) → ℕ → List ℕ → Kind
+kind_after is_punctuation c left = if is_eol c then Whitespace else first_kind is_punctuation Whitespace left
+
+-- the kind of the character before the place after a code, given that before the code
+abbrev pub kind_before : (ℕ → Bool) → List Mark → ℕ → Kind → ℕ → List ℕ → Kind
+kind_before is_punctuation marks place before c left =
+    if is_eol c then kind_at marks place else next_kind is_punctuation before (c ∷ left)
+
+-- codes from a place on, with the kinds of their neighbours: after an ending a line starts, before which its mark tells the kind
+abbrev pub view_from : (ℕ → Bool) → List Mark → ℕ → Kind → List ℕ → List InlineCode
+view_from is_punctuation marks place before [] = []
+view_from is_punctuation marks place before (c ∷ cs) =
+    inline_code c before (kind_after is_punctuation c (line_left cs))
+    ∷ view_from is_punctuation marks (place + width c) (kind_before is_punctuation marks (place + width c) before c (line_left cs)) cs
+
+-- the codes of a text with the kinds of their neighbours, by these marks
+abbrev pub marked : (ℕ → Bool) → List Mark → List ℕ → List InlineCode
+marked is_punctuation marks text = view_from is_punctuation marks 0 (kind_at marks 0) (content_codes text)
+
+-- the codes that a content stands for
+abbrev pub content_view : (ℕ → Bool) → Content → List InlineCode
+content_view is_punctuation content = marked is_punctuation content.marks.now content.text.now
+
+-- those from a rest of it on
+abbrev pub view_at : (ℕ → Bool) → Content → List ℕ → List InlineCode
+view_at is_punctuation content rest =
+    drop (length (content_codes content.text.now) - length (content_codes rest)) (content_view is_punctuation content)
+
+-- the kind of the character between codes that a content begins with and those after them
+abbrev pub kind_between : (ℕ → Bool) → List Mark → ℕ → Kind → List ℕ → List ℕ → Kind
+kind_between is_punctuation marks place before [] cs = before
+kind_between is_punctuation marks place before (c ∷ front) cs =
+    kind_between is_punctuation marks (place + width c) (kind_before is_punctuation marks (place + width c) before c (line_left (front ++ cs))) front cs

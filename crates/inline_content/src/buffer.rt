@@ -1,0 +1,68 @@
+//! The content of lines that are put together (CommonMark 4.8).
+ghost use Rattle.std.specs.Prelude.{◌≡◌, ◌≤◌, ◌++◌, ℕ, Bool, OnOk, string_bytes, length};
+ghost use Rattle.std.specs.List.{All};
+ghost use Rattle.std.specs.List.Sorted.{IsNonDecreasingBy};
+ghost use Rattle.inline_content.specs.Marks.{mark_place};
+
+use crate::content::Content;
+use crate::mark::{Mark, push_mark};
+use link_definitions::content::{push_ending, push_line};
+use markdown_definition::Piece;
+use std::alloc::{AllocError, Allocator};
+
+/// The content of the lines of a block. It can be used again for another block, with no new memory
+/// where that isn't larger.
+#[derive(Drop)]
+pub struct ContentBuffer<A: Allocator> {
+    pub(crate) text: String<A>,
+    pub(crate) marks: Vec<Mark, A>,
+    pub ghost ordered: { IsNonDecreasingBy mark_place marks.items },
+}
+
+impl<A: Allocator + Clone> ContentBuffer<A> {
+    /// The content of no lines.
+    pub fn new(alloc: A) -> Result<ContentBuffer<A>, AllocError> {
+        Ok(ContentBuffer {
+            text: String::new(alloc.clone()?),
+            marks: Vec::new(alloc),
+        })
+    }
+}
+
+impl<A: Allocator> ContentBuffer<A> {
+    ghost use Rattle.markdown_definition.specs.declared.beside.Kind.TheVariants.{Whitespace};
+    ghost use Rattle.markdown_definition.specs.Blocks.{own_lines};
+    ghost use Rattle.markdown_definition.specs.Rows.{piece_lines};
+    ghost use Rattle.markdown_definition.specs.InlineCode.{inline_content};
+    ghost use Rattle.inline_content.specs.View.{content_view};
+    ghost use Rattle.inline_content.specs.Buffers.{buffer_view};
+    ghost use Rattle.inline_content.specs.Lines.{AreContentLines};
+
+    /// Makes it the content of these lines: a space for each column that is left of a tab, the bytes
+    /// of the line, and all endings but the last.
+    pub fn join(&mut self, lines: &[Piece<'_>]) -> Result<(), AllocError>
+        ensures { (is_punctuation : ℕ → Bool) → OnOk result (AreContentLines (piece_lines lines.now) →
+            buffer_view is_punctuation self.new ≡ inline_content is_punctuation Whitespace (own_lines (piece_lines lines.now))) }
+    {
+        self.marks.clear();
+        self.text.clear();
+        let mut waiting = None;
+        for line in lines {
+            push_ending(&mut self.text, waiting)?;
+            push_mark(&mut self.marks, self.text.len(), line.before)?;
+            push_line(&mut self.text, line.owed, line.text)?;
+            waiting = line.ending;
+        }
+        Ok(())
+    }
+
+    /// The content.
+    pub fn content(&self) -> Content<'_>
+        ensures { (is_punctuation : ℕ → Bool) → content_view is_punctuation result ≡ buffer_view is_punctuation self.now }
+    {
+        Content {
+            text: &self.text,
+            marks: &self.marks,
+        }
+    }
+}

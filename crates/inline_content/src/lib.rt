@@ -1,0 +1,12 @@
+//! The content of a block's lines, and what stands beside it.
+#![tactic(auto)]
+
+pub mod buffer;
+pub mod content;
+pub mod mark;
+pub mod run;
+pub mod whole;
+
+pub use buffer::ContentBuffer;
+pub use content::Content;
+pub use whole::whole_content;

@@ -1,0 +1,39 @@
+//! The content of whole lines, which stand right after another in the text (CommonMark 4.8).
+ghost use Rattle.std.specs.Prelude.{◌≡◌, ℕ, Bool, [], take};
+ghost use Rattle.std.specs.Str.{IsCharBoundary};
+ghost use Rattle.markdown_definition.specs.declared.beside.Kind.TheVariants.{Whitespace};
+ghost use Rattle.markdown_definition.specs.Blocks.{own_lines};
+ghost use Rattle.markdown_definition.specs.Content.{content_text};
+ghost use Rattle.markdown_definition.specs.Rows.{whole_lines};
+ghost use Rattle.markdown_definition.specs.InlineCode.{inline_content};
+ghost use Rattle.inline_content.specs.View.{content_view};
+
+use crate::content::Content;
+use text_lines::line::next_line;
+
+/// The content of the first lines of a text, so many, without the last ending.
+pub fn whole_content(count: usize, text: &str) -> Content<'_>
+    ensures { (is_punctuation : ℕ → Bool) → content_view is_punctuation result ≡ inline_content is_punctuation Whitespace (own_lines (whole_lines count text.now)) }
+{
+    Content {
+        text: whole_text(count, text),
+        marks: &[],
+    }
+}
+
+/// The first lines of a text, so many, without the last ending.
+fn whole_text(count: usize, text: &str) -> &str
+    ensures { result.now ≡ content_text (whole_lines count text.now) }
+{
+    let mut end = 0;
+    let mut rest = text;
+    for _i in 0..count {
+        if rest.is_empty() {
+            return &text[..end];
+        }
+        let (line, _, after) = next_line(rest);
+        end = text.len() - rest.len() + line.len();
+        rest = after;
+    }
+    &text[..end]
+}
