@@ -77,7 +77,7 @@ pub text_is : (text rest : List ℕ) → IsRest text rest → text ≡ take (len
 text_is text rest h = let n = length text - length rest in sym (take-append-drop n text) ∙ ap (λ l. take n text ++ l) (sym h.place)
 
 module _ (p : ℕ → Bool) (marks : List Mark) (on : Constructs) where
-  rest_of_view : (text rest : List ℕ) → codes_of (drop (length (content_codes text) - length (content_codes rest)) (marked p marks text)) ≡ drop (length (content_codes text) - length (content_codes rest)) (content_codes text)
+  pub rest_of_view : (text rest : List ℕ) → codes_of (drop (length (content_codes text) - length (content_codes rest)) (marked p marks text)) ≡ drop (length (content_codes text) - length (content_codes rest)) (content_codes text)
   rest_of_view text rest =
       let n = length (content_codes text) - length (content_codes rest) in
       sym (drop-map (λ (c : InlineCode). c.code) n (marked p marks text)) ∙ ap (drop n) (codes_from p marks 0 (kind_at marks 0) (content_codes text))
