@@ -1,0 +1,2 @@
+pub mod Punctuation
+pub mod PunctuationLaws
