@@ -1,1 +1,3 @@
+pub mod Punctuation
+pub mod PunctuationLaws
 pub mod Builtin

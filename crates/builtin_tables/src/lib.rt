@@ -1,6 +1,11 @@
-//! The tables that are built in.
+//! The tables that are built in: named character references (CommonMark 2.5) and Unicode
+//! punctuation (CommonMark 2.1).
 #![tactic(auto)]
 
-pub mod builtin;
+pub mod punctuation;
+pub mod tables;
+#[cfg(test)]
+mod tests;
 
-pub use builtin::Builtin;
+pub use punctuation::is_unicode_punctuation;
+pub use tables::Builtin;

@@ -3,3 +3,4 @@ pub mod View
 pub mod Lines
 pub mod Buffers
 pub mod Ends
+pub mod Fronts

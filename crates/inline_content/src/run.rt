@@ -1,7 +1,7 @@
 //! The runs of a content, by what stands beside them (CommonMark 6.2).
 //!
 //!     run ::= '*'+ | '_'+, as long as it gets
-ghost use Rattle.std.specs.Prelude.{◌≡◌, ◌≤◌, ◌<◌, ◌==◌, ℕ, List, MatchOption, length, take, drop, slice_index};
+ghost use Rattle.std.specs.Prelude.{◌≡◌, ◌≤◌, ◌<◌, ◌==◌, ℕ, List, IfSome, MatchOption, length, take, drop, slice_index};
 ghost use Rattle.std.specs.List.{prefix_len};
 ghost use Rattle.markdown_definition.specs.declared.beside.Kind.TheVariants.{Whitespace};
 ghost use Rattle.markdown_definition.specs.Attention.{is_marker};
@@ -14,6 +14,7 @@ ghost use Rattle.link_parts.specs.Codes.{IsRest};
 ghost use Rattle.attention.specs.View.{run_view};
 ghost use Rattle.inline_content.specs.Marks.{kind_at};
 ghost use Rattle.inline_content.specs.Ends.{EndsWith};
+ghost use Rattle.inline_content.specs.Fronts.{StartsRun};
 ghost use Rattle.inline_content.specs.View.{line_left, kind_between, view_at};
 
 use crate::content::Content;
@@ -25,7 +26,8 @@ impl<'a> Content<'a> {
     /// The run that a rest of the content begins with (CommonMark 6.2).
     pub fn run_at<T: Tables>(self, on: &Constructs, tables: &T, rest: &str) -> Option<Run>
         requires { IsRest self.text.now rest.now }
-        ensures { option_map run_view result ≡ run_at on.now (view_at (T.punctuation_of tables.now) self.entry rest.now) }
+        ensures read { option_map run_view result ≡ run_at on.now (view_at (T.punctuation_of tables.now) self.entry rest.now) }
+        ensures front { IfSome result (λ run. StartsRun on.now rest.now run) }
     {
         let bytes = rest.as_bytes();
         if bytes.is_empty() || !is_marker(on, bytes[0]) {

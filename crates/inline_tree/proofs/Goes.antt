@@ -1,5 +1,5 @@
 -- One step of the scan, by what comes first.
-use Rattle.std.proofs.Common.{◌≡◌, ℕ, zero, suc, ◌+◌, ◌-◌, ◌*◌, ◌<◌, ◌≤◌, Bool, true, false, cond, ◌&&◌, eqb, List, [], ◌∷◌, ◌++◌, map, refl, sym, ap, ap₂, ◌∙◌, length, arith, subst, take, drop, Option, None, Some}
+use Rattle.std.proofs.Common.{◌≡◌, ℕ, zero, suc, ◌+◌, ◌-◌, ◌*◌, ◌<◌, ◌≤◌, Bool, true, false, cond, ◌&&◌, eqb, List, [], ◌∷◌, ◌++◌, map, refl, sym, ap, ap₂, ◌∙◌, length, arith, subst, take, drop, Option, None, Some, get_or}
 use Rattle.std.proofs.lemmas.Bool.{cond-true, cond-false, true≢false}
 use Rattle.std.proofs.lemmas.List.{drop-drop}
 use Rattle.markdown_definition.specs.InlineCode.{InlineCode, codes_of}
@@ -11,6 +11,7 @@ use Rattle.markdown_definition.specs.Scan.{InlineContext, leaf_at, LabelStart, l
 use Rattle.markdown_definition.proofs.Scanning.{scan_skipped, scan_step, step_leaf, step_run, step_start, step_last}
 use Rattle.markdown_definition.proofs.InlineSizes.{leaf_fits}
 use Rattle.inline_tree.specs.Shows.{unformed_in, formed_in}
+use Rattle.inline_tree.proofs.Texts.{other_step}
 use Rattle.inline_tree.specs.Scanned.{ended_here}
 
 is_there : {A : Type 0} → Option A → Bool
@@ -76,3 +77,39 @@ module _ (context : InlineContext) where
       → ended_here context (codes_of (c ∷ cs)) r.open_labels r.now ≡ Some e
       → scan context 0 r (c ∷ cs) ≡ scan context 0 (formed_in e.target r.open_labels r.now) (drop e.size cs)
   end_forms r c cs e none no_run no_start is ended = end_read r c cs none no_run no_start is ∙ some_read r.now r.open_labels c cs e ended
+
+  -- ---- the same of codes of which there are some
+
+  pub start_view_goes : (r : Reading) (view : List InlineCode) (start : LabelStart) (n : ℕ) → n ≡ 1 + start_more start → 0 < length view → leaf_at context (codes_of view) ≡ None → run_at context.on view ≡ None
+      → label_start_at context.on (codes_of view) ≡ Some start
+      → scan context 0 r view
+      ≡ scan context 0 (reading (text [] false) (record { start = start; from = drop n (codes_of view); outer = r.now } ∷ r.open_labels)) (drop n view)
+  start_view_goes r [] start n size some none no_run is = absurd (omega (arith, some))
+  start_view_goes r (c ∷ cs) start n size some none no_run is =
+      start_goes r c cs start none no_run is
+      ∙ ap (λ k. scan context 0 (reading (text [] false) (record { start = start; from = drop k (codes_of (c ∷ cs)); outer = r.now } ∷ r.open_labels)) (drop k (c ∷ cs))) (sym size)
+
+  is_end : (c : ℕ) → context.on.label_end ≡ true → c ≡ 93 → (context.on.label_end && eqb c 93) ≡ true
+  is_end c on is = ap (λ b. b && eqb c 93) on ∙ ap (λ k. eqb k 93) is
+
+  pub nothing_view_goes : (r : Reading) (view : List InlineCode) → 0 < length view → leaf_at context (codes_of view) ≡ None → run_at context.on view ≡ None
+      → label_start_at context.on (codes_of view) ≡ None → context.on.label_end ≡ true → get_or (codes_of view) 0 0 ≡ 93
+      → ended_here context (codes_of view) r.open_labels r.now ≡ None
+      → scan context 0 r view ≡ scan context 0 (read_tokens (Item (Data 93) ∷ []) (unformed_in r.open_labels r.now)) (drop 1 view)
+  nothing_view_goes r [] some none no_run no_start on is ended = absurd (omega (arith, some))
+  nothing_view_goes r (c ∷ cs) some none no_run no_start on is ended = end_forms_nothing r c cs none no_run no_start (is_end c.code on is) ended
+
+  pub formed_view_goes : (r : Reading) (view : List InlineCode) (e : Ended) → 0 < length view → leaf_at context (codes_of view) ≡ None → run_at context.on view ≡ None
+      → label_start_at context.on (codes_of view) ≡ None → context.on.label_end ≡ true → get_or (codes_of view) 0 0 ≡ 93
+      → ended_here context (codes_of view) r.open_labels r.now ≡ Some e
+      → scan context 0 r view ≡ scan context 0 (formed_in e.target r.open_labels r.now) (drop e.size (drop 1 view))
+  formed_view_goes r [] e some none no_run no_start on is ended = absurd (omega (arith, some))
+  formed_view_goes r (c ∷ cs) e some none no_run no_start on is ended = end_forms r c cs e none no_run no_start (is_end c.code on is) ended
+
+  pub byte_view_goes : (r : Reading) (view : List InlineCode) (b : ℕ) → 0 < length view → leaf_at context (codes_of view) ≡ None → run_at context.on view ≡ None
+      → label_start_at context.on (codes_of view) ≡ None → get_or (codes_of view) 0 0 ≡ b → (context.on.label_end && eqb b 93) ≡ false
+      → scan context 0 r view ≡ scan context 0 (read_tokens (map Item (map Data (b ∷ []))) r) (drop 1 view)
+  byte_view_goes r [] b some none no_run no_start is no_end = absurd (omega (arith, some))
+  byte_view_goes r (c ∷ cs) b some none no_run no_start is no_end =
+      other_step context r c cs none no_run no_start (ap (λ k. context.on.label_end && eqb k 93) is ∙ no_end)
+      ∙ ap (λ k. scan context 0 (read_tokens (map Item (map Data (k ∷ []))) r) cs) is

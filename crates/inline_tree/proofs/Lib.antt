@@ -5,3 +5,6 @@ pub mod Changes
 pub mod Goes
 pub mod Views
 pub mod Texts
+pub mod Follow
+pub mod Placed
+pub mod Ended

@@ -1,6 +1,7 @@
 -- A content that is being read, as the definition reads it.
 use Rattle.std.specs.Prelude.{◌≡◌, ◌<◌, ◌≤◌, ◌-◌, ℕ, Bool, List, [], ◌∷◌, Option, None, Some, drop, take, length, slice_index}
 use Rattle.std.specs.List.{All}
+use Rattle.std.specs.Str.{IsCharBoundary}
 use Rattle.markdown_options.specs.declared.configuration.Constructs.{Constructs}
 use Rattle.markdown_definition.specs.Content.{content_codes}
 use Rattle.markdown_definition.specs.LinkDefinition.{Definition}
@@ -51,6 +52,8 @@ ended_here context content (label ∷ others) inner = ended_by context content l
 -- a byte that is a code of one byte
 pub record IsSingle (bytes : List ℕ) : Type 0 where
   pub ascii : slice_index bytes 0 < 128
+  pub apart : slice_index bytes 0 ≡ 13 → ⊥
+  pub boundary : IsCharBoundary bytes 1
   pub next : IsAfter bytes (drop 1 bytes)
   pub code : content_codes bytes ≡ slice_index bytes 0 ∷ content_codes (drop 1 bytes)
 

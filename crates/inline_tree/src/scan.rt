@@ -1,7 +1,7 @@
 //! The scan of a content from left to right (CommonMark 6 and appendix, phase 2).
 //!
 //!     content ::= white* (text | leaf | run | start | ']')*
-ghost use Rattle.std.specs.Prelude.{◌≡◌, ◌<◌, ◌≤◌, ◌==◌, ◌&&◌, ℕ, List, [], ◌∷◌, Option, None, true, length, map, IfOk, IfSome, OnOk, take, drop, codes};
+ghost use Rattle.std.specs.Prelude.{◌≡◌, ◌<◌, ◌≤◌, ◌==◌, ◌&&◌, ℕ, List, [], ◌∷◌, Option, None, true, length, map, IfOk, IfSome, OnOk, take, drop, slice_index};
 ghost use Rattle.std.specs.List.{All, prefix_len};
 ghost use Rattle.std.specs.Option.{option_map};
 ghost use Rattle.std.specs.Str.{IsCharBoundary};
@@ -12,7 +12,6 @@ ghost use Rattle.markdown_definition.specs.Content.{content_codes};
 ghost use Rattle.markdown_definition.specs.Inline.{Target, Linked, Data};
 ghost use Rattle.markdown_definition.specs.InlineHtml.{leads_to};
 ghost use Rattle.markdown_definition.specs.InlineRows.{inline_rows};
-ghost use Rattle.markdown_definition.specs.Letters.{begins_with};
 ghost use Rattle.markdown_definition.specs.LinkDefinition.{Definition};
 ghost use Rattle.markdown_definition.specs.Scan as scan;
 ghost use Rattle.markdown_definition.specs.Scan.{inlines, label_start_at, read_tokens, start_bytes};
@@ -105,6 +104,23 @@ fn after_white(text: &str) -> &str
     cut_after(text, size)
 }
 
+/// The content from a place on that isn't inside a character.
+fn rest_from(text: &str, at: usize) -> &str
+    requires { IsCharBoundary text.now at }
+    ensures { result.now ≡ drop at text.now }
+{
+    &text[at..]
+}
+
+/// The first byte of a text, which is ASCII.
+fn first_byte(text: &str) -> &str
+    requires some { 0 < length text.now }
+    requires ascii { slice_index text.now 0 < 128 }
+    ensures { result.now ≡ take 1 text.now }
+{
+    text_before(text, 1)
+}
+
 impl<'a, A: Allocator + Clone> Scanner<'a, A> {
     /// Reads what comes next.
     fn step<T: Tables>(&mut self, source: &Source<'a, T, A>) -> Result<(), AllocError>
@@ -134,7 +150,7 @@ impl<'a, A: Allocator + Clone> Scanner<'a, A> {
         ensures read { (leads : Target → Linked) (at : ℕ → Linked) (r : scan.Reading) → Shows leads at self.old.reading r → OnOk result (Shows leads at self.new.reading (read_tokens (map Item (map Data (take size self.old.rest.now))) r)) }
     {
         self.reading.text(text_before(self.rest, size))?;
-        self.rest = cut_after(self.rest, size);
+        self.rest = rest_from(self.rest, size);
         Ok(())
     }
 
@@ -170,12 +186,13 @@ impl<'a, A: Allocator + Clone> Scanner<'a, A> {
     /// A run (CommonMark 6.2).
     fn run(&mut self, run: Run) -> Result<(), AllocError>
         requires sound { IsSound self.old.reading }
+        requires first { IsSingle self.old.rest.now }
         requires front { IsRunFront self.old.rest.now run }
         ensures placed { (content : SeenContent) → IsPlaced content self.old → OnOk result (IsPlaced content self.new) }
         ensures rest { OnOk result (self.new.rest.now ≡ drop run.size self.old.rest.now) }
         ensures read { (leads : Target → Linked) (at : ℕ → Linked) (r : scan.Reading) → Shows leads at self.old.reading r → OnOk result (Shows leads at self.new.reading (read_tokens (Delimiters (run_view run) ∷ []) r)) }
     {
-        self.reading.run(run, text_before(self.rest, 1))?;
+        self.reading.run(run, first_byte(self.rest))?;
         self.rest = cut_after(self.rest, run.size);
         Ok(())
     }
@@ -194,7 +211,7 @@ impl<'a, A: Allocator + Clone> Scanner<'a, A> {
         if let Some(start) = label_start_at(source.on, self.rest) {
             return self.start(start);
         }
-        if source.on.label_end && self.rest.starts_with("]") {
+        if is_label_end(source.on, self.rest) {
             self.end(source)
         } else {
             self.text(1)
@@ -225,7 +242,7 @@ impl<'a, A: Allocator + Clone> Scanner<'a, A> {
         requires first { IsSingle self.old.rest.now }
         requires no_run { run_at source.now.on.now (view_at (T.punctuation_of source.now.tables.now) source.now.content self.old.rest.now) ≡ None }
         requires no_start { label_start_at source.now.on.now (content_codes self.old.rest.now) ≡ None }
-        requires bracket { (source.now.on.now.label_end && begins_with (codes "]") self.old.rest.now) ≡ true }
+        requires bracket { (source.now.on.now.label_end && (slice_index self.old.rest.now 0 == 93)) ≡ true }
         ensures placed { OnOk result (IsPlaced source.now.content self.new) }
         ensures shorter { OnOk result (length self.new.rest.now < length self.old.rest.now) }
         ensures read { (ds : List Definition) (final : scan.Reading) → HasLabels source.now.labels.now (labels_of ds) → Follows source.now.on.now (T.reference_of source.now.tables.now) (T.punctuation_of source.now.tables.now) ds source.now.content self.old final → OnOk result (Follows source.now.on.now (T.reference_of source.now.tables.now) (T.punctuation_of source.now.tables.now) ds source.now.content self.new final) }
@@ -263,6 +280,14 @@ impl<'a, A: Allocator + Clone> Scanner<'a, A> {
             None => Ok(None),
         }
     }
+}
+
+/// Whether a `]` comes first that may end a label (CommonMark 6.3).
+fn is_label_end(on: &Constructs, rest: &str) -> bool
+    requires { 0 < length rest.now }
+    ensures { result ≡ (on.now.label_end && (slice_index rest.now 0 == 93)) }
+{
+    on.label_end && rest.as_bytes()[0] == b']'
 }
 
 /// The label start that a content begins with (CommonMark 6.3 and 6.4).

@@ -1,14 +1,15 @@
 -- The definitions that were read so far.
-use Rattle.std.specs.Prelude.{◌≡◌, List, Option, None, Some, String, map, string_bytes}
+use Rattle.std.specs.Prelude.{◌≡◌, List, [], Option, None, Some, String, map, string_bytes}
+use Rattle.std.specs.Option.{option_map}
 use Rattle.markdown_definition.specs.Content.{content_codes}
 use Rattle.markdown_definition.specs.Inline.{Linked, linked}
 use Rattle.markdown_definition.specs.LinkDefinition.{Definition, definition, definition_at}
 use Rattle.markdown_definition.specs.Targets.{labels_of, no_definition}
 use Rattle.link_labels.specs.Table.{HasLabels}
+use Rattle.link_parts.specs.declared.text.TextDefinition.{TextDefinition}
 use Rattle.inline_rows.specs.View.{linked_view}
 use Rattle.link_table.specs.declared.contents.DefinitionContents.{DefinitionContents}
 use Rattle.link_table.specs.declared.definitions.Definitions.{Definitions}
-use Rattle.std.specs.Prelude.{[]}
 
 -- a definition with nothing after it, if there is one
 abbrev pub alone : Option Definition → Definition
@@ -18,6 +19,10 @@ alone (Some d) = definition d.label d.destination d.title []
 -- the definition that a content is
 abbrev pub read_on : {A : Type 0} → String A → Definition
 read_on text = alone (definition_at (content_codes (string_bytes text)))
+
+-- the definition in a text, without what follows it
+abbrev pub read_of : TextDefinition → Definition
+read_of read = definition (content_codes read.label.now) (content_codes read.destination.now) (option_map (λ text. content_codes text.now) read.title) []
 
 -- where a definition leads
 abbrev pub leads : Definition → Linked

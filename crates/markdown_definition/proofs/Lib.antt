@@ -22,3 +22,4 @@ pub mod LabelWords
 pub mod NearestOpener
 pub mod ClosingRuns
 pub mod InlineSizes
+pub mod ReferenceForms

@@ -5,20 +5,23 @@ use Rattle.std.proofs.lemmas.Bool.{eqb-true, true≢false}
 use Rattle.markdown_definition.specs.declared.beside.Kind.TheVariants.{Whitespace}
 use Rattle.markdown_definition.specs.Content.{content_codes}
 use Rattle.markdown_definition.specs.InlineCode.{first_kind}
-use Rattle.markdown_definition.specs.Attention.{is_marker, run_between}
+use Rattle.markdown_definition.specs.Attention.{Run, is_marker, run_between}
 use Rattle.inline_content.specs.View.{line_left}
 use Rattle.inline_content.proofs.Runs.{no_run, a_run, run_boundary}
 use Rattle.inline_content.proofs.content.Content.run_at.Goals.{then-is_empty-via-then-is_empty, then-is_empty-via-else-is_empty+then-not-is_marker}
 use Rattle.inline_content.proofs.content.Content.run_at.Goals as goal
 
 pub returns-then-is_empty : goal.returns-then-is_empty
-returns-then-is_empty g c =
-    no_run (g.T.Tables.punctuation_of c.args.tables.now) c.args.self.marks.now c.args.on.now c.args.self.text.now c.args.rest.now c.requires
-    (λ some.
-    elim c.then-is_empty.branch [
-      | then-is_empty-via-then-is_empty w ↦ absurd (omega (arith, some, eqb-true (length c.as_bytes-bytes.result.now) 0 (sym c.is_empty.ensures ∙ w.if-is_empty.true), ap length c.as_bytes-bytes.ensures.value))
-      | then-is_empty-via-else-is_empty+then-not-is_marker w ↦ ap (λ l. is_marker c.args.on.now (get_or l 0 0)) (sym c.as_bytes-bytes.ensures.value) ∙ sym w.is_marker.ensures ∙ w.if-not-is_marker.true
-    ])
+returns-then-is_empty g c = record {
+  read =
+      no_run (g.T.Tables.punctuation_of c.args.tables.now) c.args.self.marks.now c.args.on.now c.args.self.text.now c.args.rest.now c.requires
+      (λ some.
+      elim c.then-is_empty.branch [
+        | then-is_empty-via-then-is_empty w ↦ absurd (omega (arith, some, eqb-true (length c.as_bytes-bytes.result.now) 0 (sym c.is_empty.ensures ∙ w.if-is_empty.true), ap length c.as_bytes-bytes.ensures.value))
+        | then-is_empty-via-else-is_empty+then-not-is_marker w ↦ ap (λ l. is_marker c.args.on.now (get_or l 0 0)) (sym c.as_bytes-bytes.ensures.value) ∙ sym w.is_marker.ensures ∙ w.if-not-is_marker.true
+      ]);
+  front = tt;
+}
 
 abbrev pub is_some : (xs : List ℕ) → (length xs == 0) ≡ false → 0 < length xs
 is_some [] h = absurd (true≢false h)
@@ -42,6 +45,18 @@ returns g c =
     let size : c.run_size-size.result ≡ prefix_len (λ x. x == get_or rest 0 0) rest = c.run_size-size.ensures ∙ ap (λ l. prefix_len (λ x. x == get_or l 0 0) l) value in
     let after : c.first_kind-after.result ≡ first_kind p Whitespace (line_left (content_codes (drop c.run_size-size.result rest))) =
     c.first_kind-after.ensures ∙ ap (λ l. first_kind p Whitespace (line_left (content_codes l))) c.range_from.ensures.value in
-    ap Some (c.run_between.ensures ∙ ap (λ l. run_between (get_or l 0 0) c.run_size-size.result c.kind_before-before.result c.first_kind-after.result) value)
-    ∙ a_run p c.args.self.marks.now c.args.on.now c.args.self.text.now rest c.run_size-size.result c.kind_before-before.result c.first_kind-after.result
-    c.requires some marker size (c.kind_before-before.ensures (content_codes rest)) after
+    let first : get_or rest 0 0 ≡ c.run_between.result.marker =
+        sym (ap (λ (r : Run). r.marker) c.run_between.ensures ∙ ap (λ l. get_or l 0 0) value) in
+    let count : c.run_between.result.size ≡ c.run_size-size.result = ap (λ (r : Run). r.left) c.run_between.ensures in
+    record {
+      read =
+          ap Some (c.run_between.ensures ∙ ap (λ l. run_between (get_or l 0 0) c.run_size-size.result c.kind_before-before.result c.first_kind-after.result) value)
+          ∙ a_run p c.args.self.marks.now c.args.on.now c.args.self.text.now rest c.run_size-size.result c.kind_before-before.result c.first_kind-after.result
+          c.requires some marker size (c.kind_before-before.ensures (content_codes rest)) after;
+      front = record {
+        some = some;
+        first = first;
+        marks = ap (is_marker c.args.on.now) (sym first) ∙ marker;
+        size = count ∙ size ∙ ap (λ m. prefix_len (λ x. x == m) rest) first;
+      };
+    }
