@@ -23,8 +23,8 @@ row_longer (row.Paragraph n) out ls more le =
     ap (λ front. shown_as (out ++ Single (Paragraph (own_lines front)) ∷ []) (drop n (ls ++ more))) (take-append-le n ls more le)
     ∙ ap (shown_as (out ++ Single (Paragraph (own_lines (take n ls))) ∷ [])) (drop-append-le n ls more le)
 row_longer (row.Heading rank) out ls more le =
-    ap (λ front. shown_as (out ++ Single (Heading rank front) ∷ []) (drop 1 (ls ++ more))) (take-append-le 1 ls more le)
-    ∙ ap (shown_as (out ++ Single (Heading rank (take 1 ls)) ∷ [])) (drop-append-le 1 ls more le)
+    ap (λ front. shown_as (out ++ Single (Heading rank (own_lines front)) ∷ []) (drop 1 (ls ++ more))) (take-append-le 1 ls more le)
+    ∙ ap (shown_as (out ++ Single (Heading rank (own_lines (take 1 ls))) ∷ [])) (drop-append-le 1 ls more le)
 row_longer row.Break out ls more le = refl
 row_longer (row.IndentedCode n) out ls more le =
     ap (λ front. shown_as (out ++ Single (IndentedCode (own_lines front)) ∷ []) (drop n (ls ++ more))) (take-append-le n ls more le)

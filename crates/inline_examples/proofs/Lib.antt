@@ -1,3 +1,4 @@
+mod Computing
 mod CharacterEscapes
 mod CharacterReferences
 mod CodeSpans
@@ -11,3 +12,4 @@ mod Readings
 mod Off
 mod Neighbours
 mod Mixed
+mod Documents

@@ -1,18 +1,17 @@
 -- An escaped line prints itself as text.
-use Rattle.std.proofs.Common.{inl, inr, ◌≡◌, ℕ, suc, ◌+◌, Bool, true, false, cond, not, ◌&&◌, ◌||◌, List, [], ◌∷◌, ◌++◌, map, Option, None, Some, refl, sym, ap, ◌∙◌, length, get_or, drop, arith, append_assoc}
+use Rattle.std.proofs.Common.{inl, inr, ◌≡◌, ℕ, Bool, true, false, cond, not, ◌&&◌, ◌||◌, List, [], ◌∷◌, ◌++◌, map, Option, None, Some, refl, sym, ap, ◌∙◌, length, get_or, drop, arith, append_assoc}
 use Rattle.std.specs.Prelude.{◌==◌, nat_lt, nat_le, codes}
-use Rattle.std.specs.List.{list_all, fold, prefix_len}
+use Rattle.std.specs.List.{list_all, flat_map, prefix_len}
 use Rattle.std.specs.Char.{is_ascii_punctuation}
 use Rattle.std.proofs.lemmas.Bool.{cases_Bool, cond-true, cond-false, cond_both, both_ways, and_parts, or_parts, or_from, eqb-true, not-true}
 use Rattle.std.proofs.lemmas.Grind.{common_steps}
-use Rattle.std.proofs.lemmas.List.{append-nil}
 use Rattle.markdown_definition.specs.Columns.{is_white, indent, bare}
 use Rattle.markdown_definition.specs.Letters.{begins_with}
 use Rattle.markdown_definition.specs.Runs.{run}
 use Rattle.markdown_definition.specs.Content.{is_eol}
 use Rattle.markdown_definition.specs.Encode.{encoded_byte, encode}
 use Rattle.markdown_definition.specs.InlineCode.{InlineCode, codes_of}
-use Rattle.markdown_definition.specs.Inline.{Inline, Data, Escape, Inlines, Nil, Cons, followed_by, Leaf, leaf, or_else}
+use Rattle.markdown_definition.specs.Inline.{Inline, Data, Escape, Leaf, leaf, or_else}
 use Rattle.markdown_definition.specs.CharacterEscape.{escape_at}
 use Rattle.markdown_definition.specs.CharacterReference.{reference_after, reference_form, reference_of, reference_at}
 use Rattle.markdown_definition.specs.CodeText.{code_text_at}
@@ -20,18 +19,15 @@ use Rattle.markdown_definition.specs.Autolink.{autolink_at}
 use Rattle.markdown_definition.specs.HtmlText.{html_text_at}
 use Rattle.markdown_definition.specs.HardBreak.{ends_inner_line, ends_here, line_end_at, escaped_break_at, line_spaces_at}
 use Rattle.markdown_definition.specs.Attention.{is_marker, run_at}
-use Rattle.markdown_definition.specs.Pairing.{Pair, pairs}
-use Rattle.markdown_definition.specs.Spans.{Token, Item, runs_of, Holds, rows_from, Nest, nest, nest_row, nested, emphasized}
+use Rattle.markdown_definition.specs.Spans.{Token, Item, emphasized}
 use Rattle.markdown_definition.specs.Scan.{InlineContext, leaf_at, label_start_at, text, Reading, reading, read_tokens, Next, data_step, label_end_step, step, scan, whole_text}
 use Rattle.markdown_definition.specs.InlineHtml.{InlineMeaning, part_html, inline_html}
 use Rattle.markdown_definition.proofs.Scanning.{scan_step, step_leaf, step_last}
+use Rattle.markdown_definition.proofs.InlineParts.{read_nothing, white_codes, html_of_parts}
+use Rattle.markdown_definition.proofs.PlainText.{and_no, bare_white, bare_other}
 use Rattle.inline_laws.specs.Escaped.{escaped, is_line_byte, begins_with_space, ends_with_space, EscapeLaw}
 
 -- ---- a byte that isn't ASCII punctuation begins nothing
-
-and_no : (x y : Bool) → y ≡ false → (x && y) ≡ false
-and_no true y e = e
-and_no false y e = refl
 
 no_and : (x y : Bool) → x ≡ false → (x && y) ≡ false
 no_and x y e = ap (λ b. b && y) e
@@ -146,14 +142,6 @@ white_is_space b line white =
     ]
 
 -- after spaces something else follows
-bare_white : (b : ℕ) (rest : List ℕ) → is_white b ≡ true → bare (b ∷ rest) ≡ bare rest
-bare_white b rest white =
-    let e : indent (b ∷ rest) ≡ suc (indent rest) = cond-true (is_white b) (1 + indent rest) 0 white ∙ omega arith in
-    ap (λ n. drop n (b ∷ rest)) e
-
-bare_other : (b : ℕ) (rest : List ℕ) → is_white b ≡ false → bare (b ∷ rest) ≡ b ∷ rest
-bare_other b rest not_white = let e : indent (b ∷ rest) ≡ 0 = cond-false (is_white b) (1 + indent rest) 0 not_white in ap (λ n. drop n (b ∷ rest)) e
-
 goes_on_from : (b : ℕ) (bs : List ℕ) → is_line_byte b ≡ true → (is_white b ≡ true → ends_here (bare (escaped bs)) ≡ false)
     → ends_here (bare (escaped (b ∷ bs))) ≡ false
 goes_on_from b bs line after =
@@ -189,10 +177,7 @@ unfolding part_of
 data_part b off = cond-false _ _ _ off
 
 abbrev tokens_of : List ℕ → List Token
-tokens_of bytes = map (λ b. Item (part_of b)) bytes
-
-read_nothing : (r : Reading) → r ≡ read_tokens [] r
-read_nothing r = ap (λ ts. reading (text ts r.now.holds_link) r.open_labels) (sym (append-nil r.now.tokens))
+tokens_of bytes = map Item (map part_of bytes)
 
 read_more : (t : Token) (ts : List Token) (r : Reading) → read_tokens ts (read_tokens (t ∷ []) r) ≡ read_tokens (t ∷ ts) r
 read_more t ts r = ap (λ us. reading (text us r.now.holds_link) r.open_labels) (append_assoc r.now.tokens (t ∷ []) ts)
@@ -269,10 +254,6 @@ module _ (context : InlineContext) (on : context.on.character_escape ≡ true) w
 
 -- ---- what it prints
 
-white_of : (content : List InlineCode) → prefix_len (λ (c : InlineCode). is_white c.code) content ≡ prefix_len is_white (codes_of content)
-white_of [] = refl
-white_of (c ∷ cs) = ap (λ n. cond (is_white c.code) (1 + n) 0) (white_of cs)
-
 no_white_first : (bytes : List ℕ) → list_all is_line_byte bytes ≡ true → begins_with_space bytes ≡ false → prefix_len is_white (escaped bytes) ≡ 0
 no_white_first [] lines first = refl
 no_white_first (b ∷ bs) lines first =
@@ -285,40 +266,23 @@ no_white_first (b ∷ bs) lines first =
           ap (prefix_len is_white) (escaped_other b bs off) ∙ cond-false (is_white b) _ 0 not_white
     ]
 
-no_runs : (bytes : List ℕ) → runs_of (tokens_of bytes) ≡ []
-no_runs [] = refl
-no_runs (b ∷ bs) = no_runs bs
-
-held : (ps : List Pair) (bytes : List ℕ) → rows_from ps 0 (tokens_of bytes) ≡ map (λ b. Holds (part_of b)) bytes
-held ps [] = refl
-held ps (b ∷ bs) = ap (λ rows. Holds (part_of b) ∷ rows) (held ps bs)
-
 module _ (meaning : InlineMeaning) where
-  html_followed : (is : Inlines) (last : Inline) → inline_html meaning (followed_by is last) ≡ inline_html meaning is ++ part_html meaning last
-  html_followed Nil last = append-nil (part_html meaning last)
-  html_followed (Cons i is) last =
-      ap (λ x. part_html meaning i ++ x) (html_followed is last) ∙ sym (append_assoc (part_html meaning i) (inline_html meaning is) (part_html meaning last))
-
   html_of_byte : (b : ℕ) → part_html meaning (part_of b) ≡ encoded_byte b
   unfolding part_of
   html_of_byte b = cond_both (is_ascii_punctuation b) (Escape b) (Data b) (λ i. part_html meaning i ≡ encoded_byte b) (λ _. refl) (λ _. refl)
 
-  html_held : (n : Nest) (bytes : List ℕ) → inline_html meaning (fold nest_row n (map (λ b. Holds (part_of b)) bytes)).now ≡ inline_html meaning n.now ++ encode bytes
-  html_held n [] = sym (append-nil (inline_html meaning n.now))
-  html_held n (b ∷ bs) =
-      html_held (nest_row n (Holds (part_of b))) bs
-      ∙ ap (λ x. x ++ encode bs) (html_followed n.now (part_of b) ∙ ap (λ x. inline_html meaning n.now ++ x) (html_of_byte b))
-      ∙ append_assoc (inline_html meaning n.now) (encoded_byte b) (encode bs)
+  html_of_bytes : (bytes : List ℕ) → flat_map (part_html meaning) (map part_of bytes) ≡ encode bytes
+  html_of_bytes [] = refl
+  html_of_bytes (b ∷ bs) =
+      ap (λ x. x ++ flat_map (part_html meaning) (map part_of bs)) (html_of_byte b) ∙ ap (λ x. encoded_byte b ++ x) (html_of_bytes bs)
 
   html_of_tokens : (bytes : List ℕ) → inline_html meaning (emphasized (tokens_of bytes)) ≡ encode bytes
-  html_of_tokens bytes =
-      let ps = pairs (runs_of (tokens_of bytes)) in
-      ap (λ rows. inline_html meaning (nested rows)) (held ps bytes) ∙ html_held (nest Nil []) bytes
+  html_of_tokens bytes = html_of_parts meaning (map part_of bytes) ∙ html_of_bytes bytes
 
 pub escape_law : EscapeLaw
 escape_law context meaning content bytes on lines first last e =
     let start = prefix_len (λ (c : InlineCode). is_white c.code) content in
-    let none : start ≡ 0 = white_of content ∙ ap (prefix_len is_white) e ∙ no_white_first bytes lines first in
+    let none : start ≡ 0 = white_codes content ∙ ap (prefix_len is_white) e ∙ no_white_first bytes lines first in
     let r : Reading = reading (text [] false) [] in
     let read : scan context 0 r content ≡ read_tokens (tokens_of bytes) r = scan_escaped context on bytes content r lines last e in
     ap (λ n. inline_html meaning (emphasized (whole_text (scan context 0 r (drop n content))).tokens)) none

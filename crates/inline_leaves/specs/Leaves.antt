@@ -25,7 +25,7 @@ use Rattle.inline_leaves.specs.declared.leaf.LeafPart.TheVariants.{Escape, Chara
 
 -- the parts that a construct makes
 abbrev pub parts_of : LeafPart → List Inline
-parts_of (Escape byte) = inline.Escape byte ∷ []
+parts_of (Escape text) = map inline.Escape text.now
 parts_of (Character text) = inline.Character text.now ∷ []
 parts_of (Number radix digits) = inline.Character (numbered_text (number_of radix digits.now)) ∷ []
 parts_of (Code text) = inline.Code (code_text (content_codes text.now)) ∷ []

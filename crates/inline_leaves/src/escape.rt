@@ -6,7 +6,7 @@ ghost use Rattle.markdown_definition.specs.CharacterEscape.{escape_at};
 ghost use Rattle.markdown_definition.specs.Content.{content_codes};
 ghost use Rattle.inline_leaves.specs.Leaves.{found_leaf, escape_leaf, IsAfter, IsEscape};
 
-use crate::cut::cut_after;
+use crate::cut::{cut_after, text_between};
 use crate::leaf::{Leaf, LeafPart};
 use markdown_options::Constructs;
 
@@ -15,9 +15,9 @@ pub fn escape_at<'a>(on: &Constructs, content: &'a str) -> Option<Leaf<'a>>
     ensures read { found_leaf content.now result ≡ escape_at on.now (content_codes content.now) }
     ensures place { IfSome result (λ found. IsAfter content.now found.after.now) }
 {
-    let byte = escaped_byte(on, content.as_bytes())?;
+    let _byte = escaped_byte(on, content.as_bytes())?;
     Some(Leaf {
-        part: LeafPart::Escape(byte),
+        part: LeafPart::Escape(text_between(content, 1, 2)),
         after: cut_after(content, 2),
     })
 }

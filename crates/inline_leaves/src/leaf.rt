@@ -4,8 +4,8 @@ use markdown_options::LineEnding;
 /// A construct that holds no other, with what of the content it prints.
 #[derive(Clone, Copy, Debug, PartialEq, Eq)]
 pub enum LeafPart<'a> {
-    /// The byte that a backslash escapes (CommonMark 2.4).
-    Escape(u8),
+    /// The one byte that a backslash escapes, which is ASCII punctuation (CommonMark 2.4).
+    Escape(&'a str),
     /// The text that a name stands for (CommonMark 2.5).
     Character(&'a str),
     /// A character by its number: 1 to 7 decimal digits, or 1 to 6 hexadecimal ones (CommonMark 2.5).

@@ -50,7 +50,7 @@ fn begins(content: &str, part: LeafPart<'_>, after: &str) -> bool {
 
 #[test]
 fn escapes_and_references(rt: HostRuntime) {
-    assert!(rt; begins("\\*a", LeafPart::Escape(b'*'), "a"));
+    assert!(rt; begins("\\*a", LeafPart::Escape("*"), "a"));
     assert!(rt; begins("&amp;a", LeafPart::Character("&"), "a"));
     assert!(rt;
         begins(

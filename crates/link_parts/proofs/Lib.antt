@@ -1,5 +1,6 @@
 pub mod Bare
 pub mod Cuts
+pub mod DefinitionTexts
 pub mod Places
 pub mod Splits
 pub mod Texts

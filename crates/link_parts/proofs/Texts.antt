@@ -138,10 +138,10 @@ before_ascii front (c ∷ after) h t =
 -- ---- what follows
 
 -- what follows the first codes of a text
-record TextAfter (cs rest : List ℕ) : Type 0 where
-  front : List ℕ
-  whole : cs ≡ front ++ rest
-  text : IsText rest
+pub record TextAfter (cs rest : List ℕ) : Type 0 where
+  pub front : List ℕ
+  pub whole : cs ≡ front ++ rest
+  pub text : IsText rest
 
 after_nothing : (cs : List ℕ) → IsText cs → TextAfter cs cs
 after_nothing cs t = record { front = []; whole = refl; text = t }
@@ -168,10 +168,10 @@ between opening closing cs p o c e t =
 pub label_text : (cs : List ℕ) (p : Part) → IsText cs → label_at cs ≡ Some p → PartText cs p
 label_text cs p t e = between 91 93 cs p refl refl (label_whole cs p e) t
 
-title_text : (cs : List ℕ) (p : Part) → IsText cs → title_at cs ≡ Some p → PartText cs p
+pub title_text : (cs : List ℕ) (p : Part) → IsText cs → title_at cs ≡ Some p → PartText cs p
 title_text cs p t e = let h = title_whole cs p e in between h.opening h.closing cs p h.opening_ascii h.closing_ascii h.whole t
 
-destination_text : (depth : Option ℕ) (cs : List ℕ) (p : Part) → IsText cs → destination_at depth cs ≡ Some p → PartText cs p
+pub destination_text : (depth : Option ℕ) (cs : List ℕ) (p : Part) → IsText cs → destination_at depth cs ≡ Some p → PartText cs p
 destination_text depth cs p t e = elim ((destination_whole depth cs p e).whole) [
   | inl h ↦ between 60 62 cs p refl refl h t
   | inr h ↦
@@ -184,7 +184,7 @@ after_one c cs rest h t later =
     let k = later (around [] cs c h t).1 in
     record { front = c ∷ k.front; whole = ap (λ x. c ∷ x) k.whole; text = k.text }
 
-spaces_text : (cs : List ℕ) → IsText cs → TextAfter cs (after_spaces cs)
+pub spaces_text : (cs : List ℕ) → IsText cs → TextAfter cs (after_spaces cs)
 spaces_text [] t = after_nothing [] t
 spaces_text (c ∷ cs) t = elim (cases_Bool (is_white c)) [
   | inl h ↦
@@ -202,7 +202,7 @@ ending_text (c ∷ cs) t = elim (cases_Bool (is_eol c)) [
   | inr h ↦ subst (TextAfter (c ∷ cs)) (sym (cond-false (is_eol c) _ _ h)) (after_nothing (c ∷ cs) t)
 ]
 
-white_text : (cs : List ℕ) → IsText cs → TextAfter cs (after_white cs)
+pub white_text : (cs : List ℕ) → IsText cs → TextAfter cs (after_white cs)
 white_text cs t =
     let h = spaces_text cs t in
     let k = ending_text (after_spaces cs) h.text in

@@ -6,8 +6,11 @@ use Rattle.std.specs.Str.{IsUtf8}
 use Rattle.markdown_definition.specs.Columns.{code_byte}
 use Rattle.markdown_definition.specs.Content.{content_codes, part}
 use Rattle.markdown_definition.specs.Content as content
+use Rattle.markdown_definition.specs.LinkDefinition.{definition}
+use Rattle.markdown_definition.specs.LinkDefinition as link_definition
 use Rattle.markdown_definition.specs.Resource as resource
 use Rattle.link_parts.specs.Codes.{IsCut}
+use Rattle.link_parts.specs.declared.text.TextDefinition.{TextDefinition}
 use Rattle.link_parts.specs.declared.text.TextPart.{TextPart}
 use Rattle.link_parts.specs.declared.text.TextResource.{TextResource}
 
@@ -33,6 +36,14 @@ text_resource read =
 abbrev pub found_text_resource : Option TextResource → Option resource.LinkResource
 found_text_resource None = None
 found_text_resource (Some read) = Some (text_resource read)
+
+abbrev pub text_definition : TextDefinition → link_definition.Definition
+text_definition read =
+    definition (content_codes read.label.now) (content_codes read.destination.now) (option_map (λ text. content_codes text.now) read.title) (content_codes read.rest.now)
+
+abbrev pub found_text_definition : Option TextDefinition → Option link_definition.Definition
+found_text_definition None = None
+found_text_definition (Some read) = Some (text_definition read)
 
 -- what follows the first codes of a content, at least one
 pub record IsLater (content rest : List ℕ) : Type 0 where

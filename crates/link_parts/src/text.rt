@@ -1,12 +1,14 @@
-//! Labels and resources of a content that is a text, in texts.
+//! Labels, resources and definitions of a content that is a text, in texts.
 //!
 //! What is read of a text is a text: it stands between ASCII characters.
 ghost use Rattle.std.specs.Prelude.{◌≡◌, IfSome};
 ghost use Rattle.markdown_definition.specs.Content.{content_codes};
+ghost use Rattle.markdown_definition.specs.LinkDefinition.{definition_at};
 ghost use Rattle.markdown_definition.specs.LinkLabel.{label_at};
 ghost use Rattle.markdown_definition.specs.Resource.{resource_at};
-ghost use Rattle.link_parts.specs.Texts.{IsLater, IsText, found_text_part, found_text_resource};
+ghost use Rattle.link_parts.specs.Texts.{IsLater, IsText, found_text_definition, found_text_part, found_text_resource};
 
+use crate::definition::definition;
 use crate::label::label;
 use crate::resource::resource;
 
@@ -28,6 +30,19 @@ pub struct TextResource<'a> {
     pub title: Option<&'a str>,
     /// What follows the closing parenthesis.
     pub rest: &'a str,
+}
+
+/// A definition of a text, and what follows the line ending of its last line.
+#[derive(Clone, Copy)]
+pub struct TextDefinition<'a> {
+    /// The bytes between the brackets.
+    pub label: &'a [u8],
+    /// The destination, without the `<` and `>` around it.
+    pub destination: &'a str,
+    /// The title, without the quotes or parentheses around it.
+    pub title: Option<&'a str>,
+    /// The bytes after the line ending of the definition's last line.
+    pub rest: &'a [u8],
 }
 
 /// A label that a text begins with (CommonMark 6.3).
@@ -56,6 +71,23 @@ pub fn resource_of(content: &str) -> Option<TextResource<'_>>
         destination: text_of(read.destination),
         title,
         rest: text_of(read.rest),
+    })
+}
+
+/// A definition that a text begins with, at the start of a line (CommonMark 4.7).
+pub fn definition_of(content: &str) -> Option<TextDefinition<'_>>
+    ensures { found_text_definition result ≡ definition_at (content_codes content.now) }
+{
+    let definition = definition(content.as_bytes())?;
+    let title = match definition.title {
+        Some(title) => Some(text_of(title)),
+        None => None,
+    };
+    Some(TextDefinition {
+        label: definition.label,
+        destination: text_of(definition.destination),
+        title,
+        rest: definition.rest,
     })
 }
 

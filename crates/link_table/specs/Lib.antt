@@ -1,1 +1,1 @@
-pub mod Collected
+pub mod Read

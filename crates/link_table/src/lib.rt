@@ -1,7 +1,8 @@
-//! The labels of a document's link reference definitions.
+//! The link reference definitions of a document, and where they lead.
 #![tactic(auto)]
 
-mod collected;
-pub mod labels;
+pub mod contents;
+pub mod definitions;
 
-pub use labels::document_labels;
+pub use contents::{DefinitionContents, definition_contents};
+pub use definitions::{Definitions, document_definitions};

@@ -9,6 +9,7 @@ use Rattle.std.proofs.lemmas.List.{length-append, take_all}
 use Rattle.std.proofs.Math.Seq.{take-add}
 use Rattle.markdown_options.specs.declared.configuration.Options.{Options}
 use Rattle.markdown_definition.specs.Html.{html}
+use Rattle.builtin_tables.specs.Builtin.{builtin_tables}
 use Rattle.markdown.specs.Run.{AppendsBeginning}
 
 -- the next write goes on where the last one ended
@@ -35,30 +36,30 @@ pub still_working : (old new some : Bool) (n : ℕ) → new ≡ (old || ((eqb n 
 still_working old new some n e was took = e ∙ or_from old (eqb n 0 && some) was (and_left (eqb n 0) some (ne_eqb n 0 took))
 
 -- the page of the bytes that were read is that of the text
-pub page_of_text : (known old new : Option (List ℕ)) (bytes page : List ℕ) (options : Options) → IfSome known (λ text. bytes ≡ text) → page ≡ html bytes options
-    → Appends old new page → IfSome known (λ text. Appends old new (html text options))
+pub page_of_text : (known old new : Option (List ℕ)) (bytes page : List ℕ) (options : Options) → IfSome known (λ text. bytes ≡ text) → page ≡ html builtin_tables bytes options
+    → Appends old new page → IfSome known (λ text. Appends old new (html builtin_tables text options))
 page_of_text None old new bytes page options read made wrote = tt
-page_of_text (Some x) old new bytes page options read made wrote = subst (Appends old new) (made ∙ ap (λ t. html t options) read) wrote
+page_of_text (Some x) old new bytes page options read made wrote = subst (Appends old new) (made ∙ ap (λ t. html builtin_tables t options) read) wrote
 
 -- ---- a run and a flush
 
 -- nothing was written
-pub begins_kept : (known a b : Option (List ℕ)) (options : Options) → Keeps a b → IfSome known (λ text. AppendsBeginning a b (html text options))
+pub begins_kept : (known a b : Option (List ℕ)) (options : Options) → Keeps a b → IfSome known (λ text. AppendsBeginning a b (html builtin_tables text options))
 begins_kept None a b options kept = tt
 begins_kept (Some x) a b options kept = (0, Appends-kept a a b [] (Appends-nil a) kept)
 
 -- all was written before a flush
-pub written_kept : (known a b c : Option (List ℕ)) (options : Options) → IfSome known (λ text. Appends a b (html text options)) → Keeps b c
-    → IfSome known (λ text. Appends a c (html text options))
+pub written_kept : (known a b c : Option (List ℕ)) (options : Options) → IfSome known (λ text. Appends a b (html builtin_tables text options)) → Keeps b c
+    → IfSome known (λ text. Appends a c (html builtin_tables text options))
 written_kept None a b c options wrote kept = tt
-written_kept (Some x) a b c options wrote kept = Appends-kept a b c (html x options) wrote kept
+written_kept (Some x) a b c options wrote kept = Appends-kept a b c (html builtin_tables x options) wrote kept
 
 -- a whole page is a beginning of itself
-pub begins_whole : (known a c : Option (List ℕ)) (options : Options) → IfSome known (λ text. Appends a c (html text options))
-    → IfSome known (λ text. AppendsBeginning a c (html text options))
+pub begins_whole : (known a c : Option (List ℕ)) (options : Options) → IfSome known (λ text. Appends a c (html builtin_tables text options))
+    → IfSome known (λ text. AppendsBeginning a c (html builtin_tables text options))
 begins_whole None a c options wrote = tt
 begins_whole (Some x) a c options wrote =
-    let page = html x options in
+    let page = html builtin_tables x options in
     (length page, subst (Appends a c) (sym (take_all (length page) page (omega arith))) wrote)
 
 -- what holds holds of an error

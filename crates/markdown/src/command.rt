@@ -1,12 +1,13 @@
 //! The program, over any reader and writer.
 ghost use Rattle.std.specs.Prelude.{◌≡◌, ◌≤◌, ◌↔◌, IfSome, OnOk, OnErr, map, string_bytes, true, false};
 ghost use Rattle.std.specs.Io.KnownBytes.{Appends, Keeps};
-ghost use Rattle.markdown.specs.Plain.{options_of, options_with, default_built};
+ghost use Rattle.markdown.specs.Plain.{options_of, plain_options, dangerous_options};
 ghost use Rattle.markdown_options.specs.Built.{is_built};
 ghost use Rattle.markdown_definition.specs.Html.{html};
+ghost use Rattle.builtin_tables.specs.Builtin.{builtin_tables};
 ghost use Rattle.markdown.specs.Run.{AppendsBeginning};
 ghost use Rattle.markdown.specs.Watched.{device, has_failed};
-ghost use Rattle.markdown.specs.Words.{is_command};
+ghost use Rattle.markdown.specs.Words.{is_command, is_plain, is_dangerous};
 
 use crate::run::{RunError, run_with_options};
 use crate::watched::Watched;
@@ -38,11 +39,11 @@ pub fn program<R: Read, W: Write, F: Write>(
 
     // 0: the page of all that was read was written, and nothing else.
     ensures ok { result ≡ 0 → IfSome (R.remaining (device reader.old)) (λ text.
-        Appends (W.contents (device writer.old)) (W.contents (device writer.new)) (html text (options_of (map string_bytes words.now)))) }
+        Appends (W.contents (device writer.old)) (W.contents (device writer.new)) (html builtin_tables text (options_of (map string_bytes words.now)))) }
 
     // 1: what was written is a beginning of the page.
     ensures fault { result ≡ 1 → IfSome (R.remaining (device reader.old)) (λ text.
-        AppendsBeginning (W.contents (device writer.old)) (W.contents (device writer.new)) (html text (options_of (map string_bytes words.now)))) }
+        AppendsBeginning (W.contents (device writer.old)) (W.contents (device writer.new)) (html builtin_tables text (options_of (map string_bytes words.now)))) }
 
     // 2: the words are no command line, and nothing was written.
     ensures words { (result ≡ 2) ↔ (is_command (map string_bytes words.now) ≡ false) }
@@ -62,57 +63,66 @@ pub fn program<R: Read, W: Write, F: Write>(
     }
 }
 
-/// Whether there are no words, or `--plain` alone.
+/// Whether there are no words, or `--plain` or `--dangerous` alone.
 fn is_command(words: &[String]) -> bool
     ensures { result ≡ is_command (map string_bytes words.now) }
 {
     match words {
         [] => true,
-        [word] => word.as_str() == "--plain",
+        [word] => is_plain(word) || is_dangerous(word),
         _ => false,
     }
 }
 
-/// The options that the words ask for: no words the defaults, `--plain` no constructs.
+fn is_plain(word: &str) -> bool
+    ensures { result ≡ is_plain word.now }
+{
+    word == "--plain"
+}
+
+fn is_dangerous(word: &str) -> bool
+    ensures { result ≡ is_dangerous word.now }
+{
+    word == "--dangerous"
+}
+
+/// The options that the words ask for: no words the defaults, `--dangerous` HTML of the text and
+/// every protocol, `--plain` no constructs.
 fn options_of(words: &[String]) -> Options
     ensures options { result ≡ options_of (map string_bytes words.now) }
     ensures built { is_built result.parse.constructs ≡ true }
 {
-    if words.is_empty() {
-        options_with(default_built())
-    } else {
-        options_with(Constructs::none())
+    match words.first() {
+        None => Options::default(),
+        Some(word) if is_dangerous(word) => dangerous_options(),
+        Some(_) => plain_options(),
     }
 }
 
-/// The default options with other constructs.
-fn options_with(constructs: Constructs) -> Options
-    ensures { result ≡ options_with constructs }
+/// The default options with every construct off.
+fn plain_options() -> Options
+    ensures { result ≡ plain_options }
 {
     Options {
         parse: ParseOptions {
-            constructs,
+            constructs: Constructs::none(),
             ..ParseOptions::default()
         },
         compile: CompileOptions::default(),
     }
 }
 
-/// The default constructs that can be read so far.
-fn default_built() -> Constructs
-    ensures { result ≡ default_built }
+/// The default options, but HTML of the text is printed as it is, and links may have any protocol.
+fn dangerous_options() -> Options
+    ensures { result ≡ dangerous_options }
 {
-    Constructs {
-        block_quote: true,
-        code_fenced: true,
-        code_indented: true,
-        definition: true,
-        heading_atx: true,
-        heading_setext: true,
-        html_flow: true,
-        list_item: true,
-        thematic_break: true,
-        ..Constructs::none()
+    Options {
+        parse: ParseOptions::default(),
+        compile: CompileOptions {
+            allow_dangerous_html: true,
+            allow_dangerous_protocol: true,
+            ..CompileOptions::default()
+        },
     }
 }
 
@@ -126,9 +136,9 @@ fn page<R: Read, W: Write>(
     requires reader { has_failed reader.old ≡ false }
     requires writer { has_failed writer.old ≡ false }
     ensures ok { OnOk result (IfSome (R.remaining (device reader.old)) (λ text.
-        Appends (W.contents (device writer.old)) (W.contents (device writer.new)) (html text (options_of (map string_bytes words.now))))) }
+        Appends (W.contents (device writer.old)) (W.contents (device writer.new)) (html builtin_tables text (options_of (map string_bytes words.now))))) }
     ensures fault { OnErr result (IfSome (R.remaining (device reader.old)) (λ text.
-        AppendsBeginning (W.contents (device writer.old)) (W.contents (device writer.new)) (html text (options_of (map string_bytes words.now))))) }
+        AppendsBeginning (W.contents (device writer.old)) (W.contents (device writer.new)) (html builtin_tables text (options_of (map string_bytes words.now))))) }
 {
     let options = options_of(words);
     run_with_options(alloc, reader, writer, &options)?;

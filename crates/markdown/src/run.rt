@@ -5,11 +5,12 @@ ghost use Rattle.std.specs.Io.{appended_bytes, StartsWith};
 ghost use Rattle.std.specs.Io.KnownBytes.{Appends, Consumes, IsAtEnd, Keeps};
 ghost use Rattle.markdown_options.specs.Built.{is_built};
 ghost use Rattle.markdown_definition.specs.Html.{html};
+ghost use Rattle.builtin_tables.specs.Builtin.{builtin_tables};
 ghost use Rattle.markdown.specs.Watched.{device, has_failed};
 ghost use Rattle.markdown.specs.Faults.{is_read_error, is_write_error, is_size_error, is_utf8_error, read_failed, write_failed};
 ghost use Rattle.markdown.specs.Run.{AppendsBeginning};
 
-use crate::to_html::{SIZE_MAX, to_html_with_options};
+use crate::convert::{SIZE_MAX, to_html_with_options};
 use crate::watched::Watched;
 use markdown_options::{Message, Options};
 use std::alloc::{AllocError, Allocator};
@@ -49,7 +50,7 @@ pub fn run_with_options<A: Allocator + Clone, R: Read, W: Write>(
 
     // All of the page was written, and nothing else.
     ensures ok { OnOk result (IfSome (R.remaining (device reader.old)) (λ text.
-        Appends (W.contents (device writer.old)) (W.contents (device writer.new)) (html text options.now))) }
+        Appends (W.contents (device writer.old)) (W.contents (device writer.new)) (html builtin_tables text options.now))) }
 
     // `Read` comes exactly where the reader failed, `Write` and `Stopped` where the writer did.
     ensures read { has_failed reader.new ≡ read_failed result }
@@ -57,7 +58,7 @@ pub fn run_with_options<A: Allocator + Clone, R: Read, W: Write>(
 
     // What was written is then a beginning of the page, and otherwise nothing.
     ensures beginning { IfErr result (λ e. is_write_error e ≡ true → IfSome (R.remaining (device reader.old)) (λ text.
-        AppendsBeginning (W.contents (device writer.old)) (W.contents (device writer.new)) (html text options.now))) }
+        AppendsBeginning (W.contents (device writer.old)) (W.contents (device writer.new)) (html builtin_tables text options.now))) }
     ensures nothing { IfErr result (λ e. is_write_error e ≡ false →
         Keeps (W.contents (device writer.old)) (W.contents (device writer.new))) }
 
@@ -78,7 +79,7 @@ fn page_of<A: Allocator + Clone>(
 ) -> Result<String<A>, RunError>
     requires built { is_built options.now.parse.constructs ≡ true }
     requires fits { length bytes.now ≤ SIZE_MAX }
-    ensures ok { IfOk result (λ page. string_bytes page ≡ html bytes.now options.now) }
+    ensures ok { IfOk result (λ page. string_bytes page ≡ html builtin_tables bytes.now options.now) }
     ensures others { IfErr result (λ e. (is_read_error e ≡ false) × (is_write_error e ≡ false) × (is_size_error e ≡ false)) }
     ensures utf8 { IfErr result (λ e. is_utf8_error e ≡ true → ¬ IsUtf8 bytes.now) }
 {

@@ -72,7 +72,7 @@ module _ (S : Type 0) (f : S → List ℕ → Option (List ℕ)) (ends bad : S �
 label_off : (cs rest : List ℕ) → label_end false cs ≡ Some rest → TakesOff (label_end false) 93 cs rest
 label_off cs rest h = takes_off Bool label_end ends_label (λ st c. false) may_escape 93 (λ st. refl) (λ st c cs. refl) false cs rest h
 
-angle_off : (cs rest : List ℕ) → angle_end false cs ≡ Some rest → TakesOff (angle_end false) 62 cs rest
+pub angle_off : (cs rest : List ℕ) → angle_end false cs ≡ Some rest → TakesOff (angle_end false) 62 cs rest
 angle_off cs rest h = takes_off Bool angle_end ends_angle (λ st c. false) may_escape 62 (λ st. refl) (λ st c cs. refl) false cs rest h
 
 -- of a title: whether the code before was a backslash that escapes, and whether the line has only white space so far
@@ -89,7 +89,7 @@ pub record Closes (f : List ℕ → Option (List ℕ)) (k : ℕ) (cs : List ℕ)
   pub here : cs ≡ p.text ++ k ∷ p.rest
   pub anywhere : (s : List ℕ) → closed_by (p.text ++ k ∷ s) (f (p.text ++ k ∷ s)) ≡ Some (part p.text s)
 
-closes : (f : List ℕ → Option (List ℕ)) (k : ℕ) (cs : List ℕ) → ((rest : List ℕ) → f cs ≡ Some rest → TakesOff f k cs rest)
+pub closes : (f : List ℕ → Option (List ℕ)) (k : ℕ) (cs : List ℕ) → ((rest : List ℕ) → f cs ≡ Some rest → TakesOff f k cs rest)
     → (p : Part) → closed_by cs (f cs) ≡ Some p → Closes f k cs p
 closes f k cs off p h = go (f cs) refl
   where
@@ -154,7 +154,7 @@ label_reads (c ∷ cs) p h = elim (cases_Bool (eqb c 91)) [
   | inr e ↦ absurd (none-some p (sym (cond-false (eqb c 91) _ _ e) ∙ h))
 ]
 
-title_until_reads : (o : Option ℕ) (cs : List ℕ) (p : Part) → title_until o cs ≡ Some p
+pub title_until_reads : (o : Option ℕ) (cs : List ℕ) (p : Part) → title_until o cs ≡ Some p
     → (k : ℕ) × (o ≡ Some k) × Closes (title_end k false false) k cs p
 title_until_reads None cs p h = absurd (none-some p h)
 title_until_reads (Some k) cs p h = (k, refl, closes (title_end k false false) k cs (title_off k cs) p h)

@@ -1,8 +1,12 @@
+mod SmallTables
 mod Rows
 mod LeafRows
 mod ReferenceTexts
 mod UrlTexts
 pub mod Plain
+pub mod Scanning
+pub mod InlineParts
+pub mod PlainText
 pub mod Visible
 pub mod LinkRenaming
 pub mod ContentBytes
@@ -17,5 +21,5 @@ pub mod DefinitionRows
 pub mod LabelWords
 pub mod NearestOpener
 pub mod ClosingRuns
-pub mod Scanning
 pub mod InlineSizes
+pub mod ReferenceForms

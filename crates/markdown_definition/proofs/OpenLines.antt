@@ -29,21 +29,21 @@ use Rattle.markdown_definition.specs.Tree.{BlockLine, Blocks, OpenLeaf, Text, In
 
 -- ---- codes without a line ending
 
-clear-drop : (n : ℕ) (cs : List ℕ) → HaveNoEnding cs → HaveNoEnding (drop n cs)
+pub clear-drop : (n : ℕ) (cs : List ℕ) → HaveNoEnding cs → HaveNoEnding (drop n cs)
 clear-drop zero cs h = h
 clear-drop (suc n) [] h = tt
 clear-drop (suc n) (c ∷ cs) h = clear-drop n cs h.1
 
-clear-take : (n : ℕ) (cs : List ℕ) → HaveNoEnding cs → HaveNoEnding (take n cs)
+pub clear-take : (n : ℕ) (cs : List ℕ) → HaveNoEnding cs → HaveNoEnding (take n cs)
 clear-take zero cs h = tt
 clear-take (suc n) [] h = tt
 clear-take (suc n) (c ∷ cs) h = (h.0, clear-take n cs h.1)
 
-clear-append : (cs ds : List ℕ) → HaveNoEnding cs → HaveNoEnding ds → HaveNoEnding (cs ++ ds)
+pub clear-append : (cs ds : List ℕ) → HaveNoEnding cs → HaveNoEnding ds → HaveNoEnding (cs ++ ds)
 clear-append [] ds h k = k
 clear-append (c ∷ cs) ds h k = (h.0, clear-append cs ds h.1 k)
 
-clear-filter : (test : ℕ → Bool) (cs : List ℕ) → HaveNoEnding cs → HaveNoEnding (filter test cs)
+pub clear-filter : (test : ℕ → Bool) (cs : List ℕ) → HaveNoEnding cs → HaveNoEnding (filter test cs)
 clear-filter test [] h = tt
 clear-filter test (c ∷ cs) h =
     cond_both (test c) (c ∷ filter test cs) (filter test cs) HaveNoEnding (λ _. (h.0, clear-filter test cs h.1)) (λ _. clear-filter test cs h.1)
@@ -52,7 +52,7 @@ clear_columns : (n : ℕ) → HaveNoEnding (replicate n tab_column)
 clear_columns zero = tt
 clear_columns (suc n) = (refl, clear_columns n)
 
-clear_codes : (column : ℕ) (bs : List ℕ) → HaveNoEnding bs → HaveNoEnding (codes_from column bs)
+pub clear_codes : (column : ℕ) (bs : List ℕ) → HaveNoEnding bs → HaveNoEnding (codes_from column bs)
 clear_codes column [] h = tt
 clear_codes column (b ∷ bs) h =
     let n = columns_after_tab column in
@@ -82,12 +82,12 @@ some_code rest h = omega (arith, some_byte rest h, length-append (take (prefix_l
 -- ---- the lines of a text
 
 -- lines of a text: no line ending stands in them, and all but the last have one after them
-abbrev AreTextLines : List TextLine → Type 0
+abbrev pub AreTextLines : List TextLine → Type 0
 AreTextLines [] = Unit {0}
 AreTextLines (line ∷ []) = HaveNoEnding line.content
 AreTextLines (line ∷ next ∷ others) = HaveNoEnding line.content × ((e : LineEnding) × (line.ending ≡ Some e)) × AreTextLines (next ∷ others)
 
-first_clear : (line : TextLine) (others : List TextLine) → AreTextLines (line ∷ others) → HaveNoEnding line.content
+pub first_clear : (line : TextLine) (others : List TextLine) → AreTextLines (line ∷ others) → HaveNoEnding line.content
 first_clear line [] h = h
 first_clear line (next ∷ others) h = h.0
 
@@ -112,7 +112,7 @@ with_first b [] clear h = (clear, tt)
 with_first b (line ∷ []) clear h = (clear, h)
 with_first b (line ∷ next ∷ others) clear h = ((clear, h.0), h.1, h.2)
 
-lines_of_text : (text : List ℕ) → ((k : ℕ) → get_or text k 0 < 256) → AreTextLines (lines text)
+pub lines_of_text : (text : List ℕ) → ((k : ℕ) → get_or text k 0 < 256) → AreTextLines (lines text)
 lines_of_text [] h = tt
 lines_of_text (b ∷ bs) h =
     let small : b < 256 = h 0 in
@@ -125,13 +125,13 @@ lines_of_text (b ∷ bs) h =
 -- ---- the lines of a paragraph
 
 -- lines of a paragraph, the last of which has this ending
-abbrev AreLinesTo : Option LineEnding → List BlockLine → Type 0
+abbrev pub AreLinesTo : Option LineEnding → List BlockLine → Type 0
 AreLinesTo ending [] = Unit {0}
 AreLinesTo ending (line ∷ []) = HaveNoEnding line.codes × (0 < length line.codes) × (line.ending ≡ ending)
 AreLinesTo ending (line ∷ next ∷ others) =
     HaveNoEnding line.codes × (0 < length line.codes) × ((e : LineEnding) × (line.ending ≡ Some e)) × AreLinesTo ending (next ∷ others)
 
-are_lines : (ending : Option LineEnding) (ls : List BlockLine) → AreLinesTo ending ls → AreLines ls
+pub are_lines : (ending : Option LineEnding) (ls : List BlockLine) → AreLinesTo ending ls → AreLines ls
 are_lines ending [] h = tt
 are_lines ending (line ∷ []) h = (h.0, h.1)
 are_lines ending (line ∷ next ∷ others) h = (h.0, h.1, h.2, are_lines ending (next ∷ others) h.3)
@@ -146,11 +146,11 @@ one_more e (line ∷ next ∷ others) last clear some h = (h.0, h.1, h.2, one_mo
 -- ---- rests
 
 -- the rest after what goes on or starts, if anything does, has no line ending
-abbrev SomeClear : Option Rest → Type 0
+abbrev pub SomeClear : Option Rest → Type 0
 SomeClear None = Unit {0}
 SomeClear (Some rest) = HaveNoEnding rest
 
-abbrev StartedClear : Option Started → Type 0
+abbrev pub StartedClear : Option Started → Type 0
 StartedClear None = Unit {0}
 StartedClear (Some s) = HaveNoEnding s.rest
 
@@ -158,7 +158,7 @@ abbrev MarkerClear : Option Marker → Type 0
 MarkerClear None = Unit {0}
 MarkerClear (Some m) = HaveNoEnding m.rest
 
-clear_bare : (rest : Rest) → HaveNoEnding rest → HaveNoEnding (bare rest)
+pub clear_bare : (rest : Rest) → HaveNoEnding rest → HaveNoEnding (bare rest)
 clear_bare rest h = clear-drop (indent rest) rest h
 
 clear_after_byte : (byte : ℕ) (rest : Rest) → HaveNoEnding rest → SomeClear (after_byte byte rest)
@@ -203,11 +203,11 @@ clear_quote_or : (other : Option Started) (o : Option Rest) → StartedClear oth
 clear_quote_or other None h k = h
 clear_quote_or other (Some rest) h k = k
 
-clear_start : (on : Constructs) (interrupts : Bool) (rest : Rest) → HaveNoEnding rest → StartedClear (starts on interrupts rest)
+pub clear_start : (on : Constructs) (interrupts : Bool) (rest : Rest) → HaveNoEnding rest → StartedClear (starts on interrupts rest)
 clear_start on interrupts rest h =
     clear_quote_or (item_start on interrupts rest) (quote_prefix on rest) (clear_item on interrupts rest h) (clear_quote on rest h)
 
-clear_continue : (on : Constructs) (c : Container) (began_blank : Bool) (rest : Rest) → HaveNoEnding rest → SomeClear (continues on c began_blank rest)
+pub clear_continue : (on : Constructs) (c : Container) (began_blank : Bool) (rest : Rest) → HaveNoEnding rest → SomeClear (continues on c began_blank rest)
 clear_continue on Quote began_blank rest h = clear_quote on rest h
 clear_continue on (Item item) began_blank rest h =
     cond_both (is_inside item.size began_blank rest) _ _ SomeClear (λ _. clear-drop item.size rest h) (λ _. tt)
@@ -328,7 +328,7 @@ module _ (on : Constructs) (e : LineEnding) where
 -- ---- the lines of a text, one by one
 
 module _ (on : Constructs) where
-  open_step : (e : LineEnding) (t : Tree) (line : TextLine) → HaveNoEnding line.content → AreLinesTo (Some e) (open_text t.now)
+  pub open_step : (e : LineEnding) (t : Tree) (line : TextLine) → HaveNoEnding line.content → AreLinesTo (Some e) (open_text t.now)
       → AreLinesTo line.ending (open_text (step on t line).now)
   open_step e t line clear h = open_grow on e (beside_line line) t.now (whole line.content) (clear_codes 0 line.content clear) h
 

@@ -1,14 +1,13 @@
 -- What a page shows outside of tags and line endings.
-use Rattle.std.proofs.Common.{◌≡◌, ℕ, ◌+◌, ◌-◌, suc, zero, List, [], ◌∷◌, ◌++◌, Option, None, Some, Bool, true, false, cond, ◌||◌, not, eqb, inl, inr, refl, sym, ap, ◌∙◌, subst, append_assoc, take, drop, length}
+use Rattle.std.proofs.Common.{◌≡◌, ℕ, ◌+◌, ◌-◌, ◌<◌, suc, zero, List, [], ◌∷◌, ◌++◌, Option, None, Some, Bool, true, false, cond, ◌||◌, not, eqb, inl, inr, refl, sym, ap, ◌∙◌, subst, append_assoc, take, drop, length, get_or, arith}
 use Rattle.std.specs.Prelude.{replicate, codes}
-use Rattle.std.specs.List.{fold, filter, flat_map, prefix_len, suffix_len}
-use Rattle.std.proofs.lemmas.Bool.{cases_Bool, cond-true, cond-false, cond_both, or_from}
+use Rattle.std.specs.List.{All, fold, filter, flat_map, prefix_len, suffix_len}
+use Rattle.std.proofs.lemmas.Bool.{cases_Bool, cond-true, cond-false, cond_both, or_from, ne_eqb, eqb-true}
 use Rattle.std.proofs.lemmas.List.{append-nil}
 use Rattle.std.proofs.lemmas.List.Sums.{fold-append}
 use Rattle.std.proofs.lemmas.List.Concat.{flat_map-append}
 use Rattle.markdown_options.specs.declared.line_ending.LineEnding.{LineEnding}
 use Rattle.markdown_options.specs.declared.line_ending.LineEnding.TheVariants.{CarriageReturnLineFeed, CarriageReturn, LineFeed}
-use Rattle.markdown_options.specs.declared.configuration.CompileOptions.{CompileOptions}
 use Rattle.markdown_options.specs.declared.configuration.Options.{Options}
 use Rattle.markdown_options.specs.LineEndings.{ending_bytes}
 use Rattle.markdown_options.specs.Defaults.{no_constructs}
@@ -19,101 +18,97 @@ use Rattle.markdown_definition.specs.Encode.{replacement_character, encoded_byte
 use Rattle.markdown_definition.specs.Tree.{beside_line, BlockLine, Block, Paragraph, Ending, Blank, Blocks, Nil, Cons, join, one, Text, Opening, Leaf, Tree, tree, empty_tree, own_lines, close_leaf, close, rest_line, grow, step, closed, blocks}
 use Rattle.markdown_definition.specs.Lists.{before, grouped_block, grouped}
 use Rattle.markdown_definition.specs.Pieces.{Piece, Bytes, Fresh, is_fresh, print, layout}
-use Rattle.markdown_definition.specs.Html.{line_text, text_of, silences, block_pieces, children_pieces, ends_blank, last_piece, document_pieces, default_ending, marked_html}
+use Rattle.markdown_definition.specs.Html.{silences, block_pieces, children_pieces, ends_blank, last_piece, document_pieces, default_ending, blocks_html, marked_html}
+use Rattle.markdown_definition.specs.Targets.{document_definitions}
+use Rattle.markdown_definition.specs.Document.{TextTables, Document, document, text_of}
 use Rattle.markdown_definition.specs.Laws.{visible, is_not_blank, said_by, all_said_by, VisibleLaw}
+use Rattle.markdown_definition.proofs.PlainText.{line_text, plain_text, AreInLine, AreText, line_drop, first_line, other_lines, text_is_plain}
 use Rattle.markdown_definition.proofs.Plain.{paragraph, blank_tree, text_tree, plain_tree, plain_grow}
 
--- ---- bytes that end no line
+-- ---- the lines of a text
 
--- no byte is CR or LF
-abbrev EndsNowhere : List ℕ → Type 0
-EndsNowhere [] = Unit {0}
-EndsNowhere (b ∷ bs) = (ends_line b ≡ false) × EndsNowhere bs
-
--- parts of such bytes, and such bytes joined
-nowhere-append : (xs ys : List ℕ) → EndsNowhere xs → EndsNowhere ys → EndsNowhere (xs ++ ys)
-nowhere-append [] ys p q = q
-nowhere-append (x ∷ xs) ys p q = (p.0, nowhere-append xs ys p.1 q)
-
-nowhere-take : (n : ℕ) (xs : List ℕ) → EndsNowhere xs → EndsNowhere (take n xs)
-nowhere-take zero xs p = tt
-nowhere-take (suc n) [] p = tt
-nowhere-take (suc n) (x ∷ xs) p = (p.0, nowhere-take n xs p.1)
-
-nowhere-drop : (n : ℕ) (xs : List ℕ) → EndsNowhere xs → EndsNowhere (drop n xs)
-nowhere-drop zero xs p = p
-nowhere-drop (suc n) [] p = tt
-nowhere-drop (suc n) (x ∷ xs) p = nowhere-drop n xs p.1
-
-nowhere_bytes : (xs : List ℕ) → EndsNowhere xs → EndsNowhere (bytes_of xs)
-nowhere_bytes [] p = tt
-nowhere_bytes (x ∷ xs) p =
-    cond_both (is_byte x) (x ∷ bytes_of xs) (bytes_of xs) EndsNowhere (λ _. (p.0, nowhere_bytes xs p.1)) (λ _. nowhere_bytes xs p.1)
-
--- the codes of a line
-nowhere_columns : (n : ℕ) → EndsNowhere (replicate n tab_column)
-nowhere_columns zero = tt
-nowhere_columns (suc n) = (refl, nowhere_columns n)
-
-nowhere_codes : (column : ℕ) (bs : List ℕ) → EndsNowhere bs → EndsNowhere (codes_from column bs)
-nowhere_codes column [] p = tt
-nowhere_codes column (b ∷ bs) p =
+-- the codes of a line are its bytes
+no_columns : (column : ℕ) (bs : List ℕ) → AreInLine bs → prefix_len is_tab_column (codes_from column bs) ≡ 0
+no_columns column [] p = refl
+no_columns column (b ∷ bs) p =
     let n = columns_after_tab column in
     let after = column + 1 + n in
-    cond_both (eqb b 9) (9 ∷ (replicate n tab_column ++ codes_from after bs)) (b ∷ codes_from (column + 1) bs) EndsNowhere
-    (λ _. (refl, nowhere-append (replicate n tab_column) (codes_from after bs) (nowhere_columns n) (nowhere_codes after bs p.1)))
-    (λ _. (p.0, nowhere_codes (column + 1) bs p.1))
+    cond_both (eqb b 9) (9 ∷ (replicate n tab_column ++ codes_from after bs)) (b ∷ codes_from (column + 1) bs) (λ cs. prefix_len is_tab_column cs ≡ 0)
+    (λ _. refl) (λ _. cond-false (is_tab_column b) _ 0 (ne_eqb b 256 (λ e. omega (arith, e, p.1))))
 
-nowhere_in_block : (bs : List ℕ) → EndsNowhere bs → EndsNowhere (block_codes (whole bs))
-nowhere_in_block bs p =
-    let rest = whole bs in
-    let q : EndsNowhere rest = nowhere_codes 0 bs p in
-    let n = prefix_len is_tab_column rest in
-    nowhere-append (take n rest) (bytes_of rest) (nowhere-take n rest q) (nowhere_bytes rest q)
+bytes_after : (n : ℕ) (cs : List ℕ) → bytes_of (replicate n tab_column ++ cs) ≡ bytes_of cs
+bytes_after zero cs = refl
+bytes_after (suc n) cs = bytes_after n cs
 
-nowhere_trimmed : (xs : List ℕ) → EndsNowhere xs → EndsNowhere (trimmed xs)
-nowhere_trimmed xs p =
+same_bytes : (column : ℕ) (bs : List ℕ) → AreInLine bs → bytes_of (codes_from column bs) ≡ bs
+same_bytes column [] p = refl
+same_bytes column (b ∷ bs) p =
+    let n = columns_after_tab column in
+    let after = column + 1 + n in
+    cond_both (eqb b 9) (9 ∷ (replicate n tab_column ++ codes_from after bs)) (b ∷ codes_from (column + 1) bs) (λ cs. bytes_of cs ≡ b ∷ bs)
+    (λ tab. ap (λ x. 9 ∷ x) (bytes_after n (codes_from after bs) ∙ same_bytes after bs p.2) ∙ ap (λ x. x ∷ bs) (sym (eqb-true b 9 tab)))
+    (λ _.
+    cond-true (is_byte b) _ _ (ap not (ne_eqb b 256 (λ e. omega (arith, e, p.1))))
+    ∙ ap (λ x. b ∷ x) (same_bytes (column + 1) bs p.2))
+
+same_codes : (bs : List ℕ) → AreInLine bs → block_codes (whole bs) ≡ bs
+same_codes bs p = ap (λ n. take n (whole bs) ++ bytes_of (whole bs)) (no_columns 0 bs p) ∙ same_bytes 0 bs p
+
+in_block : (bs : List ℕ) → AreInLine bs → AreInLine (block_codes (whole bs))
+in_block bs p = subst AreInLine (sym (same_codes bs p)) p
+
+-- a part of a line
+line_take : (n : ℕ) (xs : List ℕ) → AreInLine xs → AreInLine (take n xs)
+line_take zero xs p = tt
+line_take (suc n) [] p = tt
+line_take (suc n) (x ∷ xs) p = (p.0, p.1, line_take n xs p.2)
+
+in_trimmed : (xs : List ℕ) → AreInLine xs → AreInLine (trimmed xs)
+in_trimmed xs p =
     let rest = drop (prefix_len is_white xs) xs in
-    nowhere-take (length rest - suffix_len is_white rest) rest (nowhere-drop (prefix_len is_white xs) xs p)
+    line_take (length rest - suffix_len is_white rest) rest (line_drop (prefix_len is_white xs) xs p)
 
--- ---- the lines of a text end nowhere inside
+-- no line holds CR or LF before its ending, and all but the last have one
+abbrev AreTextLines : List TextLine → Type 0
+AreTextLines [] = Unit {0}
+AreTextLines (line ∷ []) = AreInLine line.content
+AreTextLines (line ∷ next ∷ others) = AreInLine line.content × ((e : LineEnding) × (line.ending ≡ Some e)) × AreTextLines (next ∷ others)
 
--- no line holds CR or LF before its ending
-abbrev ContentsEndNowhere : List TextLine → Type 0
-ContentsEndNowhere [] = Unit {0}
-ContentsEndNowhere (line ∷ ls) = EndsNowhere line.content × ContentsEndNowhere ls
+first_in_line : (line : TextLine) (others : List TextLine) → AreTextLines (line ∷ others) → AreInLine line.content
+first_in_line line [] p = p
+first_in_line line (next ∷ others) p = p.0
 
 -- the cases of `lines`, and all lines of a text
-nowhere_in_first : (b : ℕ) (ls : List TextLine) → ends_line b ≡ false → ContentsEndNowhere ls → ContentsEndNowhere (in_first_line b ls)
-nowhere_in_first b [] e p = ((e, tt), tt)
-nowhere_in_first b (line ∷ ls) e p = ((e, p.0), p.1)
+other_text_lines : (ls : List TextLine) → AreTextLines ls → AreTextLines (drop 1 ls)
+other_text_lines [] p = tt
+other_text_lines (line ∷ []) p = tt
+other_text_lines (line ∷ next ∷ others) p = p.2
 
-nowhere_in_others : (ls : List TextLine) → ContentsEndNowhere ls → ContentsEndNowhere (drop 1 ls)
-nowhere_in_others [] p = tt
-nowhere_in_others (line ∷ ls) p = p.1
+after_empty_line : (e : LineEnding) (ls : List TextLine) → AreTextLines ls → AreTextLines (text_line [] (Some e) ∷ ls)
+after_empty_line e [] p = tt
+after_empty_line e (line ∷ others) p = (tt, (e, refl), p)
 
-nowhere_after_return : (bs : List ℕ) (ls : List TextLine) → ContentsEndNowhere ls → ContentsEndNowhere (after_return bs ls)
-nowhere_after_return [] ls p = (tt, p)
-nowhere_after_return (b ∷ bs) ls p =
-    cond_both (eqb b 10) (text_line [] (Some CarriageReturnLineFeed) ∷ drop 1 ls) (text_line [] (Some CarriageReturn) ∷ ls) ContentsEndNowhere
-    (λ _. (tt, nowhere_in_others ls p))
-    (λ _. (tt, p))
+in_first : (b : ℕ) (ls : List TextLine) → ends_line b ≡ false → b < 256 → AreTextLines ls → AreTextLines (in_first_line b ls)
+in_first b [] e lt p = (e, lt, tt)
+in_first b (line ∷ []) e lt p = (e, lt, p)
+in_first b (line ∷ next ∷ others) e lt p = ((e, lt, p.0), p.1, p.2)
 
-nowhere_without_feed : (b : ℕ) (bs : List ℕ) (ls : List TextLine) → eqb b 10 ≡ false → ContentsEndNowhere ls
-    → ContentsEndNowhere (cond (eqb b 13) (after_return bs ls) (in_first_line b ls))
-nowhere_without_feed b bs ls no_feed p =
-    cond_both (eqb b 13) (after_return bs ls) (in_first_line b ls) ContentsEndNowhere
-    (λ _. nowhere_after_return bs ls p)
-    (λ no_return. nowhere_in_first b ls (or_from (eqb b 10) (eqb b 13) no_feed no_return) p)
+lines_after_return : (bs : List ℕ) (ls : List TextLine) → AreTextLines ls → AreTextLines (after_return bs ls)
+lines_after_return [] ls p = after_empty_line CarriageReturn ls p
+lines_after_return (b ∷ bs) ls p =
+    cond_both (eqb b 10) _ _ AreTextLines
+    (λ _. after_empty_line CarriageReturnLineFeed (drop 1 ls) (other_text_lines ls p))
+    (λ _. after_empty_line CarriageReturn ls p)
 
-nowhere_in_lines : (text : List ℕ) → ContentsEndNowhere (lines text)
-nowhere_in_lines [] = tt
-nowhere_in_lines (b ∷ bs) =
-    let p = nowhere_in_lines bs in
-    let ls = lines bs in
-    cond_both (eqb b 10) (text_line [] (Some LineFeed) ∷ ls) (cond (eqb b 13) (after_return bs ls) (in_first_line b ls)) ContentsEndNowhere
-    (λ _. (tt, p))
-    (λ no_feed. nowhere_without_feed b bs ls no_feed p)
+lines_of_text : (text : List ℕ) → ((k : ℕ) → k < length text → get_or text k 0 < 256) → AreTextLines (lines text)
+lines_of_text [] h = tt
+lines_of_text (b ∷ bs) h =
+    let small : b < 256 = h 0 (omega arith) in
+    let others = lines_of_text bs (λ k lt. h (suc k) (omega (arith, lt))) in
+    cond_both (eqb b 10) _ _ AreTextLines (λ _. after_empty_line LineFeed (lines bs) others)
+    (λ no_feed.
+    cond_both (eqb b 13) _ _ AreTextLines (λ _. lines_after_return bs (lines bs) others)
+    (λ no_return. in_first b (lines bs) (or_from (eqb b 10) (eqb b 13) no_feed no_return) small others))
 
 -- ---- what bytes show
 
@@ -170,10 +165,10 @@ shows_encoded_byte b e =
     cond_both (eqb b 60) (codes "&lt;") greater ShowsItself (λ _ y. refl) (λ no_tag.
     cond_both (eqb b 62) (codes "&gt;") (b ∷ []) ShowsItself (λ _ y. refl) (λ _. shows_byte b e no_tag)))))
 
-shows_encoded : (xs : List ℕ) → EndsNowhere xs → ShowsItself (encode xs)
+shows_encoded : (xs : List ℕ) → AreInLine xs → ShowsItself (encode xs)
 shows_encoded [] p = λ y. refl
 shows_encoded (b ∷ bs) p =
-    shows-append (encoded_byte b) (encoded_byte b) (encode bs) (encode bs) (shows_encoded_byte b p.0) (shows_encoded bs p.1)
+    shows-append (encoded_byte b) (encoded_byte b) (encode bs) (encode bs) (shows_encoded_byte b p.0) (shows_encoded bs p.2)
 
 -- ---- what pieces add to what is shown
 
@@ -215,20 +210,24 @@ said_in_line line = encode (trimmed line.codes)
 abbrev said_in_lines : List BlockLine → List ℕ
 said_in_lines ls = flat_map said_in_line ls
 
--- no line of a block holds CR or LF before its ending
-abbrev LinesEndNowhere : List BlockLine → Type 0
-LinesEndNowhere [] = Unit {0}
-LinesEndNowhere (line ∷ ls) = EndsNowhere line.codes × LinesEndNowhere ls
+-- lines of an open paragraph, the last of which has this ending
+abbrev AreTextTo : Option LineEnding → List BlockLine → Type 0
+AreTextTo ending [] = Unit {0}
+AreTextTo ending (line ∷ []) = AreInLine line.codes × (line.ending ≡ ending)
+AreTextTo ending (line ∷ next ∷ others) = AreInLine line.codes × ((e : LineEnding) × (line.ending ≡ Some e)) × AreTextTo ending (next ∷ others)
 
-nowhere_push : (ls : List BlockLine) (line : BlockLine) → LinesEndNowhere ls → EndsNowhere line.codes → LinesEndNowhere (ls ++ line ∷ [])
-nowhere_push [] line p q = (q, tt)
-nowhere_push (l ∷ ls) line p q = (p.0, nowhere_push ls line p.1 q)
+-- one more line, where the last one so far has an ending
+text_push : (e : LineEnding) (ls : List BlockLine) (line : BlockLine) → AreTextTo (Some e) ls → AreInLine line.codes → AreTextTo line.ending (ls ++ line ∷ [])
+text_push e [] line p q = (q, refl)
+text_push e (l ∷ []) line p q = (p.0, (e, p.1), (q, refl))
+text_push e (l ∷ next ∷ others) line p q = (p.0, p.1, text_push e (next ∷ others) line p.2 q)
 
 -- the ending of the last line says nothing
-nowhere_in_own : (ls : List BlockLine) → LinesEndNowhere ls → LinesEndNowhere (own_lines ls)
-nowhere_in_own [] p = tt
-nowhere_in_own (line ∷ []) p = (p.0, tt)
-nowhere_in_own (line ∷ next ∷ others) p = (p.0, nowhere_in_own (next ∷ others) p.1)
+text_in_own : (ending : Option LineEnding) (ls : List BlockLine) → AreTextTo ending ls → AreText (own_lines ls)
+text_in_own ending [] p = tt
+text_in_own ending (line ∷ []) p = p.0
+text_in_own ending (line ∷ next ∷ []) p = (p.0, p.1, p.2.0)
+text_in_own ending (line ∷ next ∷ last ∷ others) p = (p.0, p.1, text_in_own ending (next ∷ last ∷ others) p.2)
 
 said_in_own : (ls : List BlockLine) → said_in_lines (own_lines ls) ≡ said_in_lines ls
 said_in_own [] = refl
@@ -236,14 +235,17 @@ said_in_own (line ∷ []) = refl
 said_in_own (line ∷ next ∷ others) = ap (λ t. said_in_line line ++ t) (said_in_own (next ∷ others))
 
 -- lines show what they say
-lines_show : (ls : List BlockLine) → LinesEndNowhere ls → Shows (text_of ls) (said_in_lines ls)
-lines_show [] p = λ y. refl
-lines_show (line ∷ ls) p =
+plain_shows : (ls : List BlockLine) → AreText ls → Shows (plain_text ls) (said_in_lines ls)
+plain_shows [] p = λ y. refl
+plain_shows (line ∷ ls) p =
     let said = said_in_line line in
-    let shown : ShowsItself said = shows_encoded (trimmed line.codes) (nowhere_trimmed line.codes p.0) in
-    shows-append (line_text line) said (text_of ls) (said_in_lines ls)
+    let shown : ShowsItself said = shows_encoded (trimmed line.codes) (in_trimmed line.codes (first_line line ls p)) in
+    shows-append (line_text line) said (plain_text ls) (said_in_lines ls)
     (shows_no_more said said (ending_text line.ending) shown (shows_ending_text line.ending))
-    (lines_show ls p.1)
+    (plain_shows ls (other_lines line ls p))
+
+lines_show : (d : Document) → d.options.parse.constructs ≡ no_constructs → (ls : List BlockLine) → AreText ls → Shows (text_of d ls) (said_in_lines ls)
+lines_show d off ls p = subst (λ x. Shows x (said_in_lines ls)) (sym (text_is_plain d off ls p)) (plain_shows ls p)
 
 -- ---- blocks
 
@@ -256,67 +258,66 @@ abbrev said_in_blocks : Blocks → List ℕ
 said_in_blocks Nil = []
 said_in_blocks (Cons b bs) = said_in_block b ++ said_in_blocks bs
 
--- a block is a paragraph, in which no line holds CR or LF before its ending, or an ending
-abbrev BlockEndsNowhere : Block → Type 0
-BlockEndsNowhere (Paragraph ls) = LinesEndNowhere ls
-BlockEndsNowhere (Ending ending) = Unit {0}
-BlockEndsNowhere (Blank ending) = Unit {0}
-BlockEndsNowhere b = ⊥
+-- a block is a paragraph of lines of text, or an ending
+abbrev BlockIsText : Block → Type 0
+BlockIsText (Paragraph ls) = AreText ls
+BlockIsText (Ending ending) = Unit {0}
+BlockIsText (Blank ending) = Unit {0}
+BlockIsText b = ⊥
 
-abbrev BlocksEndNowhere : Blocks → Type 0
-BlocksEndNowhere Nil = Unit {0}
-BlocksEndNowhere (Cons b bs) = BlockEndsNowhere b × BlocksEndNowhere bs
+abbrev BlocksAreText : Blocks → Type 0
+BlocksAreText Nil = Unit {0}
+BlocksAreText (Cons b bs) = BlockIsText b × BlocksAreText bs
 
 -- there are no items to put into lists
-no_item : (b : Block) (bs : Blocks) → BlockEndsNowhere b → before (grouped_block b) bs ≡ Cons b bs
+no_item : (b : Block) (bs : Blocks) → BlockIsText b → before (grouped_block b) bs ≡ Cons b bs
 no_item (Paragraph ls) bs p = refl
 no_item (Ending ending) bs p = refl
 no_item (Blank ending) bs p = refl
 no_item b bs p = absurd p
 
-no_lists : (bs : Blocks) → BlocksEndNowhere bs → grouped bs ≡ bs
+no_lists : (bs : Blocks) → BlocksAreText bs → grouped bs ≡ bs
 no_lists Nil p = refl
 no_lists (Cons b bs) p = no_item b (grouped bs) p.0 ∙ ap (Cons b) (no_lists bs p.1)
 
--- blocks show what they say
-paragraph_shows : (options : CompileOptions) (default : List ℕ) (silent : Bool) (ls : List BlockLine) → Shows default [] → LinesEndNowhere ls
-    → PiecesShow default (block_pieces options true false silent (Paragraph ls)) (said_in_lines ls)
-paragraph_shows options default silent ls d p =
-    let start = codes "<p>" in
-    let end = codes "</p>" in
-    let said = said_in_lines ls in
-    let last : PiecesShow default (Bytes (text_of ls) ∷ Bytes end ∷ []) (said ++ []) =
-    pieces-append default (Bytes (text_of ls) ∷ []) (Bytes end ∷ []) said []
-    (pieces_bytes default (text_of ls) said (lines_show ls p)) (pieces_bytes default end [] shows_end_of_p) in
-    let more = pieces-append default (Bytes start ∷ []) (Bytes (text_of ls) ∷ Bytes end ∷ []) [] (said ++ []) (pieces_bytes default start [] shows_p) last in
-    let all = pieces-append default (Fresh ∷ []) (Bytes start ∷ Bytes (text_of ls) ∷ Bytes end ∷ []) [] (said ++ []) (pieces_fresh default d) more in
-    subst (PiecesShow default (block_pieces options true false silent (Paragraph ls))) (append-nil said) all
+-- blocks show what they say, in a document where every construct is off
+module _ (d : Document) (off : d.options.parse.constructs ≡ no_constructs) (default : List ℕ) (nothing_shown : Shows default []) where
+  paragraph_shows : (silent : Bool) (ls : List BlockLine) → AreText ls → PiecesShow default (block_pieces d true false silent (Paragraph ls)) (said_in_lines ls)
+  paragraph_shows silent ls p =
+      let start = codes "<p>" in
+      let end = codes "</p>" in
+      let said = said_in_lines ls in
+      let text = text_of d ls in
+      let last : PiecesShow default (Bytes text ∷ Bytes end ∷ []) (said ++ []) =
+      pieces-append default (Bytes text ∷ []) (Bytes end ∷ []) said []
+      (pieces_bytes default text said (lines_show d off ls p)) (pieces_bytes default end [] shows_end_of_p) in
+      let more = pieces-append default (Bytes start ∷ []) (Bytes text ∷ Bytes end ∷ []) [] (said ++ []) (pieces_bytes default start [] shows_p) last in
+      let all = pieces-append default (Fresh ∷ []) (Bytes start ∷ Bytes text ∷ Bytes end ∷ []) [] (said ++ []) (pieces_fresh default nothing_shown) more in
+      subst (PiecesShow default (block_pieces d true false silent (Paragraph ls))) (append-nil said) all
 
-ending_shows : (options : CompileOptions) (default : List ℕ) (silent : Bool) (ending : Option LineEnding) → PiecesShow default (block_pieces options true false silent (Ending ending)) []
-ending_shows options default silent ending =
-    cond_both silent [] (Bytes (ending_text ending) ∷ []) (λ ps. PiecesShow default ps [])
-    (λ _. pieces_none default)
-    (λ _. pieces_bytes default (ending_text ending) [] (shows_ending_text ending))
+  ending_shows : (silent : Bool) (ending : Option LineEnding) → PiecesShow default (block_pieces d true false silent (Ending ending)) []
+  ending_shows silent ending =
+      cond_both silent [] (Bytes (ending_text ending) ∷ []) (λ ps. PiecesShow default ps [])
+      (λ _. pieces_none default)
+      (λ _. pieces_bytes default (ending_text ending) [] (shows_ending_text ending))
 
-block_shows : (options : CompileOptions) (default : List ℕ) (silent : Bool) (b : Block) → Shows default [] → BlockEndsNowhere b
-    → PiecesShow default (block_pieces options true false silent b) (said_in_block b)
-block_shows options default silent (Paragraph ls) d p = paragraph_shows options default silent ls d p
-block_shows options default silent (Ending ending) d p = ending_shows options default silent ending
-block_shows options default silent (Blank ending) d p = pieces_none default
-block_shows options default silent b d p = absurd p
+  block_shows : (silent : Bool) (b : Block) → BlockIsText b → PiecesShow default (block_pieces d true false silent b) (said_in_block b)
+  block_shows silent (Paragraph ls) p = paragraph_shows silent ls p
+  block_shows silent (Ending ending) p = ending_shows silent ending
+  block_shows silent (Blank ending) p = pieces_none default
+  block_shows silent b p = absurd p
 
-blocks_show : (options : CompileOptions) (default : List ℕ) (silent : Bool) (bs : Blocks) → Shows default [] → BlocksEndNowhere bs
-    → PiecesShow default (children_pieces options true false silent bs) (said_in_blocks bs)
-blocks_show options default silent Nil d p = pieces_none default
-blocks_show options default silent (Cons b bs) d p =
-    let next = silences true false b in
-    pieces-append default (block_pieces options true false silent b) (children_pieces options true false next bs) (said_in_block b) (said_in_blocks bs)
-    (block_shows options default silent b d p.0) (blocks_show options default next bs d p.1)
+  blocks_show : (silent : Bool) (bs : Blocks) → BlocksAreText bs → PiecesShow default (children_pieces d true false silent bs) (said_in_blocks bs)
+  blocks_show silent Nil p = pieces_none default
+  blocks_show silent (Cons b bs) p =
+      let next = silences true false b in
+      pieces-append default (block_pieces d true false silent b) (children_pieces d true false next bs) (said_in_block b) (said_in_blocks bs)
+      (block_shows silent b p.0) (blocks_show next bs p.1)
 
 -- blocks joined
-nowhere-join : (bs cs : Blocks) → BlocksEndNowhere bs → BlocksEndNowhere cs → BlocksEndNowhere (join bs cs)
-nowhere-join Nil cs p q = q
-nowhere-join (Cons b bs) cs p q = (p.0, nowhere-join bs cs p.1 q)
+text-join : (bs cs : Blocks) → BlocksAreText bs → BlocksAreText cs → BlocksAreText (join bs cs)
+text-join Nil cs p q = q
+text-join (Cons b bs) cs p q = (p.0, text-join bs cs p.1 q)
 
 said-join : (bs cs : Blocks) → said_in_blocks (join bs cs) ≡ said_in_blocks bs ++ said_in_blocks cs
 said-join Nil cs = refl
@@ -330,58 +331,60 @@ abbrev said_in_open : Opening → List ℕ
 said_in_open (Leaf (Text ls)) = said_in_lines ls
 said_in_open now = []
 
--- nothing is open but a paragraph, in which no line holds CR or LF before its ending
-abbrev OpenEndsNowhere : Opening → Type 0
-OpenEndsNowhere (Leaf (Text ls)) = LinesEndNowhere ls
-OpenEndsNowhere now = ⊥
+-- nothing is open but a paragraph, the last line of which has this ending
+abbrev OpenIsText : Option LineEnding → Opening → Type 0
+OpenIsText ending (Leaf (Text ls)) = AreTextTo ending ls
+OpenIsText ending now = ⊥
 
 -- what holds of an open paragraph holds of what is open
-at_paragraph : (P : Opening → Type 0) (now : Opening) → OpenEndsNowhere now → ((ls : List BlockLine) → LinesEndNowhere ls → P (paragraph ls)) → P now
-at_paragraph P (Leaf (Text ls)) p f = f ls p
-at_paragraph P now p f = absurd p
+at_paragraph : (ending : Option LineEnding) (P : Opening → Type 0) (now : Opening) → OpenIsText ending now
+    → ((ls : List BlockLine) → AreTextTo ending ls → P (paragraph ls)) → P now
+at_paragraph ending P (Leaf (Text ls)) p f = f ls p
+at_paragraph ending P now p f = absurd p
 
--- what a tree says, and that its lines end nowhere inside
-record TreeSays (t : Tree) (said : List ℕ) : Type 0 where
-  done : BlocksEndNowhere t.done
-  now : OpenEndsNowhere t.now
+-- what a tree says, after a line with this ending, and that its blocks are text
+record TreeSays (ending : Option LineEnding) (t : Tree) (said : List ℕ) : Type 0 where
+  done : BlocksAreText t.done
+  now : OpenIsText ending t.now
   says : said_in_blocks t.done ++ said_in_open t.now ≡ said
 
 -- closing keeps what is said
-nowhere_closed : (ls : List BlockLine) → LinesEndNowhere ls → BlocksEndNowhere (close_leaf no_constructs (Text ls))
-nowhere_closed [] p = tt
-nowhere_closed (line ∷ others) p = (nowhere_in_own (line ∷ others) p, (tt, tt))
+text_closed : (ending : Option LineEnding) (ls : List BlockLine) → AreTextTo ending ls → BlocksAreText (close_leaf no_constructs (Text ls))
+text_closed ending [] p = tt
+text_closed ending (line ∷ others) p = (text_in_own ending (line ∷ others) p, (tt, tt))
 
 said_closed : (ls : List BlockLine) → said_in_blocks (close_leaf no_constructs (Text ls)) ≡ said_in_lines ls
 said_closed [] = refl
 said_closed (line ∷ others) = append-nil (said_in_lines (own_lines (line ∷ others))) ∙ said_in_own (line ∷ others)
 
 -- a blank line says nothing
-blank_says : (ls : List BlockLine) (ending : Option LineEnding) → LinesEndNowhere ls → TreeSays (blank_tree ls ending) (said_in_lines ls)
-blank_says ls ending p =
+blank_says : (last : Option LineEnding) (ls : List BlockLine) (ending : Option LineEnding) → AreTextTo last ls
+    → TreeSays ending (blank_tree ls ending) (said_in_lines ls)
+blank_says last ls ending p =
     let done = close_leaf no_constructs (Text ls) in
     record {
-      done = nowhere-join done (one (Blank ending)) (nowhere_closed ls p) (tt, tt);
+      done = text-join done (one (Blank ending)) (text_closed last ls p) (tt, tt);
       now = tt;
       says = append-nil (said_in_blocks (join done (one (Blank ending)))) ∙ said-join done (one (Blank ending))
           ∙ append-nil (said_in_blocks done) ∙ said_closed ls;
     }
 
 -- a line goes into the open paragraph
-line_says : (ls : List BlockLine) (rest : Rest) (beside : Beside) → LinesEndNowhere ls → EndsNowhere (block_codes rest)
-    → TreeSays (text_tree ls rest beside) (said_in_lines ls ++ said_in_line (rest_line rest beside))
-line_says ls rest beside p q =
+line_says : (e : LineEnding) (ls : List BlockLine) (rest : Rest) (beside : Beside) → AreTextTo (Some e) ls → AreInLine (block_codes rest)
+    → TreeSays beside.ending (text_tree ls rest beside) (said_in_lines ls ++ said_in_line (rest_line rest beside))
+line_says e ls rest beside p q =
     let line = rest_line rest beside in
     record {
       done = tt;
-      now = nowhere_push ls line p q;
+      now = text_push e ls line p q;
       says = flat_map-append said_in_line ls (line ∷ []) ∙ ap (λ t. said_in_lines ls ++ t) (append-nil (said_in_line line));
     }
 
 -- what is finished before stands in front
-after_done : (done : Blocks) (more : Tree) (said : List ℕ) → BlocksEndNowhere done → TreeSays more said
-    → TreeSays (tree (join done more.done) more.now) (said_in_blocks done ++ said)
-after_done done more said p q = record {
-  done = nowhere-join done more.done p q.done;
+after_done : (ending : Option LineEnding) (done : Blocks) (more : Tree) (said : List ℕ) → BlocksAreText done → TreeSays ending more said
+    → TreeSays ending (tree (join done more.done) more.now) (said_in_blocks done ++ said)
+after_done ending done more said p q = record {
+  done = text-join done more.done p q.done;
   now = q.now;
   says = ap (λ t. t ++ said_in_open more.now) (said-join done more.done)
       ∙ append_assoc (said_in_blocks done) (said_in_blocks more.done) (said_in_open more.now)
@@ -396,36 +399,36 @@ said_by_other : (line : TextLine) → is_blank (whole line.content) ≡ false �
 said_by_other line e = ap (flat_map said_by) (cond-true (is_not_blank line) (line ∷ []) [] (ap not e)) ∙ append-nil (said_by line)
 
 -- one more line
-plain_says : (ls : List BlockLine) (line : TextLine) → LinesEndNowhere ls → EndsNowhere line.content
-    → TreeSays (plain_tree ls (whole line.content) (beside_line line)) (said_in_lines ls ++ all_said_by (line ∷ []))
-plain_says ls line p q =
+plain_says : (e : LineEnding) (ls : List BlockLine) (line : TextLine) → AreTextTo (Some e) ls → AreInLine line.content
+    → TreeSays line.ending (plain_tree ls (whole line.content) (beside_line line)) (said_in_lines ls ++ all_said_by (line ∷ []))
+plain_says e ls line p q =
     let rest = whole line.content in
     let blank = blank_tree ls line.ending in
     let other = text_tree ls rest (beside_line line) in
     let here = said_in_lines ls in
-    let nothing = blank_says ls line.ending p in
-    let more = line_says ls rest (beside_line line) p (nowhere_in_block line.content q) in
-    cond_both (is_blank rest) blank other (λ t. TreeSays t (here ++ all_said_by (line ∷ [])))
-    (λ e. subst (TreeSays blank) (sym (ap (λ t. here ++ t) (said_by_blank line e) ∙ append-nil here)) nothing)
-    (λ e. subst (TreeSays other) (sym (ap (λ t. here ++ t) (said_by_other line e))) more)
+    let nothing = blank_says (Some e) ls line.ending p in
+    let more = line_says e ls rest (beside_line line) p (in_block line.content q) in
+    cond_both (is_blank rest) blank other (λ t. TreeSays line.ending t (here ++ all_said_by (line ∷ [])))
+    (λ is. subst (TreeSays line.ending blank) (sym (ap (λ t. here ++ t) (said_by_blank line is) ∙ append-nil here)) nothing)
+    (λ is. subst (TreeSays line.ending other) (sym (ap (λ t. here ++ t) (said_by_other line is))) more)
 
-grow_says : (now : Opening) (line : TextLine) → OpenEndsNowhere now → EndsNowhere line.content
-    → TreeSays (grow no_constructs (beside_line line) now (whole line.content)) (said_in_open now ++ all_said_by (line ∷ []))
-grow_says now line p q =
+grow_says : (e : LineEnding) (now : Opening) (line : TextLine) → OpenIsText (Some e) now → AreInLine line.content
+    → TreeSays line.ending (grow no_constructs (beside_line line) now (whole line.content)) (said_in_open now ++ all_said_by (line ∷ []))
+grow_says e now line p q =
     let rest = whole line.content in
     let new = all_said_by (line ∷ []) in
-    at_paragraph (λ o. TreeSays (grow no_constructs (beside_line line) o rest) (said_in_open o ++ new)) now p
-    (λ ls r. subst (λ t. TreeSays t (said_in_lines ls ++ new)) (sym (plain_grow ls rest (beside_line line))) (plain_says ls line r q))
+    at_paragraph (Some e) (λ o. TreeSays line.ending (grow no_constructs (beside_line line) o rest) (said_in_open o ++ new)) now p
+    (λ ls r. subst (λ t. TreeSays line.ending t (said_in_lines ls ++ new)) (sym (plain_grow ls rest (beside_line line))) (plain_says e ls line r q))
 
-step_says : (t : Tree) (said : List ℕ) (line : TextLine) → TreeSays t said → EndsNowhere line.content
-    → TreeSays (step no_constructs t line) (said ++ all_said_by (line ∷ []))
-step_says t said line p q =
+step_says : (e : LineEnding) (t : Tree) (said : List ℕ) (line : TextLine) → TreeSays (Some e) t said → AreInLine line.content
+    → TreeSays line.ending (step no_constructs t line) (said ++ all_said_by (line ∷ []))
+step_says e t said line p q =
     let more = grow no_constructs (beside_line line) t.now (whole line.content) in
     let before = said_in_blocks t.done in
     let here = said_in_open t.now in
     let new = all_said_by (line ∷ []) in
-    subst (TreeSays (step no_constructs t line)) (sym (append_assoc before here new) ∙ ap (λ s. s ++ new) p.says)
-    (after_done t.done more (here ++ new) p.done (grow_says t.now line p.now q))
+    subst (TreeSays line.ending (step no_constructs t line)) (sym (append_assoc before here new) ∙ ap (λ s. s ++ new) p.says)
+    (after_done line.ending t.done more (here ++ new) p.done (grow_says e t.now line p.now q))
 
 -- the lines of a list that aren't blank, one by one
 said-cons : (line : TextLine) (ls : List TextLine) → all_said_by (line ∷ ls) ≡ all_said_by (line ∷ []) ++ all_said_by ls
@@ -441,59 +444,77 @@ said-cons line ls =
     ]
 
 -- all lines
-steps_say : (ls : List TextLine) (t : Tree) (said : List ℕ) → TreeSays t said → ContentsEndNowhere ls
-    → TreeSays (fold (step no_constructs) t ls) (said ++ all_said_by ls)
-steps_say [] t said p q = subst (TreeSays t) (sym (append-nil said)) p
-steps_say (line ∷ ls) t said p q =
+steps_say : (e : LineEnding) (ls : List TextLine) (t : Tree) (said : List ℕ) → TreeSays (Some e) t said → AreTextLines ls
+    → (last : Option LineEnding) × TreeSays last (fold (step no_constructs) t ls) (said ++ all_said_by ls)
+steps_say e [] t said p q = (Some e, subst (TreeSays (Some e) t) (sym (append-nil said)) p)
+steps_say e (line ∷ []) t said p q = (line.ending, step_says e t said line p q)
+steps_say e (line ∷ next ∷ others) t said p q =
     let new = all_said_by (line ∷ []) in
     let more = step no_constructs t line in
-    subst (TreeSays (fold (step no_constructs) more ls)) (append_assoc said new (all_said_by ls) ∙ ap (λ s. said ++ s) (sym (said-cons line ls)))
-    (steps_say ls more (said ++ new) (step_says t said line p q.0) q.1)
+    let here : TreeSays (Some q.1.0) more (said ++ new) = subst (λ o. TreeSays o more (said ++ new)) q.1.1 (step_says e t said line p q.0) in
+    let all = steps_say q.1.0 (next ∷ others) more (said ++ new) here q.2 in (
+      all.0,
+      subst (TreeSays all.0 (fold (step no_constructs) more (next ∷ others))) (append_assoc said new (all_said_by (next ∷ others)) ∙ ap (λ s. said ++ s) (sym (said-cons line (next ∷ others)))) all.1,
+    )
 
 -- ---- the page
 
--- the tree of a whole text, and its blocks
-tree_says : (text : List ℕ) → TreeSays (fold (step no_constructs) empty_tree (lines text)) (all_said_by (lines text))
-tree_says text = steps_say (lines text) empty_tree [] (record { done = tt; now = tt; says = refl }) (nowhere_in_lines text)
-
-said_at_end : (t : Tree) (said : List ℕ) → TreeSays t said → said_in_blocks (closed no_constructs t) ≡ said
-said_at_end t said p =
-    let kept = at_paragraph (λ o. said_in_blocks (close no_constructs o) ≡ said_in_open o) t.now p.now (λ ls r. said_closed ls) in
+-- what is said at the end, by blocks that are text
+said_at_end : (ending : Option LineEnding) (t : Tree) (said : List ℕ) → TreeSays ending t said → said_in_blocks (closed no_constructs t) ≡ said
+said_at_end ending t said p =
+    let kept = at_paragraph ending (λ o. said_in_blocks (close no_constructs o) ≡ said_in_open o) t.now p.now (λ ls r. said_closed ls) in
     said-join t.done (close no_constructs t.now) ∙ ap (λ s. said_in_blocks t.done ++ s) kept ∙ p.says
 
-nowhere_at_end : (t : Tree) (said : List ℕ) → TreeSays t said → BlocksEndNowhere (closed no_constructs t)
-nowhere_at_end t said p =
-    nowhere-join t.done (close no_constructs t.now) p.done (at_paragraph (λ o. BlocksEndNowhere (close no_constructs o)) t.now p.now nowhere_closed)
+text_at_end : (ending : Option LineEnding) (t : Tree) (said : List ℕ) → TreeSays ending t said → BlocksAreText (closed no_constructs t)
+text_at_end ending t said p =
+    text-join t.done (close no_constructs t.now) p.done
+    (at_paragraph ending (λ o. BlocksAreText (close no_constructs o)) t.now p.now (λ ls r. text_closed ending ls r))
 
 -- a page shows what its blocks say
-document_shows : (options : CompileOptions) (default : List ℕ) (bs : Blocks) → Shows default [] → BlocksEndNowhere bs
-    → Shows (layout default (document_pieces options bs)) (said_in_blocks bs)
-document_shows options default bs d p =
+document_shows : (d : Document) → d.options.parse.constructs ≡ no_constructs → (default : List ℕ) (bs : Blocks) → Shows default [] → BlocksAreText bs
+    → Shows (layout default (document_pieces d bs)) (said_in_blocks bs)
+document_shows d off default bs nothing_shown p =
     let last = last_piece (ends_blank false bs) in
-    let shown = blocks_show options default false bs d p in
-    let all = pieces-append default (children_pieces options true false false bs) last (said_in_blocks bs) [] shown (pieces_last default (ends_blank false bs) d) in
-    subst (λ cs. Shows (layout default (children_pieces options true false false cs ++ last)) (said_in_blocks bs)) (sym (no_lists bs p))
-    (subst (Shows (layout default (children_pieces options true false false bs ++ last))) (append-nil (said_in_blocks bs)) (all [] [] (λ y. refl)))
+    let shown = blocks_show d off default nothing_shown false bs p in
+    let all = pieces-append default (children_pieces d true false false bs) last (said_in_blocks bs) [] shown (pieces_last default (ends_blank false bs) nothing_shown) in
+    subst (λ cs. Shows (layout default (children_pieces d true false false cs ++ last)) (said_in_blocks bs)) (sym (no_lists bs p))
+    (subst (Shows (layout default (children_pieces d true false false bs ++ last))) (append-nil (said_in_blocks bs)) (all [] [] (λ y. refl)))
 
 -- what bytes show where nothing follows
 shows_alone : (x t : List ℕ) → Shows x t → visible false x ≡ t
 shows_alone x t p = ap (visible false) (sym (append-nil x)) ∙ p [] ∙ append-nil t
 
-page_shows : (options : CompileOptions) (text : List ℕ) (ending : LineEnding)
-    → visible false (layout (ending_bytes ending) (document_pieces options (blocks no_constructs text))) ≡ all_said_by (lines text)
-page_shows options text ending =
+page_shows : (tables : TextTables) (options : Options) (text : List ℕ) (ending : LineEnding) → options.parse.constructs ≡ no_constructs → AreTextLines (lines text)
+    → visible false (blocks_html tables options ending (blocks no_constructs text)) ≡ all_said_by (lines text)
+page_shows tables options text ending off p =
     let t = fold (step no_constructs) empty_tree (lines text) in
     let said = all_said_by (lines text) in
-    let p : TreeSays t said = tree_says text in
-    shows_alone (layout (ending_bytes ending) (document_pieces options (closed no_constructs t))) (said_in_blocks (closed no_constructs t))
-    (document_shows options (ending_bytes ending) (closed no_constructs t) (shows_ending ending) (nowhere_at_end t said p))
-    ∙ said_at_end t said p
+    let all = steps_say LineFeed (lines text) empty_tree [] (record { done = tt; now = tt; says = refl }) p in
+    let bs = closed no_constructs t in
+    let d = document options tables (document_definitions bs) in
+    shows_alone (blocks_html tables options ending bs) (said_in_blocks bs)
+    (document_shows d off (ending_bytes ending) bs (shows_ending ending) (text_at_end all.0 t said all.1))
+    ∙ said_at_end all.0 t said all.1
 
-marked_page_shows : (text : List ℕ) (options : Options) → options.parse.constructs ≡ no_constructs
-    → visible false (marked_html text options) ≡ all_said_by (lines text)
-marked_page_shows text options off =
+marked_page_shows : (tables : TextTables) (text : List ℕ) (options : Options) → AreTextLines (lines text) → options.parse.constructs ≡ no_constructs
+    → visible false (marked_html tables text options) ≡ all_said_by (lines text)
+marked_page_shows tables text options p off =
     let ending = default_ending options text in
-    ap (λ on. visible false (layout (ending_bytes ending) (document_pieces options.compile (blocks on text)))) off ∙ page_shows options.compile text ending
+    ap (λ on. visible false (blocks_html tables options ending (blocks on text))) off ∙ page_shows tables options text ending off p
+
+-- a text without a byte order mark has bytes, too
+bytes_left : (n : ℕ) (text : List ℕ) → All (λ b. b < 256) text → All (λ b. b < 256) (drop n text)
+bytes_left zero text h = h
+bytes_left (suc n) [] h = λ k d lt. h k d lt
+bytes_left (suc n) (b ∷ bs) h = bytes_left n bs (λ k d lt. h (suc k) d (omega (arith, lt)))
+
+unmarked_bytes : (text : List ℕ) → All (λ b. b < 256) text → All (λ b. b < 256) (without_mark text)
+unmarked_bytes [] h = h
+unmarked_bytes (a ∷ []) h = h
+unmarked_bytes (a ∷ b ∷ []) h = h
+unmarked_bytes (a ∷ b ∷ c ∷ others) h =
+    cond_both _ others (a ∷ b ∷ c ∷ others) (All (λ byte. byte < 256)) (λ _. bytes_left 3 (a ∷ b ∷ c ∷ others) h) (λ _. h)
 
 pub visible_law : VisibleLaw
-visible_law text options off = marked_page_shows (without_mark text) options off
+visible_law tables text options bytes off =
+    marked_page_shows tables (without_mark text) options (lines_of_text (without_mark text) (λ k lt. unmarked_bytes text bytes k 0 lt)) off

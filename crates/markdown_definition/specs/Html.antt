@@ -9,22 +9,16 @@ use Rattle.markdown_options.specs.LineEndings.{ending_bytes}
 use Rattle.markdown_definition.specs.declared.container.Container.{Container}
 use Rattle.markdown_definition.specs.declared.container.Container.TheVariants.{Quote, Item}
 use Rattle.markdown_definition.specs.Lines.{ending_text, first_line, without_mark}
-use Rattle.markdown_definition.specs.Columns.{trimmed, code_byte, bytes_of}
+use Rattle.markdown_definition.specs.Columns.{code_byte, bytes_of}
 use Rattle.markdown_definition.specs.Encode.{encode}
 use Rattle.markdown_definition.specs.HtmlRaw.{raw_html}
 use Rattle.markdown_definition.specs.Tree.{BlockLine, Block, Paragraph, Heading, Break, IndentedCode, FencedCode, Html, Definition, Holds, Items, Ending, Blank, Blocks, Nil, Cons, own_lines, is_ending, blocks}
 use Rattle.markdown_definition.specs.Lists.{grouped, is_loose}
+use Rattle.markdown_definition.specs.Targets.{document_definitions}
+use Rattle.markdown_definition.specs.Document.{TextTables, Document, document, text_of, info_of}
 use Rattle.markdown_definition.specs.Pieces.{Piece, Bytes, Eol, Fresh, layout}
 
--- ---- text
-
--- a line of text: the spaces and tabs at its ends are dropped
-abbrev pub line_text : BlockLine → List ℕ
-line_text line = encode (trimmed line.codes) ++ ending_text line.ending
-
--- the text of a paragraph or heading
-abbrev pub text_of : List BlockLine → List ℕ
-text_of ls = flat_map line_text ls
+-- ---- lines
 
 -- lines of code with their endings
 abbrev pub code_line : BlockLine → List ℕ
@@ -48,10 +42,10 @@ heading_tag rank = codes "<h" ++ (48 + rank) ∷ codes ">"
 abbrev pub heading_end : ℕ → List ℕ
 heading_end rank = codes "</h" ++ (48 + rank) ∷ codes ">"
 
--- the class of fenced code with an info
-abbrev pub class_of : List ℕ → List ℕ
-class_of [] = []
-class_of (b ∷ bs) = codes " class=\"language-" ++ encode (b ∷ bs) ++ codes "\""
+-- the class of fenced code with an info (CommonMark 4.5)
+abbrev pub class_of : Document → List ℕ → List ℕ
+class_of d [] = []
+class_of d (b ∷ bs) = codes " class=\"language-" ++ encode (info_of d (b ∷ bs)) ++ codes "\""
 
 -- the start of an ordered list, unless it is 1
 abbrev pub start_of : ℕ → List ℕ
@@ -104,32 +98,32 @@ ends_tight tight before (Cons b bs) = ends_tight tight (before && is_ending b) b
 
 abbrev mutual
   -- a child, at the top or not, of a tight item or not, after a child that silences an ending or not
-  pub block_pieces : CompileOptions → Bool → Bool → Bool → Block → List Piece
-  block_pieces options top tight silent (Paragraph ls) =
-      if tight then Bytes (text_of ls) ∷ [] else Fresh ∷ Bytes (codes "<p>") ∷ Bytes (text_of ls) ∷ Bytes (codes "</p>") ∷ []
-  block_pieces options top tight silent (Heading rank ls) =
-      Fresh ∷ Bytes (heading_tag rank) ∷ Bytes (text_of ls) ∷ Bytes (heading_end rank) ∷ []
-  block_pieces options top tight silent Break = Fresh ∷ Bytes (codes "<hr />") ∷ []
-  block_pieces options top tight silent (IndentedCode ls) =
+  pub block_pieces : Document → Bool → Bool → Bool → Block → List Piece
+  block_pieces d top tight silent (Paragraph ls) =
+      if tight then Bytes (text_of d ls) ∷ [] else Fresh ∷ Bytes (codes "<p>") ∷ Bytes (text_of d ls) ∷ Bytes (codes "</p>") ∷ []
+  block_pieces d top tight silent (Heading rank ls) =
+      Fresh ∷ Bytes (heading_tag rank) ∷ Bytes (text_of d ls) ∷ Bytes (heading_end rank) ∷ []
+  block_pieces d top tight silent Break = Fresh ∷ Bytes (codes "<hr />") ∷ []
+  block_pieces d top tight silent (IndentedCode ls) =
       Fresh ∷ Bytes (codes "<pre><code>") ∷ Bytes (code_of ls) ∷ Fresh ∷ Bytes (codes "</code></pre>") ∷ []
-  block_pieces options top tight silent (FencedCode info closed ls) =
-      Fresh ∷ Bytes (codes "<pre><code" ++ class_of info ++ codes ">") ∷ fenced_content top closed ls
+  block_pieces d top tight silent (FencedCode info closed ls) =
+      Fresh ∷ Bytes (codes "<pre><code" ++ class_of d info ++ codes ">") ∷ fenced_content top closed ls
       ++ Bytes (codes "</code></pre>") ∷ fresh_unless closed
-  block_pieces options top tight silent (Html ls) = Fresh ∷ Bytes (html_of options ls) ∷ []
-  block_pieces options top tight silent (Definition label destination title) = []
-  block_pieces options top tight silent (Holds Quote kids) =
-      Fresh ∷ Bytes (codes "<blockquote>") ∷ children_pieces options false false false kids ++ Fresh ∷ Bytes (codes "</blockquote>") ∷ []
-  block_pieces options top tight silent (Holds (Item item) kids) =
-      Fresh ∷ Bytes (codes "<li>") ∷ children_pieces options false tight false kids ++ fresh_unless (ends_tight tight true kids) ++ Bytes (codes "</li>") ∷ []
-  block_pieces options top tight silent (Items items) =
-      Fresh ∷ Bytes (number_tag (list_number items)) ∷ children_pieces options false (not (is_loose items)) false items
+  block_pieces d top tight silent (Html ls) = Fresh ∷ Bytes (html_of d.options.compile ls) ∷ []
+  block_pieces d top tight silent (Definition label destination title) = []
+  block_pieces d top tight silent (Holds Quote kids) =
+      Fresh ∷ Bytes (codes "<blockquote>") ∷ children_pieces d false false false kids ++ Fresh ∷ Bytes (codes "</blockquote>") ∷ []
+  block_pieces d top tight silent (Holds (Item item) kids) =
+      Fresh ∷ Bytes (codes "<li>") ∷ children_pieces d false tight false kids ++ fresh_unless (ends_tight tight true kids) ++ Bytes (codes "</li>") ∷ []
+  block_pieces d top tight silent (Items items) =
+      Fresh ∷ Bytes (number_tag (list_number items)) ∷ children_pieces d false (not (is_loose items)) false items
       ++ Eol ∷ Bytes (number_end (list_number items)) ∷ []
-  block_pieces options top tight silent (Ending ending) = if silent then [] else Bytes (ending_text ending) ∷ []
-  block_pieces options top tight silent (Blank ending) = []
+  block_pieces d top tight silent (Ending ending) = if silent then [] else Bytes (ending_text ending) ∷ []
+  block_pieces d top tight silent (Blank ending) = []
 
-  pub children_pieces : CompileOptions → Bool → Bool → Bool → Blocks → List Piece
-  children_pieces options top tight silent Nil = []
-  children_pieces options top tight silent (Cons b bs) = block_pieces options top tight silent b ++ children_pieces options top tight (silences top tight b) bs
+  pub children_pieces : Document → Bool → Bool → Bool → Blocks → List Piece
+  children_pieces d top tight silent Nil = []
+  children_pieces d top tight silent (Cons b bs) = block_pieces d top tight silent b ++ children_pieces d top tight (silences top tight b) bs
 
 -- whether this is the ending of a blank line
 abbrev pub is_blank_ending : Block → Bool
@@ -145,8 +139,8 @@ ends_blank before (Cons b bs) = ends_blank (is_blank_ending b) bs
 abbrev pub last_piece : Bool → List Piece
 last_piece blank = if blank then Fresh ∷ [] else []
 
-abbrev pub document_pieces : CompileOptions → Blocks → List Piece
-document_pieces options bs = children_pieces options true false false (grouped bs) ++ last_piece (ends_blank false bs)
+abbrev pub document_pieces : Document → Blocks → List Piece
+document_pieces d bs = children_pieces d true false false (grouped bs) ++ last_piece (ends_blank false bs)
 
 -- ---- the whole
 
@@ -154,10 +148,14 @@ document_pieces options bs = children_pieces options true false false (grouped b
 abbrev pub default_ending : Options → List ℕ → LineEnding
 default_ending options text = unwrap_or (first_line text).ending options.compile.default_line_ending
 
+-- the HTML of blocks, by all definitions among them
+abbrev pub blocks_html : TextTables → Options → LineEnding → Blocks → List ℕ
+blocks_html tables options ending bs = layout (ending_bytes ending) (document_pieces (document options tables (document_definitions bs)) bs)
+
 -- the HTML of a text without a byte order mark
-abbrev pub marked_html : List ℕ → Options → List ℕ
-marked_html text options = layout (ending_bytes (default_ending options text)) (document_pieces options.compile (blocks options.parse.constructs text))
+abbrev pub marked_html : TextTables → List ℕ → Options → List ℕ
+marked_html tables text options = blocks_html tables options (default_ending options text) (blocks options.parse.constructs text)
 
 -- the HTML of a text: its blocks, laid out
-abbrev pub html : List ℕ → Options → List ℕ
-html text options = marked_html (without_mark text) options
+abbrev pub html : TextTables → List ℕ → Options → List ℕ
+html tables text options = marked_html tables (without_mark text) options

@@ -1,5 +1,5 @@
 -- The content of a block as codes that know what stands beside them (CommonMark 6.2).
-use Rattle.std.specs.Prelude.{ℕ, ◌+◌, ◌-◌, ◌*◌, Bool, if◌then◌else◌, ◌&&◌, ◌||◌, nat_lt, nat_le, List, [], ◌∷◌, map, slice_index}
+use Rattle.std.specs.Prelude.{ℕ, ◌+◌, ◌-◌, ◌*◌, Bool, if◌then◌else◌, ◌&&◌, nat_lt, nat_le, List, [], ◌∷◌, map, slice_index}
 use Rattle.std.specs.List.{flat_map}
 use Rattle.std.specs.Char.{is_whitespace}
 use Rattle.markdown_definition.specs.declared.beside.Kind.{Kind}

@@ -1,11 +1,12 @@
 -- The laws of the definition.
-use Rattle.std.specs.Prelude.{◌≡◌, ℕ, Bool, true, false, not, if◌then◌else◌, ◌==◌, ◌||◌, List, [], ◌∷◌, ◌++◌}
-use Rattle.std.specs.List.{filter, flat_map}
+use Rattle.std.specs.Prelude.{◌≡◌, ℕ, ◌<◌, Bool, true, false, not, if◌then◌else◌, ◌==◌, ◌||◌, List, [], ◌∷◌, ◌++◌}
+use Rattle.std.specs.List.{All, filter, flat_map}
 use Rattle.markdown_options.specs.declared.configuration.Options.{Options}
 use Rattle.markdown_options.specs.Defaults.{no_constructs}
 use Rattle.markdown_definition.specs.Lines.{TextLine, lines, without_mark}
 use Rattle.markdown_definition.specs.Columns.{whole, is_blank, block_codes, trimmed}
 use Rattle.markdown_definition.specs.Encode.{encode}
+use Rattle.markdown_definition.specs.Document.{TextTables}
 use Rattle.markdown_definition.specs.Html.{html}
 
 -- what a byte outside of tags shows: itself, but `<`, CR and LF show nothing
@@ -30,8 +31,8 @@ said_by line = encode (trimmed (block_codes (whole line.content)))
 abbrev pub all_said_by : List TextLine → List ℕ
 all_said_by ls = flat_map said_by (filter is_not_blank ls)
 
--- where every construct is off, a page shows what the text's nonblank lines say, and nothing else
+-- where every construct is off, the page of a text of bytes shows what its nonblank lines say, and nothing else
 abbrev pub VisibleLaw : Type 0
 VisibleLaw =
-    (text : List ℕ) (options : Options) → options.parse.constructs ≡ no_constructs
-    → visible false (html text options) ≡ all_said_by (lines (without_mark text))
+    (tables : TextTables) (text : List ℕ) (options : Options) → All (λ b. b < 256) text → options.parse.constructs ≡ no_constructs
+    → visible false (html tables text options) ≡ all_said_by (lines (without_mark text))

@@ -19,7 +19,6 @@ pub mod Tree
 pub mod Lists
 pub mod Pieces
 pub mod HtmlRaw
-pub mod Html
 pub mod Rows
 pub mod Laws
 pub mod Letters
@@ -60,4 +59,6 @@ pub mod BuiltinReferences
 pub mod Decoded
 pub mod Urls
 pub mod Meaning
+pub mod Document
+pub mod Html
 pub mod LawfulRows

@@ -108,7 +108,7 @@ definition_shown (Some d) = Definition d.label d.destination d.title
 abbrev pub row_shown : Row → List BlockLine → BlockRow
 row_shown (row.Paragraph count) left = Single (Paragraph (own_lines (take count left)))
 row_shown (row.WholeParagraph count) left = Single (Paragraph (own_lines (whole_lines count (bytes_of (first_codes left)))))
-row_shown (row.Heading rank) left = Single (Heading rank (take 1 left))
+row_shown (row.Heading rank) left = Single (Heading rank (own_lines (take 1 left)))
 row_shown (row.SetextHeading rank count) left = Single (Heading rank (own_lines (take count left)))
 row_shown row.Break left = Single Break
 row_shown (row.IndentedCode count) left = Single (IndentedCode (own_lines (take count left)))

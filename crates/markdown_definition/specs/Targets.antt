@@ -1,5 +1,5 @@
 -- Where the labels of a document lead (CommonMark 4.7 and 6.3).
-use Rattle.std.specs.Prelude.{ℕ, Bool, List, [], Option, None, Some, is_some, map, slice_index_or}
+use Rattle.std.specs.Prelude.{ℕ, Bool, List, [], Option, None, is_some, map, slice_index_or}
 use Rattle.std.specs.Option.{option_map}
 use Rattle.markdown_definition.specs.Columns.{code_byte}
 use Rattle.markdown_definition.specs.Blocks.{Blocks}

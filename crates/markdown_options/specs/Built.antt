@@ -2,13 +2,6 @@
 use Rattle.std.specs.Prelude.{Bool, not, ◌||◌}
 use Rattle.markdown_options.specs.declared.configuration.Constructs.{Constructs}
 
--- some of the inline constructs of CommonMark are on
-abbrev pub has_texts : Constructs → Bool
-has_texts on =
-    on.attention || on.autolink || on.character_escape || on.character_reference || on.code_text
-    || on.hard_break_escape || on.hard_break_trailing || on.html_text || on.label_start_image
-    || on.label_start_link || on.label_end
-
 -- some of the extensions are on
 abbrev pub has_extensions : Constructs → Bool
 has_extensions on =
@@ -24,4 +17,4 @@ has_mdx on =
 
 -- nothing is on that can't be read so far
 abbrev pub is_built : Constructs → Bool
-is_built on = not (has_texts on || has_extensions on || has_mdx on)
+is_built on = not (has_extensions on || has_mdx on)

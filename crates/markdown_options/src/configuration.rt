@@ -3,7 +3,7 @@ ghost use Rattle.std.specs.Prelude.{◌≡◌, true};
 ghost use Rattle.markdown_options.specs.Defaults.{no_constructs, default_constructs, gfm_constructs, mdx_constructs};
 ghost use Rattle.markdown_options.specs.Defaults.{default_parse_options, gfm_parse_options, mdx_parse_options};
 ghost use Rattle.markdown_options.specs.Defaults.{default_compile_options, gfm_compile_options, default_options, gfm_options};
-ghost use Rattle.markdown_options.specs.Built.{has_texts, has_extensions, has_mdx, is_built};
+ghost use Rattle.markdown_options.specs.Built.{has_extensions, has_mdx, is_built};
 
 use crate::line_ending::LineEnding;
 
@@ -157,23 +157,6 @@ impl Constructs {
         }
     }
 
-    /// Whether some of the inline constructs of CommonMark are on.
-    fn has_texts(&self) -> bool
-        ensures { result ≡ has_texts self.now }
-    {
-        self.attention
-            || self.autolink
-            || self.character_escape
-            || self.character_reference
-            || self.code_text
-            || self.hard_break_escape
-            || self.hard_break_trailing
-            || self.html_text
-            || self.label_start_image
-            || self.label_start_link
-            || self.label_end
-    }
-
     /// Whether some of the extensions are on.
     fn has_extensions(&self) -> bool
         ensures { result ≡ has_extensions self.now }
@@ -262,7 +245,7 @@ impl ParseOptions {
         ensures { result ≡ is_built self.now.constructs }
     {
         let on = &self.constructs;
-        !(on.has_texts() || on.has_extensions() || on.has_mdx())
+        !(on.has_extensions() || on.has_mdx())
     }
 
     /// Reads what GitHub has.

@@ -1,7 +1,8 @@
-//! The labels of documents: texts, a label, and the place of the first definition that has it.
+//! The definitions of documents: texts, a label, the place of the first definition that has it, and
+//! where it leads.
 
 use block_tree::block_rows;
-use link_table::document_labels;
+use link_table::{definition_contents, document_definitions};
 use markdown::Constructs;
 use std::alloc::AllocError;
 
@@ -29,8 +30,40 @@ fn finds_labels(rt: HostRuntime) -> Result<(), AllocError> {
     let on = Constructs::default();
     for (text, label, place) in LABELS {
         let blocks = block_rows(rt.alloc(), text, &on)?;
-        let labels = document_labels(rt.alloc(), &blocks.rows, &blocks.pieces)?;
-        assert_eq!(rt; labels.find(label.as_bytes())?, place, "at {text:?}");
+        let contents = definition_contents(rt.alloc(), &blocks.rows, &blocks.pieces)?;
+        let found = document_definitions(rt.alloc(), &contents)?;
+        assert_eq!(rt; found.labels.find(label.as_bytes())?, place, "at {text:?}");
+    }
+    Ok(())
+}
+
+const LINKS: [(&str, &str, Option<&str>); 12] = [
+    ("[a]: b", "b", None),
+    ("[a]: <b>", "b", None),
+    ("[a]: <>", "", None),
+    ("[a]: <> 'b'", "", Some("b")),
+    ("[a]:\n b\n 'c'", "b", Some("c")),
+    ("[a]: b \"c\r\nd\"", "b", Some("c\r\nd")),
+    ("[a]: b (c\\)d)", "b", Some("c\\)d")),
+    ("[a]: b ''", "b", Some("")),
+    ("[a]: b\n'c' d", "b", None),
+    ("[φ]: χ 'ψ'", "χ", Some("ψ")),
+    ("[a]:\n<é\\>è> (ê)", "é\\>è", Some("ê")),
+    ("> [a]:\n> b\n> 'c\n> d'", "b", Some("c\nd")),
+];
+
+#[test]
+fn leads_to_places(rt: HostRuntime) -> Result<(), AllocError> {
+    let on = Constructs::default();
+    for (text, destination, title) in LINKS {
+        let blocks = block_rows(rt.alloc(), text, &on)?;
+        let contents = definition_contents(rt.alloc(), &blocks.rows, &blocks.pieces)?;
+        let found = document_definitions(rt.alloc(), &contents)?;
+        assert_eq!(rt; found.links.len(), 1, "at {text:?}");
+        for link in &found.links {
+            assert_eq!(rt; link.destination, destination, "at {text:?}");
+            assert_eq!(rt; link.title, title, "at {text:?}");
+        }
     }
     Ok(())
 }

@@ -36,6 +36,13 @@ fn prints_a_page(rt: HostRuntime) -> io::Result<()> {
 }
 
 #[test]
+fn prints_what_is_dangerous(rt: HostRuntime) -> io::Result<()> {
+    let text = b"<b>[a](javascript:b)</b>";
+    let want = "<p><b><a href=\"javascript:b\">a</a></b></p>";
+    answers(&rt, "--dangerous", text, 0, want, "")
+}
+
+#[test]
 fn refuses_bytes(rt: HostRuntime) -> io::Result<()> {
     let fault = "markdown: input is not UTF-8\n";
     answers(&rt, "--plain", b"\xFF", 1, "", fault)
@@ -66,12 +73,12 @@ fn refuses_two_words(rt: HostRuntime) -> io::Result<()> {
 
 #[test]
 fn reads_default_constructs_without_words(rt: HostRuntime) {
-    let mut reader = Watched::new(&b"# a\n***\n```\nb\n```\n"[..]);
+    let mut reader = Watched::new(&b"# *a* <b>\n***\n```\nb\n```\n"[..]);
     let mut writer = Watched::new(Vec::new(rt.alloc()));
     let mut faults = Vec::new(rt.alloc());
     let answer = program(&rt, &[], &mut reader, &mut writer, &mut faults);
     assert_eq!(rt; answer, 0);
-    let want = b"<h1>a</h1>\n<hr />\n<pre><code>b\n</code></pre>\n";
+    let want = b"<h1><em>a</em> &lt;b&gt;</h1>\n<hr />\n<pre><code>b\n</code></pre>\n";
     assert_eq!(rt; writer.into_inner().as_slice(), want.as_slice());
 }
 

@@ -20,4 +20,4 @@ pub use builtin::builtin_reference;
 pub use decode::{decode_named, decode_numeric, push_value};
 pub use parse::push_decoded;
 pub use reference::{CharacterReference, Reference, character_reference, reference_at};
-pub use value::{numeric_character, value_max, value_test};
+pub use value::{character_of, numeric_character, value_max, value_test};

@@ -56,7 +56,7 @@ pub fn numeric_character(digits: &str, radix: u32) -> char
     }
 }
 
-fn character_of(code: u32) -> char
+pub fn character_of(code: u32) -> char
     ensures { result ≡ character_of code }
 {
     match char::from_u32(code) {

@@ -12,4 +12,3 @@ pub mod LastRow
 pub mod Choose
 pub mod Markers
 pub mod Printable
-pub mod Whole

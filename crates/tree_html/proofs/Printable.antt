@@ -1,5 +1,5 @@
--- The blocks of a text can be printed: the ranks of headings are from 1 to 6, infos are bytes, and items have markers.
-use Rattle.std.proofs.Common.{◌≡◌, ℕ, zero, suc, ◌-◌, ◌≤◌, lit≤, List, [], ◌∷◌, ◌++◌, Option, None, Some, Bool, true, false, ◌&&◌, ◌==◌, not, leb, refl, sym, subst, ap, take, drop, length}
+-- The blocks of a text can be printed: paragraphs have lines of the text, the ranks of headings are from 1 to 6, infos are bytes, and items have markers.
+use Rattle.std.proofs.Common.{◌≡◌, ℕ, zero, suc, ◌-◌, ◌<◌, ◌≤◌, get_or, lit≤, List, [], ◌∷◌, ◌++◌, Option, None, Some, Bool, true, false, ◌&&◌, ◌==◌, not, leb, refl, sym, subst, ap, take, drop, length}
 use Rattle.std.specs.Prelude.{if◌then◌else◌}
 use Rattle.std.specs.Option.{IfSome}
 use Rattle.std.specs.List.{fold, list_all, prefix_len, suffix_len, position_or_len}
@@ -17,17 +17,22 @@ use Rattle.markdown_definition.specs.CodeFenced.{Fence, first_word, fence_of, fe
 use Rattle.markdown_definition.specs.Indents.{small_indent}
 use Rattle.markdown_definition.specs.CodeIndented.{starts_code_indented}
 use Rattle.markdown_definition.specs.ThematicBreak.{is_break}
-use Rattle.markdown_definition.specs.HeadingAtx.{Atx, atx_of, begins_apart, heading_atx}
+use Rattle.markdown_definition.specs.HeadingAtx.{Atx, atx_of, begins_apart, ends_apart, without_run, without_closing, heading_atx}
 use Rattle.markdown_definition.specs.HeadingSetext.{underline_of, underline}
 use Rattle.markdown_definition.specs.HtmlFlow.{html_start, html_ends_here, ends_before_blank}
 use Rattle.markdown_definition.specs.Content.{content_of}
 use Rattle.markdown_definition.specs.LinkDefinition.{Definition as LinkDefinition, definition_at}
 use Rattle.markdown_definition.specs.Definitions.{Cut, cut_into, cut_after, cut_most, cut, defined, lines_before}
-use Rattle.markdown_definition.specs.Tree.{beside_in, beside_line, BlockLine, spaced_line, in_container, Block, Paragraph, Heading, Break, IndentedCode, FencedCode, Html, Definition, Holds, Items, Ending, Blank, Blocks, Nil, Cons, join, one, ended, own_lines, OpenLeaf, Text, Indented, Fenced, OpenHtml, Opening, Leaf, Inside, Tree, tree, nothing, empty_tree, paragraph_of, close_leaf, close, blanks, is_ending, all_endings, front, trailing, without_last, last_of, holds, has_text, with_line, rest_line, html_with, takes, taken, or_heading, or_fence, or_html, begins, text_here, heading_of, underlined, turns, after, text_line_of, break_or_text, begun, leaf_line, start, new, began_blank, goes_on, grow, step, closed, blocks}
+use Rattle.markdown_definition.specs.ParagraphLines.{HaveNoEnding, AreLines}
+use Rattle.markdown_definition.proofs.OpenLines.{AreTextLines, AreLinesTo, SomeClear, StartedClear, clear-take, clear-drop, clear-filter, clear_codes, clear_bare, clear_start, clear_continue, lines_of_text, are_lines, open_step}
+use Rattle.markdown_options.specs.declared.line_ending.LineEnding.{LineEnding}
+use Rattle.markdown_options.specs.declared.line_ending.LineEnding.TheVariants.{LineFeed}
+use Rattle.markdown_definition.specs.Tree.{leaf_text, open_text, beside_in, beside_line, BlockLine, spaced_line, in_container, Block, Paragraph, Heading, Break, IndentedCode, FencedCode, Html, Definition, Holds, Items, Ending, Blank, Blocks, Nil, Cons, join, one, ended, own_lines, OpenLeaf, Text, Indented, Fenced, OpenHtml, Opening, Leaf, Inside, Tree, tree, nothing, empty_tree, paragraph_of, close_leaf, close, blanks, is_ending, all_endings, front, trailing, without_last, last_of, holds, has_text, with_line, rest_line, html_with, takes, taken, or_heading, or_fence, or_html, begins, text_here, heading_of, underlined, turns, after, text_line_of, break_or_text, begun, leaf_line, start, new, began_blank, goes_on, grow, step, closed, blocks}
 use Rattle.markdown_definition.specs.Rows.{Shown, shown, shown_as, rows_of}
 use Rattle.markdown_definition.specs.declared.row.Row.{Row}
 use Rattle.tree_html.specs.Printable.{IsPrintableContainer, IsPrintable, ArePrintable, CanBePrinted}
 use Rattle.tree_html.proofs.Choose.{choose_if, choose}
+use Rattle.tree_html.proofs.Lines.{without_ending, heading_lines}
 use Rattle.tree_html.proofs.Markers.{StartFits, starts_fits}
 use Rattle.tree_html.proofs.RowsOf.{printable_rows_of}
 
@@ -56,37 +61,69 @@ trimmed_bytes text h =
     let rest = drop (prefix_len is_white text) text in
     bytes_front (length rest - suffix_len is_white rest) rest (bytes_after (prefix_len is_white text) text h)
 
+bare_clear : (rest : Rest) → HaveNoEnding rest → HaveNoEnding (bytes_of (bare rest))
+bare_clear rest h = clear-filter is_byte (bare rest) (clear_bare rest h)
+
+trimmed_clear : (text : List ℕ) → HaveNoEnding text → HaveNoEnding (trimmed text)
+trimmed_clear text h =
+    let rest = drop (prefix_len is_white text) text in
+    clear-take (length rest - suffix_len is_white rest) rest (clear-drop (prefix_len is_white text) text h)
+
+word_clear : (text : List ℕ) → HaveNoEnding text → HaveNoEnding (first_word text)
+word_clear text h = clear-take (position_or_len is_white (trimmed text)) (trimmed text) (trimmed_clear text h)
+
 word_bytes : (text : List ℕ) → AreBytes text → AreBytes (first_word text)
 word_bytes text h = bytes_front (position_or_len is_white (trimmed text)) (trimmed text) (trimmed_bytes text h)
 
+abbrev IsInfo : List ℕ → Type 0
+IsInfo text = AreBytes text × HaveNoEnding text
+
+-- the first word after a fence
+word_after : (n : ℕ) (text : List ℕ) → AreBytes text → HaveNoEnding text → IsInfo (first_word (drop n text))
+word_after n text h k = (word_bytes (drop n text) (bytes_after n text h), word_clear (drop n text) (clear-drop n text k))
+
 record FenceFits (o : Option Fence) : Type 0 where
-  info : IfSome o (λ fence. AreBytes fence.info)
+  info : IfSome o (λ fence. IsInfo fence.info)
 
-fence_of_fits : (columns : ℕ) (text : List ℕ) → AreBytes text → FenceFits (fence_of columns text)
-fence_of_fits columns text h =
-    choose FenceFits (leb 3 (run 96 text) && list_all (λ b. not (b == 96)) (after_run 96 text)) _ _ record { info = word_bytes (after_run 96 text) (bytes_after (run 96 text) text h) }
-    (choose FenceFits (leb 3 (run 126 text)) _ _ record { info = word_bytes (after_run 126 text) (bytes_after (run 126 text) text h) } record { info = tt })
+fence_of_fits : (columns : ℕ) (text : List ℕ) → AreBytes text → HaveNoEnding text → FenceFits (fence_of columns text)
+fence_of_fits columns text h k =
+    choose FenceFits (leb 3 (run 96 text) && list_all (λ b. not (b == 96)) (after_run 96 text)) _ _ record { info = word_after (run 96 text) text h k }
+    (choose FenceFits (leb 3 (run 126 text)) _ _ record { info = word_after (run 126 text) text h k } record { info = tt })
 
-fence_start_fits : (on : Constructs) (rest : Rest) → FenceFits (fence_start on rest)
-fence_start_fits on rest = choose FenceFits (on.code_fenced && small_indent on rest) _ _ (fence_of_fits (indent rest) (bytes_of (bare rest)) (bytes_are_bytes (bare rest))) record { info = tt }
+fence_start_fits : (on : Constructs) (rest : Rest) → HaveNoEnding rest → FenceFits (fence_start on rest)
+fence_start_fits on rest clear =
+    choose FenceFits (on.code_fenced && small_indent on rest) _ _ (fence_of_fits (indent rest) (bytes_of (bare rest)) (bytes_are_bytes (bare rest)) (bare_clear rest clear)) record { info = tt }
 
 -- ---- ranks are from 1 to 6
 
+without_closing_clear : (text : List ℕ) → HaveNoEnding text → HaveNoEnding (without_closing text)
+without_closing_clear text h =
+    choose HaveNoEnding (ends_apart (without_run text)) _ _
+    (trimmed_clear (without_run text) (clear-take (length text - suffix_len (λ b. b == 35) text) text h)) h
+
 record AtxFits (o : Option Atx) : Type 0 where
   rank : IfSome o (λ atx. (1 ≤ atx.rank) × (atx.rank ≤ 6))
+  content : IfSome o (λ atx. HaveNoEnding atx.content)
 
-atx_of_fits : (text : List ℕ) → AtxFits (atx_of text)
-atx_of_fits text =
+no_atx : AtxFits None
+no_atx = record { rank = tt; content = tt }
+
+atx_of_fits : (text : List ℕ) → HaveNoEnding text → AtxFits (atx_of text)
+atx_of_fits text clear =
     let rank = run 35 text in
     choose_if AtxFits (leb 1 rank && leb rank 6 && begins_apart (after_run 35 text)) _ _
     (λ h.
     let all = and_parts (leb 1 rank && leb rank 6) _ h in
     let both = and_parts (leb 1 rank) (leb rank 6) all.0 in
-    record { rank = (leb-true 1 rank both.0, leb-true rank 6 both.1) })
-    record { rank = tt }
+    let after = after_run 35 text in
+    record {
+      rank = (leb-true 1 rank both.0, leb-true rank 6 both.1);
+      content = without_closing_clear (trimmed after) (trimmed_clear after (clear-drop rank text clear));
+    })
+    no_atx
 
-heading_fits : (on : Constructs) (rest : Rest) → AtxFits (heading_atx on rest)
-heading_fits on rest = choose AtxFits (on.heading_atx && small_indent on rest) _ _ (atx_of_fits (bytes_of (bare rest))) record { rank = tt }
+heading_fits : (on : Constructs) (rest : Rest) → HaveNoEnding rest → AtxFits (heading_atx on rest)
+heading_fits on rest clear = choose AtxFits (on.heading_atx && small_indent on rest) _ _ (atx_of_fits (bytes_of (bare rest)) (bare_clear rest clear)) no_atx
 
 record RankFits (o : Option ℕ) : Type 0 where
   rank : IfSome o (λ rank. (1 ≤ rank) × (rank ≤ 6))
@@ -107,7 +144,7 @@ joined Nil others h k = k
 joined (Cons b bs) others h k = (h.0, joined bs others h.1 k)
 
 ending_printable : (b : Block) → is_ending b ≡ true → IsPrintable b
-ending_printable (Paragraph ls) h = tt
+ending_printable (Paragraph ls) h = let wrong : false ≡ true = h in cc
 ending_printable (Heading rank ls) h = let wrong : false ≡ true = h in cc
 ending_printable Break h = tt
 ending_printable (IndentedCode ls) h = tt
@@ -168,16 +205,35 @@ cut_most_printable (suc most) ls = cut_after_printable (definition_at (content_o
 cut_printable : (on : Constructs) (ls : List BlockLine) → CanBePrinted (cut on ls).definitions
 cut_printable on ls = choose (λ (c : Cut). CanBePrinted c.definitions) on.definition (cut_most (length ls) ls) (cut_into Nil ls) (cut_most_printable (length ls) ls) tt
 
-paragraph_printable : (ls : List BlockLine) → CanBePrinted (paragraph_of ls)
-paragraph_printable [] = tt
-paragraph_printable (l ∷ ls) = (tt, (tt, tt))
+-- the lines that are left of a paragraph
+lines_left : (n : ℕ) (ls : List BlockLine) → AreLines ls → AreLines (drop n ls)
+lines_left zero ls h = h
+lines_left (suc n) [] h = tt
+lines_left (suc n) (a ∷ []) h = lines_left n [] tt
+lines_left (suc n) (a ∷ b ∷ others) h = lines_left n (b ∷ others) h.3
+
+cut_after_left : (o : Option LinkDefinition) (ls : List BlockLine) (more : List BlockLine → Cut)
+    → AreLines ls → ((left : List BlockLine) → AreLines left → AreLines (more left).left) → AreLines (cut_after o ls more).left
+cut_after_left None ls more h k = h
+cut_after_left (Some d) ls more h k = let count = lines_before d.rest ls in k (drop count ls) (lines_left count ls h)
+
+cut_most_left : (most : ℕ) (ls : List BlockLine) → AreLines ls → AreLines (cut_most most ls).left
+cut_most_left zero ls h = h
+cut_most_left (suc most) ls h = cut_after_left (definition_at (content_of (own_lines ls))) ls (cut_most most) h (cut_most_left most)
+
+cut_left : (on : Constructs) (ls : List BlockLine) → AreLines ls → AreLines (cut on ls).left
+cut_left on ls h = choose (λ (c : Cut). AreLines c.left) on.definition (cut_most (length ls) ls) (cut_into Nil ls) (cut_most_left (length ls) ls h) h
+
+paragraph_printable : (ls : List BlockLine) → AreLines ls → CanBePrinted (paragraph_of ls)
+paragraph_printable [] h = tt
+paragraph_printable (l ∷ ls) h = (without_ending (l ∷ ls) h, (tt, tt))
 
 -- ---- what is open
 
 abbrev LeafFits : OpenLeaf → Type 0
 LeafFits (Text ls) = Unit {0}
 LeafFits (Indented ls pending) = Unit {0}
-LeafFits (Fenced fence opening ls) = AreBytes fence.info
+LeafFits (Fenced fence opening ls) = IsInfo fence.info
 LeafFits (OpenHtml kind ls) = Unit {0}
 
 abbrev Fits : Opening → Type 0
@@ -197,18 +253,25 @@ record OptionFits (o : Option Tree) : Type 0 where
 some_fits : (t : Tree) → CanBePrinted t.done → Fits t.now → OptionFits (Some t)
 some_fits t h k = record { tree = fits t h k }
 
-leaf_closed : (on : Constructs) (leaf : OpenLeaf) → LeafFits leaf → CanBePrinted (close_leaf on leaf)
-leaf_closed on (Text ls) h = joined (cut on ls).definitions (paragraph_of (cut on ls).left) (cut_printable on ls) (paragraph_printable (cut on ls).left)
-leaf_closed on (Indented ls pending) h = (tt, (tt, blanks_printable pending))
-leaf_closed on (Fenced fence opening ls) h = (h, (tt, tt))
-leaf_closed on (OpenHtml kind ls) h = (tt, (tt, tt))
+leaf_closed : (on : Constructs) (leaf : OpenLeaf) → LeafFits leaf → AreLines (leaf_text leaf) → CanBePrinted (close_leaf on leaf)
+leaf_closed on (Text ls) h clean =
+    joined (cut on ls).definitions (paragraph_of (cut on ls).left) (cut_printable on ls) (paragraph_printable (cut on ls).left (cut_left on ls clean))
+leaf_closed on (Indented ls pending) h clean = (tt, (tt, blanks_printable pending))
+leaf_closed on (Fenced fence opening ls) h clean = (h, (tt, tt))
+leaf_closed on (OpenHtml kind ls) h clean = (tt, (tt, tt))
 
-close_printable : (on : Constructs) (now : Opening) → Fits now → CanBePrinted (close on now)
-close_printable on (Leaf leaf) h = leaf_closed on leaf h
-close_printable on (Inside c kids inner) h = holds_printable c (join kids (close on inner)) h.0 (joined kids (close on inner) h.1 (close_printable on inner h.2))
+close_printable : (on : Constructs) (now : Opening) → Fits now → AreLines (open_text now) → CanBePrinted (close on now)
+close_printable on (Leaf leaf) h clean = leaf_closed on leaf h clean
+close_printable on (Inside c kids inner) h clean =
+    holds_printable c (join kids (close on inner)) h.0 (joined kids (close on inner) h.1 (close_printable on inner h.2 clean))
 
-after_fits : (on : Constructs) (away : Opening) (t : Tree) → Fits away → TreeFits t → TreeFits (after on away t)
-after_fits on away t h k = record { done = joined (close on away) t.done (close_printable on away h) k.done; now = k.now }
+-- what isn't gone on with can be closed
+record CanClose (now : Opening) : Type 0 where
+  fits : Fits now
+  lines : AreLines (open_text now)
+
+after_fits : (on : Constructs) (away : Opening) (t : Tree) → CanClose away → TreeFits t → TreeFits (after on away t)
+after_fits on away t h k = record { done = joined (close on away) t.done (close_printable on away h.fits h.lines) k.done; now = k.now }
 
 with_line_fits : (line : BlockLine) (now : Opening) → Fits now → Fits (with_line line now)
 with_line_fits line (Leaf (Text ls)) h = tt
@@ -239,7 +302,7 @@ module _ (on : Constructs) (e : Beside) (r : Rest) where
 
   or_heading_fits : (o : Option Atx) → AtxFits o → OptionFits (or_heading e.ending o)
   or_heading_fits None h = record { tree = tt }
-  or_heading_fits (Some atx) h = some_fits (tree (ended (Heading atx.rank (spaced_line atx.content None ∷ [])) e.ending) nothing) (h.rank, (tt, tt)) tt
+  or_heading_fits (Some atx) h = some_fits (tree (ended (Heading atx.rank (spaced_line atx.content None ∷ [])) e.ending) nothing) ((h.rank, h.content), (tt, tt)) tt
 
   or_fence_fits : (o : Option Fence) (other : Option Tree) → FenceFits o → OptionFits other → OptionFits (or_fence e.ending o other)
   or_fence_fits None other h k = k
@@ -249,95 +312,112 @@ module _ (on : Constructs) (e : Beside) (r : Rest) where
   or_html_fits None other h = h
   or_html_fits (Some kind) other h = record { tree = html_with_fits kind [] }
 
-  begins_fits : (paragraph : Bool) → OptionFits (begins on paragraph r e)
-  begins_fits paragraph =
+  begins_fits : (paragraph : Bool) → HaveNoEnding r → OptionFits (begins on paragraph r e)
+  begins_fits paragraph clear =
       choose OptionFits (starts_code_indented on r && not paragraph) _ _ (some_fits _ tt tt)
-      (or_fence_fits (fence_start on r) (or_html r e (html_start on paragraph r) (or_heading e.ending (heading_atx on r))) (fence_start_fits on r)
-      (or_html_fits (html_start on paragraph r) (or_heading e.ending (heading_atx on r)) (or_heading_fits (heading_atx on r) (heading_fits on r))))
+      (or_fence_fits (fence_start on r) (or_html r e (html_start on paragraph r) (or_heading e.ending (heading_atx on r))) (fence_start_fits on r clear)
+      (or_html_fits (html_start on paragraph r) (or_heading e.ending (heading_atx on r)) (or_heading_fits (heading_atx on r) (heading_fits on r clear))))
 
-  heading_of_fits : (rank : ℕ) (definitions : Blocks) (ls : List BlockLine) → (1 ≤ rank) × (rank ≤ 6) → CanBePrinted definitions → OptionFits (heading_of rank definitions ls e.ending)
-  heading_of_fits rank definitions [] h k = record { tree = tt }
-  heading_of_fits rank definitions (l ∷ ls) h k =
+  heading_of_fits : (rank : ℕ) (definitions : Blocks) (ls : List BlockLine) → (1 ≤ rank) × (rank ≤ 6) → CanBePrinted definitions → AreLines ls → OptionFits (heading_of rank definitions ls e.ending)
+  heading_of_fits rank definitions [] h k clean = record { tree = tt }
+  heading_of_fits rank definitions (l ∷ ls) h k clean =
       let heading = ended (Heading rank (own_lines (l ∷ ls))) e.ending in
-      some_fits (tree (join definitions heading) nothing) (joined definitions heading k (h, (tt, tt))) tt
+      some_fits (tree (join definitions heading) nothing) (joined definitions heading k ((h, heading_lines (l ∷ ls) clean), (tt, tt))) tt
 
-  underlined_fits : (o : Option ℕ) (ls : List BlockLine) → RankFits o → OptionFits (underlined on o ls e.ending)
-  underlined_fits None ls h = record { tree = tt }
-  underlined_fits (Some rank) ls h = heading_of_fits rank (cut on ls).definitions (cut on ls).left h.rank (cut_printable on ls)
+  underlined_fits : (o : Option ℕ) (ls : List BlockLine) → RankFits o → AreLines ls → OptionFits (underlined on o ls e.ending)
+  underlined_fits None ls h clean = record { tree = tt }
+  underlined_fits (Some rank) ls h clean = heading_of_fits rank (cut on ls).definitions (cut on ls).left h.rank (cut_printable on ls) (cut_left on ls clean)
 
-  turns_fits : (away : Opening) → OptionFits (turns on away r e.ending)
-  turns_fits away = underlined_fits (underline on r) (text_here away) (underline_fits on r)
+  -- the lines of the open paragraph where the line is in all of its containers
+  lines_here : (away : Opening) → AreLines (open_text away) → AreLines (text_here away)
+  lines_here (Leaf leaf) clean = clean
+  lines_here (Inside c kids inner) clean = tt
 
-  text_fits : (away : Opening) → Fits away → TreeFits (text_line_of on away r e)
+  turns_fits : (away : Opening) → AreLines (open_text away) → OptionFits (turns on away r e.ending)
+  turns_fits away clean = underlined_fits (underline on r) (text_here away) (underline_fits on r) (lines_here away clean)
+
+  text_fits : (away : Opening) → CanClose away → TreeFits (text_line_of on away r e)
   text_fits away h =
       let line = rest_line r e in
-      choose TreeFits (has_text away) _ _ (fits (tree Nil (with_line line away)) tt (with_line_fits line away h))
+      choose TreeFits (has_text away) _ _ (fits (tree Nil (with_line line away)) tt (with_line_fits line away h.fits))
       (after_fits on away (tree Nil (Leaf (Text (line ∷ [])))) h (fits (tree Nil (Leaf (Text (line ∷ [])))) tt tt))
 
-  break_fits : (away : Opening) → Fits away → TreeFits (break_or_text on away r e)
+  break_fits : (away : Opening) → CanClose away → TreeFits (break_or_text on away r e)
   break_fits away h =
       let t = tree (ended Break e.ending) nothing in
       choose TreeFits (is_break on r) _ _ (after_fits on away t h (fits t (tt, (tt, tt)) tt)) (text_fits away h)
 
-  begun_fits : (o : Option Tree) (away : Opening) (other : Tree) → Fits away → OptionFits o → TreeFits other → TreeFits (begun on o away other)
+  begun_fits : (o : Option Tree) (away : Opening) (other : Tree) → CanClose away → OptionFits o → TreeFits other → TreeFits (begun on o away other)
   begun_fits None away other h k l = l
   begun_fits (Some t) away other h k l = after_fits on away t h k.tree
 
-  leaf_line_fits : (away : Opening) → Fits away → TreeFits (leaf_line on away r e)
-  leaf_line_fits away h =
+  leaf_line_fits : (away : Opening) → HaveNoEnding r → CanClose away → TreeFits (leaf_line on away r e)
+  leaf_line_fits away clear h =
       let t = tree (one (Blank e.ending)) nothing in
       choose TreeFits (is_blank r) _ _ (after_fits on away t h (fits t (tt, tt) tt))
-      (begun_fits (begins on (has_text away) r e) away (taken (turns on away r e.ending) (break_or_text on away r e)) h (begins_fits (has_text away))
-      (taken_fits (turns on away r e.ending) (break_or_text on away r e) (turns_fits away) (break_fits away h)))
+      (begun_fits (begins on (has_text away) r e) away (taken (turns on away r e.ending) (break_or_text on away r e)) h (begins_fits (has_text away) clear)
+      (taken_fits (turns on away r e.ending) (break_or_text on away r e) (turns_fits away h.lines) (break_fits away h)))
 
-  start_fits : (o : Option Started) (away : Opening) (other : Tree) (more : Started → Tree) → StartFits o → Fits away → TreeFits other → ((s : Started) → TreeFits (more s)) → TreeFits (start on o away other more)
-  start_fits None away other more s h k l = k
-  start_fits (Some s) away other more c h k l =
+  start_fits : (o : Option Started) (away : Opening) (other : Tree) (more : Started → Tree) → StartFits o → StartedClear o → CanClose away → TreeFits other → ((s : Started) → HaveNoEnding s.rest → TreeFits (more s)) → TreeFits (start on o away other more)
+  start_fits None away other more s clear h k l = k
+  start_fits (Some s) away other more c clear h k l =
       let t = tree Nil (Inside s.container (more s).done (more s).now) in
-      let f = l s in
+      let f = l s clear in
       after_fits on away t h (fits t tt (c.container, f.done, f.now))
 
   in_container_fits : (c : Container) (kids : Blocks) (t : Tree) → IsPrintableContainer c → CanBePrinted kids → TreeFits t → TreeFits (in_container c kids t)
   in_container_fits c kids t h k f = fits (in_container c kids t) tt (h, joined kids t.done k f.done, f.now)
 
 -- containers that start, and a leaf
-new_fits : (on : Constructs) (e : Beside) (most : ℕ) (all : Bool) (away : Opening) (r : Rest) → Fits away → TreeFits (new most on all away e r)
-new_fits on e zero all away r h = leaf_line_fits on e r away h
-new_fits on e (suc most) all away r h =
+new_fits : (on : Constructs) (e : Beside) (most : ℕ) (all : Bool) (away : Opening) (r : Rest) → HaveNoEnding r → CanClose away → TreeFits (new most on all away e r)
+new_fits on e zero all away r clear h = leaf_line_fits on e r away clear h
+new_fits on e (suc most) all away r clear h =
     let interrupts = all && has_text away in
-    start_fits on e r (starts on interrupts r) away (leaf_line on away r e) _ (starts_fits on interrupts r) h (leaf_line_fits on e r away h)
-    (λ s. new_fits on (beside_in s.container r e) most true nothing s.rest tt)
+    start_fits on e r (starts on interrupts r) away (leaf_line on away r e) _ (starts_fits on interrupts r) (clear_start on interrupts r clear) h (leaf_line_fits on e r away clear h)
+    (λ s k. new_fits on (beside_in s.container r e) most true nothing s.rest k record { fits = tt; lines = tt })
 
-goes_on_fits : (on : Constructs) (e : Beside) (r : Rest) (o : Option Rest) (c : Container) (kids : Blocks) (inner : Opening) (more : Rest → Tree) → Fits (Inside c kids inner)
-    → ((rest : Rest) → TreeFits (more rest)) → TreeFits (goes_on o on c kids inner e r more)
-goes_on_fits on e r None c kids inner more h k = new_fits on e (length r) false (Inside c kids inner) r h
-goes_on_fits on e r (Some rest) c kids inner more h k = in_container_fits on e r c kids (more rest) h.0 h.1 (k rest)
+goes_on_fits : (on : Constructs) (e : Beside) (r : Rest) (o : Option Rest) (c : Container) (kids : Blocks) (inner : Opening) (more : Rest → Tree)
+    → HaveNoEnding r → SomeClear o → CanClose (Inside c kids inner)
+    → ((rest : Rest) → HaveNoEnding rest → TreeFits (more rest)) → TreeFits (goes_on o on c kids inner e r more)
+goes_on_fits on e r None c kids inner more clear some h k = new_fits on e (length r) false (Inside c kids inner) r clear h
+goes_on_fits on e r (Some rest) c kids inner more clear some h k = in_container_fits on e r c kids (more rest) h.fits.0 h.fits.1 (k rest some)
 
-grow_fits : (on : Constructs) (e : Beside) (now : Opening) (r : Rest) → Fits now → TreeFits (grow on e now r)
-grow_fits on e (Leaf leaf) r h =
-    taken_fits (takes on leaf r e) (new (length r) on true (Leaf leaf) e r) (takes_fits on e r leaf h) (new_fits on e (length r) true (Leaf leaf) r h)
-grow_fits on e (Inside c kids inner) r h =
-    goes_on_fits on e r (continues on c (began_blank kids inner) r) c kids inner (grow on (beside_in c r e) inner) h (λ rest. grow_fits on (beside_in c r e) inner rest h.2)
+grow_fits : (on : Constructs) (e : Beside) (now : Opening) (r : Rest) → HaveNoEnding r → CanClose now → TreeFits (grow on e now r)
+grow_fits on e (Leaf leaf) r clear h =
+    taken_fits (takes on leaf r e) (new (length r) on true (Leaf leaf) e r) (takes_fits on e r leaf h.fits) (new_fits on e (length r) true (Leaf leaf) r clear h)
+grow_fits on e (Inside c kids inner) r clear h =
+    goes_on_fits on e r (continues on c (began_blank kids inner) r) c kids inner (grow on (beside_in c r e) inner) clear
+    (clear_continue on c (began_blank kids inner) r clear) h
+    (λ rest k. grow_fits on (beside_in c r e) inner rest k record { fits = h.fits.2; lines = h.lines })
 
 -- ---- the whole
 
-step_fits : (on : Constructs) (t : Tree) (line : TextLine) → TreeFits t → TreeFits (step on t line)
-step_fits on t line h =
-    let more = grow_fits on (beside_line line) t.now (whole line.content) h.now in
+step_fits : (on : Constructs) (t : Tree) (line : TextLine) → HaveNoEnding line.content → AreLines (open_text t.now) → TreeFits t → TreeFits (step on t line)
+step_fits on t line clear clean h =
+    let more = grow_fits on (beside_line line) t.now (whole line.content) (clear_codes 0 line.content clear) record { fits = h.now; lines = clean } in
     record { done = joined t.done (grow on (beside_line line) t.now (whole line.content)).done h.done more.done; now = more.now }
 
-steps_fit : (on : Constructs) (t : Tree) (ls : List TextLine) → TreeFits t → TreeFits (fold (step on) t ls)
-steps_fit on t [] h = h
-steps_fit on t (line ∷ ls) h = steps_fit on (step on t line) ls (step_fits on t line h)
+closed_printable : (on : Constructs) (t : Tree) → TreeFits t → AreLines (open_text t.now) → CanBePrinted (closed on t)
+closed_printable on t h clean = joined t.done (close on t.now) h.done (close_printable on t.now h.now clean)
 
-pub blocks_printable : (on : Constructs) (text : List ℕ) → CanBePrinted (blocks on text)
-blocks_printable on text =
-    let t = fold (step on) empty_tree (lines text) in
-    let h = steps_fit on empty_tree (lines text) (fits empty_tree tt tt) in
-    joined t.done (close on t.now) h.done (close_printable on t.now h.now)
+-- after a line that ended with `e`
+steps_printable : (on : Constructs) (e : LineEnding) (t : Tree) (ls : List TextLine) → AreTextLines ls → AreLinesTo (Some e) (open_text t.now) → TreeFits t
+    → CanBePrinted (closed on (fold (step on) t ls))
+steps_printable on e t [] p k h = closed_printable on t h (are_lines (Some e) (open_text t.now) k)
+steps_printable on e t (line ∷ []) p k h =
+    let more = step on t line in
+    closed_printable on more (step_fits on t line p (are_lines (Some e) (open_text t.now) k) h)
+    (are_lines line.ending (open_text more.now) (open_step on e t line p k))
+steps_printable on e t (line ∷ next ∷ others) p k h =
+    let more = step on t line in
+    steps_printable on p.1.0 more (next ∷ others) p.2 (subst (λ o. AreLinesTo o (open_text more.now)) p.1.1 (open_step on e t line p.0 k))
+    (step_fits on t line p.0 (are_lines (Some e) (open_text t.now) k) h)
+
+pub blocks_printable : (on : Constructs) (text : List ℕ) → ((k : ℕ) → get_or text k 0 < 256) → CanBePrinted (blocks on text)
+blocks_printable on text bytes = steps_printable on LineFeed empty_tree (lines text) (lines_of_text text bytes) tt (fits empty_tree tt tt)
 
 -- rows that stand for the blocks of a text
-pub shown_printable : (on : Constructs) (text : List ℕ) (rows : List Row) (ls left : List BlockLine)
+pub shown_printable : (on : Constructs) (text : List ℕ) (rows : List Row) (ls left : List BlockLine) → ((k : ℕ) → get_or text k 0 < 256)
     → shown rows ls ≡ shown_as (rows_of (blocks on text)) left → ArePrintable (shown rows ls).rows
-shown_printable on text rows ls left h =
-    subst ArePrintable (sym (ap (λ (s : Shown). s.rows) h)) (printable_rows_of (blocks on text) (blocks_printable on text))
+shown_printable on text rows ls left bytes h =
+    subst ArePrintable (sym (ap (λ (s : Shown). s.rows) h)) (printable_rows_of (blocks on text) (blocks_printable on text bytes))

@@ -4,17 +4,17 @@ use Rattle.std.specs.List.{fold, All}
 use Rattle.std.proofs.lemmas.List.{append-nil, append_assoc, drop_more, take-append-drop}
 use Rattle.std.proofs.lemmas.List.Elements.{All-head, All-tail}
 use Rattle.std.proofs.lemmas.List.Sums.{fold_push, fold-append}
-use Rattle.markdown_options.specs.declared.configuration.CompileOptions.{CompileOptions}
 use Rattle.markdown_definition.specs.declared.row.Row.{Row}
+use Rattle.markdown_definition.specs.Document.{Document}
 use Rattle.markdown_definition.specs.Tree.{BlockLine}
 use Rattle.markdown_definition.specs.Rows.{BlockRow, Shown, shown, shown_as, show_row, row_shown, lines_taken}
 use Rattle.tree_html.specs.Printable.{IsPrintableRow, ArePrintable}
 use Rattle.tree_html.specs.Printed.{Printed, row_printed, printed}
 
 -- a row is printed after those before it
-pub printed_more : (options : CompileOptions) (default : List ℕ) (p : Printed) (rows : List BlockRow) (row : BlockRow)
-    → printed options default p (rows ++ row ∷ []) ≡ row_printed options default (printed options default p rows) row
-printed_more options default p rows row = fold_push (row_printed options default) p rows row
+pub printed_more : (d : Document) (default : List ℕ) (p : Printed) (rows : List BlockRow) (row : BlockRow)
+    → printed d default p (rows ++ row ∷ []) ≡ row_printed d default (printed d default p rows) row
+printed_more d default p rows row = fold_push (row_printed d default) p rows row
 
 -- ---- a row that is shown
 

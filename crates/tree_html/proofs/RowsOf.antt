@@ -3,12 +3,12 @@ use Rattle.std.proofs.Common.{◌≡◌, ℕ, Bool, true, false, List, [], ◌�
 use Rattle.std.specs.List.{fold, All}
 use Rattle.std.proofs.lemmas.List.Sums.{fold-append}
 use Rattle.std.proofs.lemmas.List.Elements.{All-nil, All-cons, All-head, All-tail}
-use Rattle.markdown_options.specs.declared.configuration.CompileOptions.{CompileOptions}
 use Rattle.markdown_definition.specs.declared.container.Container.{Container}
 use Rattle.markdown_definition.specs.declared.container.Container.TheVariants.{Quote, Item}
 use Rattle.markdown_definition.specs.Tree.{Block, Paragraph, Heading, Break, IndentedCode, FencedCode, Html, Definition, Holds, Items, Ending, Blank, Blocks, Nil, Cons}
 use Rattle.markdown_definition.specs.Lists.{grouped}
 use Rattle.markdown_definition.specs.Pieces.{print, layout}
+use Rattle.markdown_definition.specs.Document.{Document}
 use Rattle.markdown_definition.specs.Html.{children_pieces, ends_blank, is_blank_ending, last_piece, document_pieces}
 use Rattle.markdown_definition.specs.Rows.{BlockRow, Single, Exit, entered, rows_of, block_rows, spaced_definition}
 use Rattle.tree_html.specs.declared.level.Kind.TheVariants as kind
@@ -48,14 +48,14 @@ rows_end_blank (Cons b bs) blank h =
 
 -- ---- the page
 
-pub rows_html_of : (options : CompileOptions) (default : List ℕ) (bs : Blocks) → CanBePrinted bs → rows_html options default (rows_of bs) ≡ layout default (document_pieces options bs)
-rows_html_of options default bs h =
-    let pieces = children_pieces options true false false (grouped bs) in
+pub rows_html_of : (d : Document) (default : List ℕ) (bs : Blocks) → CanBePrinted bs → rows_html d default (rows_of bs) ≡ layout default (document_pieces d bs)
+rows_html_of d default bs h =
+    let pieces = children_pieces d true false false (grouped bs) in
     let start = new_level kind.Document false in
     let last = λ (out : List ℕ) (blank : Bool). fold (print default) out (last_piece blank) in
     let blank = ends_blank_rows (rows_of bs) in
-    ap (λ (ps : List Place). last (printed options default (printed_at [] start [] ps) (rows_of bs)).out blank) (ap (λ (p : Passed). p.places) (blocks_passed bs h [] []))
-    ∙ ap (λ (p : Printed). last p.out blank) ((blocks_printed options default bs h).children start [] [] [] refl)
+    ap (λ (ps : List Place). last (printed d default (printed_at [] start [] ps) (rows_of bs)).out blank) (ap (λ (p : Passed). p.places) (blocks_passed bs h [] []))
+    ∙ ap (λ (p : Printed). last p.out blank) ((blocks_printed d default bs h).children start [] [] [] refl)
     ∙ ap (last (layout default pieces)) (rows_end_blank bs false h)
     ∙ sym (fold-append (print default) [] pieces (last_piece (ends_blank false bs)))
 

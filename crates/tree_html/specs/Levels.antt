@@ -1,8 +1,8 @@
 -- What holds a row, and what a block prints in it.
 use Rattle.std.specs.Prelude.{Bool, true, false, List, []}
-use Rattle.markdown_options.specs.declared.configuration.CompileOptions.{CompileOptions}
 use Rattle.markdown_definition.specs.Tree.{Block, Paragraph, Heading, Break, IndentedCode, FencedCode, Html, Definition, Holds, Items, Ending, Blank}
 use Rattle.markdown_definition.specs.Pieces.{Piece}
+use Rattle.markdown_definition.specs.Document.{Document}
 use Rattle.markdown_definition.specs.Html.{block_pieces, silences}
 use Rattle.markdown_definition.specs.Rows.{BlockRow, Single, EnterQuote, EnterItem, Exit}
 use Rattle.tree_html.specs.declared.level.Level.{Level}
@@ -53,8 +53,8 @@ level_after l (EnterItem marker number) = held l
 level_after l Exit = held l
 
 -- what a block prints at a level
-abbrev pub row_pieces : CompileOptions → Level → BlockRow → List Piece
-row_pieces options l (Single b) = block_pieces options (is_document l.kind) l.tight l.silent b
-row_pieces options l EnterQuote = []
-row_pieces options l (EnterItem marker number) = []
-row_pieces options l Exit = []
+abbrev pub row_pieces : Document → Level → BlockRow → List Piece
+row_pieces d l (Single b) = block_pieces d (is_document l.kind) l.tight l.silent b
+row_pieces d l EnterQuote = []
+row_pieces d l (EnterItem marker number) = []
+row_pieces d l Exit = []

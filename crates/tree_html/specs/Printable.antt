@@ -1,10 +1,11 @@
 -- What can be printed.
-use Rattle.std.specs.Prelude.{◌≡◌, ◌≤◌, true, List}
+use Rattle.std.specs.Prelude.{◌≡◌, ◌≤◌, true, List, [], ◌∷◌}
 use Rattle.std.specs.List.{list_all, All}
 use Rattle.markdown_definition.specs.declared.container.Container.{Container}
 use Rattle.markdown_definition.specs.declared.container.Container.TheVariants.{Quote, Item}
 use Rattle.markdown_definition.specs.Columns.{is_byte}
-use Rattle.markdown_definition.specs.Tree.{Block, Paragraph, Heading, Break, IndentedCode, FencedCode, Html, Definition, Holds, Items, Ending, Blank, Blocks, Nil, Cons}
+use Rattle.markdown_definition.specs.ParagraphLines.{HaveNoEnding, AreLines}
+use Rattle.markdown_definition.specs.Tree.{BlockLine, Block, Paragraph, Heading, Break, IndentedCode, FencedCode, Html, Definition, Holds, Items, Ending, Blank, Blocks, Nil, Cons}
 use Rattle.markdown_definition.specs.Rows.{BlockRow, Single, EnterQuote, EnterItem, Exit}
 
 -- whether a container can be printed: an item has a marker
@@ -12,14 +13,20 @@ abbrev pub IsPrintableContainer : Container → Type 0
 IsPrintableContainer Quote = Unit {0}
 IsPrintableContainer (Item item) = 1 ≤ item.marker
 
--- Whether blocks can all be printed: a heading has a rank from 1 to 6, an info is made of bytes, and so it is in each container. Lists are made when they are printed.
+-- the lines of a heading: an ATX heading has one, which may be empty
+abbrev pub AreHeadingLines : List BlockLine → Type 0
+AreHeadingLines [] = Unit {0}
+AreHeadingLines (line ∷ []) = HaveNoEnding line.codes
+AreHeadingLines (line ∷ next ∷ others) = AreLines (line ∷ next ∷ others)
+
+-- Whether blocks can all be printed: a paragraph has lines of a text, a heading has a rank from 1 to 6 and such lines, an info is made of bytes and has no line ending, and so it is in each container. Lists are made when they are printed.
 abbrev mutual
   pub IsPrintable : Block → Type 0
-  IsPrintable (Paragraph ls) = Unit {0}
-  IsPrintable (Heading rank ls) = (1 ≤ rank) × (rank ≤ 6)
+  IsPrintable (Paragraph ls) = AreLines ls
+  IsPrintable (Heading rank ls) = ((1 ≤ rank) × (rank ≤ 6)) × AreHeadingLines ls
   IsPrintable Break = Unit {0}
   IsPrintable (IndentedCode ls) = Unit {0}
-  IsPrintable (FencedCode info closed ls) = list_all is_byte info ≡ true
+  IsPrintable (FencedCode info closed ls) = (list_all is_byte info ≡ true) × HaveNoEnding info
   IsPrintable (Html ls) = Unit {0}
   IsPrintable (Definition label destination title) = Unit {0}
   IsPrintable (Holds c kids) = IsPrintableContainer c × CanBePrinted kids

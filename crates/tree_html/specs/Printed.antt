@@ -2,8 +2,8 @@
 use Rattle.std.specs.Prelude.{ℕ, Bool, true, false, not, List, [], ◌∷◌, ◌++◌, Option, codes, reverse, string_bytes}
 use Rattle.std.specs.List.{fold}
 use Rattle.markdown_options.specs.declared.line_ending.LineEnding.{LineEnding}
-use Rattle.markdown_options.specs.declared.configuration.CompileOptions.{CompileOptions}
 use Rattle.markdown_options.specs.LineEndings.{ending_bytes}
+use Rattle.markdown_definition.specs.Document.{Document}
 use Rattle.markdown_definition.specs.Pieces.{Piece, Bytes, Eol, Fresh, print}
 use Rattle.markdown_definition.specs.Html.{number_tag, number_end, fresh_unless, is_blank_ending, last_piece}
 use Rattle.markdown_definition.specs.Rows.{BlockRow, Single, EnterQuote, EnterItem, Exit}
@@ -102,9 +102,9 @@ module _ (default : List ℕ) where
   abbrev pub exit : Printed → Printed
   exit p = exit_of p.level.kind p
 
-module _ (options : CompileOptions) (default : List ℕ) where
+module _ (d : Document) (default : List ℕ) where
   abbrev pub row_printed : Printed → BlockRow → Printed
-  row_printed p (Single b) = printed_at (fold (print default) p.out (row_pieces options p.level (Single b))) (level_after p.level (Single b)) p.outer p.places
+  row_printed p (Single b) = printed_at (fold (print default) p.out (row_pieces d p.level (Single b))) (level_after p.level (Single b)) p.outer p.places
   row_printed p EnterQuote = enter_quote default p
   row_printed p (EnterItem marker number) = enter_item default number p
   row_printed p Exit = exit default p
@@ -133,5 +133,5 @@ ends_blank_rows rows = fold (λ before row. is_blank_row row) false rows
 abbrev pub blank_page : List BlockRow → Printed
 blank_page rows = printed_at [] (new_level kind.Document false) [] (places_of rows)
 
-abbrev pub rows_html : CompileOptions → List ℕ → List BlockRow → List ℕ
-rows_html options default rows = fold (print default) (printed options default (blank_page rows) rows).out (last_piece (ends_blank_rows rows))
+abbrev pub rows_html : Document → List ℕ → List BlockRow → List ℕ
+rows_html d default rows = fold (print default) (printed d default (blank_page rows) rows).out (last_piece (ends_blank_rows rows))

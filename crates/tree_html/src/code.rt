@@ -1,28 +1,32 @@
 //! Code (CommonMark 4.4 and 4.5).
-ghost use Rattle.std.specs.Prelude.{◌≡◌, ◌++◌, map, replicate, OnOk, string_bytes, true, false};
-ghost use Rattle.markdown_options.specs.declared.configuration.CompileOptions.{CompileOptions};
+ghost use Rattle.std.specs.Prelude.{◌≡◌, ◌++◌, List, map, replicate, OnOk, string_bytes, true, false};
 ghost use Rattle.markdown_options.specs.LineEndings.{ending_bytes};
 ghost use Rattle.markdown_definition.specs.Lines.{ending_text};
 ghost use Rattle.markdown_definition.specs.Pieces.{Fresh, print};
 ghost use Rattle.markdown_definition.specs.Columns.{tab_column};
+ghost use Rattle.markdown_definition.specs.Document.{Document, document};
 ghost use Rattle.markdown_definition.specs.Encode.{encode};
+ghost use Rattle.markdown_definition.specs.LinkDefinition.{Definition};
+ghost use Rattle.markdown_definition.specs.ParagraphLines.{HaveNoEnding};
 ghost use Rattle.markdown_definition.specs.Tree.{IndentedCode, FencedCode, own_lines};
 ghost use Rattle.markdown_definition.specs.Columns.{code_byte};
 ghost use Rattle.markdown_definition.specs.Html.{block_pieces, class_of, code_of, fenced_content};
 ghost use Rattle.markdown_definition.specs.Rows.{piece_lines};
+ghost use Rattle.inline_text.specs.Texts.{text_tables};
 ghost use Rattle.tree_html.specs.Printed.{laid};
 
 use crate::page::Page;
+use inline_text::Texts;
 use markdown_definition::Piece;
-use markdown_options::LineEnding;
+use markdown_options::{LineEnding, Tables};
 use std::alloc::{AllocError, Allocator};
 use text_tools::push_encoded;
 
-impl<A: Allocator> Page<A> {
+impl<A: Allocator + Clone> Page<A> {
     /// Prints indented code (CommonMark 4.4).
     pub(crate) fn indented_code(&mut self, lines: &[Piece<'_>]) -> Result<(), AllocError>
         ensures default { self.new.default_ending ≡ self.old.default_ending }
-        ensures printed { (options : CompileOptions) → OnOk result (string_bytes self.new.html ≡ laid self.old.default_ending (string_bytes self.old.html) (block_pieces options true false false (IndentedCode (own_lines (piece_lines lines.now))))) }
+        ensures printed { (d : Document) → OnOk result (string_bytes self.new.html ≡ laid self.old.default_ending (string_bytes self.old.html) (block_pieces d true false false (IndentedCode (own_lines (piece_lines lines.now))))) }
     {
         self.fresh()?;
         self.html.push_str("<pre><code>")?;
@@ -31,20 +35,21 @@ impl<A: Allocator> Page<A> {
         self.html.push_str("</code></pre>")
     }
 
-    /// Prints fenced code (CommonMark 4.5), at the top or in a container.
-    pub(crate) fn fenced_code(
+    /// Prints fenced code (CommonMark 4.5), at the top or in a container. Its info has no line ending.
+    pub(crate) fn fenced_code<T: Tables>(
         &mut self,
+        texts: &Texts<'_, T, A>,
         info: &str,
         closed: bool,
         top: bool,
         lines: &[Piece<'_>],
     ) -> Result<(), AllocError>
         ensures default { self.new.default_ending ≡ self.old.default_ending }
-        ensures printed { (options : CompileOptions) → OnOk result (string_bytes self.new.html ≡ laid self.old.default_ending (string_bytes self.old.html) (block_pieces options top false false (FencedCode info.now closed (piece_lines lines.now)))) }
+        ensures printed { (ds : List Definition) → HaveNoEnding info.now → OnOk result (string_bytes self.new.html ≡ laid self.old.default_ending (string_bytes self.old.html) (block_pieces (document texts.now.options.now (text_tables (T.reference_of texts.now.tables.now) (T.punctuation_of texts.now.tables.now)) ds) top false false (FencedCode info.now closed (piece_lines lines.now)))) }
     {
         self.fresh()?;
         self.html.push_str("<pre><code")?;
-        self.class(info)?;
+        self.class(texts, info)?;
         self.html.push_str(">")?;
         self.fenced_content(closed, top, lines)?;
         self.html.push_str("</code></pre>")?;
@@ -54,16 +59,16 @@ impl<A: Allocator> Page<A> {
         self.fresh()
     }
 
-    /// Prints the class of code with an info.
-    fn class(&mut self, info: &str) -> Result<(), AllocError>
+    /// Prints the class of code with an info, which has no line ending.
+    fn class<T: Tables>(&mut self, texts: &Texts<'_, T, A>, info: &str) -> Result<(), AllocError>
         ensures default { self.new.default_ending ≡ self.old.default_ending }
-        ensures printed { OnOk result (string_bytes self.new.html ≡ string_bytes self.old.html ++ class_of info.now) }
+        ensures printed { (ds : List Definition) → HaveNoEnding info.now → OnOk result (string_bytes self.new.html ≡ string_bytes self.old.html ++ class_of (document texts.now.options.now (text_tables (T.reference_of texts.now.tables.now) (T.punctuation_of texts.now.tables.now)) ds) info.now) }
     {
         if info.is_empty() {
             return Ok(());
         }
         self.html.push_str(" class=\"language-")?;
-        push_encoded(&mut self.html, info)?;
+        texts.push_info(&mut self.html, info)?;
         self.html.push_str("\"")
     }
 

@@ -7,7 +7,7 @@ use crate::level::{Kind, Level};
 use crate::printer::Printer;
 use std::alloc::{AllocError, Allocator};
 
-impl<A: Allocator> Printer<A> {
+impl<A: Allocator + Clone> Printer<A> {
     /// A block quote starts (CommonMark 5.1).
     pub(crate) fn enter_quote(&mut self) -> Result<(), AllocError>
         ensures default { self.new.page.default_ending ≡ self.old.page.default_ending }

@@ -1,39 +1,54 @@
 //! Headings (CommonMark 4.2 and 4.3).
-ghost use Rattle.std.specs.Prelude.{◌≡◌, ◌≤◌, ◌+◌, ◌++◌, ◌∷◌, [], OnOk, string_bytes, codes, true, false};
-ghost use Rattle.markdown_options.specs.declared.configuration.CompileOptions.{CompileOptions};
+ghost use Rattle.std.specs.Prelude.{◌≡◌, ◌≤◌, ◌+◌, ◌++◌, ◌∷◌, [], List, OnOk, string_bytes, codes, true, false};
+ghost use Rattle.markdown_definition.specs.Document.{document, text_of};
+ghost use Rattle.markdown_definition.specs.LinkDefinition.{Definition};
 ghost use Rattle.markdown_definition.specs.Tree.{Heading, own_lines};
 ghost use Rattle.markdown_definition.specs.Html.{block_pieces};
-ghost use Rattle.markdown_definition.specs.Rows.{piece_line, piece_lines};
+ghost use Rattle.markdown_definition.specs.Rows.{piece_lines};
+ghost use Rattle.inline_text.specs.Texts.{HasDefinitions, text_tables};
+ghost use Rattle.tree_html.specs.Printable.{AreHeadingLines};
 ghost use Rattle.tree_html.specs.Printed.{laid};
 
 use crate::page::Page;
+use inline_text::Texts;
 use markdown_definition::Piece;
+use markdown_options::Tables;
 use std::alloc::{AllocError, Allocator};
 
-impl<A: Allocator> Page<A> {
-    /// Prints an ATX heading of a rank (CommonMark 4.2).
-    pub(crate) fn heading_atx(&mut self, rank: u8, line: &Piece<'_>) -> Result<(), AllocError>
+impl<A: Allocator + Clone> Page<A> {
+    /// Prints a heading of a rank (CommonMark 4.2 and 4.3).
+    pub(crate) fn heading<T: Tables>(
+        &mut self,
+        texts: &Texts<'_, T, A>,
+        rank: u8,
+        lines: &[Piece<'_>],
+    ) -> Result<(), AllocError>
         requires { (1 ≤ rank) × (rank ≤ 6) }
         ensures default { self.new.default_ending ≡ self.old.default_ending }
-        ensures printed { (options : CompileOptions) → OnOk result (string_bytes self.new.html ≡ laid self.old.default_ending (string_bytes self.old.html) (block_pieces options true false false (Heading rank (piece_line line.now ∷ [])))) }
+        ensures printed { (ds : List Definition) → HasDefinitions texts.now.labels.now texts.now.links.now ds → AreHeadingLines (own_lines (piece_lines lines.now)) →
+            OnOk result (string_bytes self.new.html ≡ laid self.old.default_ending (string_bytes self.old.html) (block_pieces (document texts.now.options.now (text_tables (T.reference_of texts.now.tables.now) (T.punctuation_of texts.now.tables.now)) ds) true false false (Heading rank (own_lines (piece_lines lines.now))))) }
     {
         self.fresh()?;
         self.heading_tag("<h", rank)?;
-        self.text_line(line)?;
-        self.push_ending(line.ending)?;
+        self.heading_text(texts, lines)?;
         self.heading_tag("</h", rank)
     }
 
-    /// Prints a setext heading of a rank (CommonMark 4.3).
-    pub(crate) fn heading_setext(&mut self, rank: u8, lines: &[Piece<'_>]) -> Result<(), AllocError>
-        requires { (1 ≤ rank) × (rank ≤ 6) }
+    /// Prints the text of a heading, which may be one empty line.
+    fn heading_text<T: Tables>(
+        &mut self,
+        texts: &Texts<'_, T, A>,
+        lines: &[Piece<'_>],
+    ) -> Result<(), AllocError>
         ensures default { self.new.default_ending ≡ self.old.default_ending }
-        ensures printed { (options : CompileOptions) → OnOk result (string_bytes self.new.html ≡ laid self.old.default_ending (string_bytes self.old.html) (block_pieces options true false false (Heading rank (own_lines (piece_lines lines.now))))) }
+        ensures printed { (ds : List Definition) → HasDefinitions texts.now.labels.now texts.now.links.now ds → AreHeadingLines (own_lines (piece_lines lines.now)) →
+            OnOk result (string_bytes self.new.html ≡ string_bytes self.old.html ++ text_of (document texts.now.options.now (text_tables (T.reference_of texts.now.tables.now) (T.punctuation_of texts.now.tables.now)) ds) (own_lines (piece_lines lines.now))) }
     {
-        self.fresh()?;
-        self.heading_tag("<h", rank)?;
-        self.text(lines)?;
-        self.heading_tag("</h", rank)
+        if lines.len() == 1 {
+            texts.push_line(&mut self.html, &mut self.buffers, &lines[0])
+        } else {
+            texts.push_text(&mut self.html, &mut self.buffers, lines)
+        }
     }
 
     /// Prints a tag that ends with a rank.

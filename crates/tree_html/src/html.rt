@@ -2,11 +2,12 @@
 //!
 //! Where raw HTML isn't allowed, it is printed as text. Where it is, the tag filter may print the
 //! `<` of some tags as a reference (GFM 6.11).
-ghost use Rattle.std.specs.Prelude.{◌≡◌, ℕ, replicate, ◌++◌, OnOk, string_bytes, true, false};
-ghost use Rattle.markdown_definition.specs.Tree.{Html, own_lines};
+ghost use Rattle.std.specs.Prelude.{◌≡◌, ℕ, replicate, ◌++◌, ◌∷◌, [], OnOk, string_bytes};
+ghost use Rattle.markdown_definition.specs.Tree.{own_lines};
 ghost use Rattle.markdown_definition.specs.Columns.{bytes_of, tab_column};
-ghost use Rattle.markdown_definition.specs.Html.{block_pieces, html_of};
+ghost use Rattle.markdown_definition.specs.Html.{html_of};
 ghost use Rattle.markdown_definition.specs.HtmlRaw.{raw_html};
+ghost use Rattle.markdown_definition.specs.Pieces.{Bytes, Fresh};
 ghost use Rattle.markdown_definition.specs.Rows.{piece_lines};
 ghost use Rattle.tree_html.specs.Printed.{laid};
 
@@ -16,7 +17,7 @@ use markdown_options::CompileOptions;
 use std::alloc::{AllocError, Allocator};
 use text_tools::{push_encoded, push_raw};
 
-impl<A: Allocator> Page<A> {
+impl<A: Allocator + Clone> Page<A> {
     /// Prints an HTML block (CommonMark 4.6).
     pub(crate) fn html_block(
         &mut self,
@@ -24,7 +25,7 @@ impl<A: Allocator> Page<A> {
         lines: &[Piece<'_>],
     ) -> Result<(), AllocError>
         ensures default { self.new.default_ending ≡ self.old.default_ending }
-        ensures printed { OnOk result (string_bytes self.new.html ≡ laid self.old.default_ending (string_bytes self.old.html) (block_pieces options.now true false false (Html (own_lines (piece_lines lines.now))))) }
+        ensures printed { OnOk result (string_bytes self.new.html ≡ laid self.old.default_ending (string_bytes self.old.html) (Fresh ∷ Bytes (html_of options.now (own_lines (piece_lines lines.now))) ∷ [])) }
     {
         self.fresh()?;
         self.html_lines(options, lines)

@@ -5,7 +5,7 @@ ghost use Rattle.markdown_definition.specs.Html.{number_tag, number_end};
 use crate::page::Page;
 use std::alloc::{AllocError, Allocator};
 
-impl<A: Allocator> Page<A> {
+impl<A: Allocator + Clone> Page<A> {
     /// Prints the tag of a list by the number of its first item.
     pub(crate) fn list_tag(&mut self, number: Option<u32>) -> Result<(), AllocError>
         ensures default { self.new.default_ending ≡ self.old.default_ending }

@@ -1,38 +1,39 @@
 //! The page, printed piece by piece.
-ghost use Rattle.std.specs.Prelude.{◌≡◌, ◌≤◌, ◌<◌, ℕ, slice_index, ◌++◌, OnOk, string_bytes, length, true, false};
-ghost use Rattle.markdown_options.specs.declared.configuration.CompileOptions.{CompileOptions};
+ghost use Rattle.std.specs.Prelude.{◌≡◌, ◌≤◌, ◌<◌, ℕ, List, slice_index, ◌++◌, OnOk, string_bytes, length, true, false};
 ghost use Rattle.markdown_options.specs.LineEndings.{ending_bytes};
+ghost use Rattle.markdown_definition.specs.Document.{Document, document};
 ghost use Rattle.markdown_definition.specs.Lines.{ending_text};
-ghost use Rattle.markdown_definition.specs.Columns.{trimmed};
-ghost use Rattle.markdown_definition.specs.Encode.{encode};
+ghost use Rattle.markdown_definition.specs.LinkDefinition.{Definition};
+ghost use Rattle.markdown_definition.specs.ParagraphLines.{AreLines};
 ghost use Rattle.markdown_definition.specs.Tree.{Paragraph, Break, own_lines};
 ghost use Rattle.markdown_definition.specs.Pieces.{Fresh, is_fresh, print};
-ghost use Rattle.markdown_definition.specs.Html.{text_of, block_pieces};
-ghost use Rattle.markdown_definition.specs.Rows.{lines_taken, piece_line, piece_lines, row_shown, whole_lines};
+ghost use Rattle.markdown_definition.specs.Html.{block_pieces};
+ghost use Rattle.markdown_definition.specs.Rows.{lines_taken, piece_lines, row_shown, whole_lines};
+ghost use Rattle.inline_text.specs.Texts.{HasDefinitions, text_tables};
 ghost use Rattle.tree_html.specs.Levels.{row_pieces};
 ghost use Rattle.tree_html.specs.Printable.{IsPrintableRow};
 ghost use Rattle.tree_html.specs.Printed.{laid};
 
 use crate::level::Level;
+use inline_text::{TextBuffers, Texts};
 use markdown_definition::{Piece, Row};
-use markdown_options::{CompileOptions, LineEnding};
+use markdown_options::{LineEnding, Tables};
 use std::alloc::{AllocError, Allocator};
-use text_lines::{next_line, trim};
-use text_tools::push_encoded;
 
 /// A page that is being printed.
 #[derive(Drop)]
-pub(crate) struct Page<A: Allocator> {
+pub(crate) struct Page<A: Allocator + Clone> {
     pub(crate) html: String<A>,
+    pub(crate) buffers: TextBuffers<A>,
     pub(crate) default_ending: LineEnding,
 }
 
-impl<A: Allocator> Page<A> {
+impl<A: Allocator + Clone> Page<A> {
     /// Prints a block, or the ending of a line. A block takes its lines from the front of these.
     /// A definition (CommonMark 4.7) prints nothing, nor does any other row here.
-    pub(crate) fn block(
+    pub(crate) fn block<T: Tables>(
         &mut self,
-        options: &CompileOptions,
+        texts: &Texts<'_, T, A>,
         row: Row,
         level: Level,
         lines: &[Piece<'_>],
@@ -40,25 +41,26 @@ impl<A: Allocator> Page<A> {
         requires enough { lines_taken row ≤ length lines.now }
         requires printable { IsPrintableRow (row_shown row (piece_lines lines.now)) }
         ensures default { self.new.default_ending ≡ self.old.default_ending }
-        ensures printed { OnOk result (string_bytes self.new.html ≡ laid self.old.default_ending (string_bytes self.old.html) (row_pieces options.now level (row_shown row (piece_lines lines.now)))) }
+        ensures printed { (ds : List Definition) → HasDefinitions texts.now.labels.now texts.now.links.now ds →
+            OnOk result (string_bytes self.new.html ≡ laid self.old.default_ending (string_bytes self.old.html) (row_pieces (document texts.now.options.now (text_tables (T.reference_of texts.now.tables.now) (T.punctuation_of texts.now.tables.now)) ds) level (row_shown row (piece_lines lines.now)))) }
     {
         let top = level.is_document();
         match row {
-            Row::Paragraph(count) => self.paragraph(level.tight, &lines[..count]),
+            Row::Paragraph(count) => self.paragraph(texts, level.tight, &lines[..count]),
             Row::WholeParagraph(count) => {
-                self.whole_paragraph(level.tight, count, lines[0].text)
+                self.whole_paragraph(texts, level.tight, count, lines[0].text)
             }
-            Row::Heading(rank) => self.heading_atx(rank, &lines[0]),
-            Row::SetextHeading { rank, count } => self.heading_setext(rank, &lines[..count]),
+            Row::Heading(rank) => self.heading(texts, rank, &lines[..1]),
+            Row::SetextHeading { rank, count } => self.heading(texts, rank, &lines[..count]),
             Row::Break => self.thematic_break(),
             Row::IndentedCode(count) => self.indented_code(&lines[..count]),
             Row::FencedCode(count) => {
-                self.fenced_code(lines[0].text, true, top, &lines[1..][..count])
+                self.fenced_code(texts, lines[0].text, true, top, &lines[1..][..count])
             }
             Row::UnclosedCode(count) => {
-                self.fenced_code(lines[0].text, false, top, &lines[1..][..count])
+                self.fenced_code(texts, lines[0].text, false, top, &lines[1..][..count])
             }
-            Row::Html(count) => self.html_block(options, &lines[..count]),
+            Row::Html(count) => self.html_block(&texts.options.compile, &lines[..count]),
             Row::Ending(_) if level.silent => Ok(()),
             Row::Ending(ending) => self.push_ending(ending),
             Row::Definition(_)
@@ -70,83 +72,54 @@ impl<A: Allocator> Page<A> {
     }
 
     /// Prints a paragraph (CommonMark 4.8). That of a tight item is its text alone.
-    fn paragraph(&mut self, tight: bool, lines: &[Piece<'_>]) -> Result<(), AllocError>
+    fn paragraph<T: Tables>(
+        &mut self,
+        texts: &Texts<'_, T, A>,
+        tight: bool,
+        lines: &[Piece<'_>],
+    ) -> Result<(), AllocError>
         ensures default { self.new.default_ending ≡ self.old.default_ending }
-        ensures printed { (options : CompileOptions) → OnOk result (string_bytes self.new.html ≡ laid self.old.default_ending (string_bytes self.old.html) (block_pieces options true tight false (Paragraph (own_lines (piece_lines lines.now))))) }
+        ensures printed { (ds : List Definition) → HasDefinitions texts.now.labels.now texts.now.links.now ds → AreLines (piece_lines lines.now) →
+            OnOk result (string_bytes self.new.html ≡ laid self.old.default_ending (string_bytes self.old.html) (block_pieces (document texts.now.options.now (text_tables (T.reference_of texts.now.tables.now) (T.punctuation_of texts.now.tables.now)) ds) true tight false (Paragraph (own_lines (piece_lines lines.now))))) }
     {
         if tight {
-            return self.text(lines);
+            return texts.push_text(&mut self.html, &mut self.buffers, lines);
         }
         self.fresh()?;
         self.html.push_str("<p>")?;
-        self.text(lines)?;
+        texts.push_text(&mut self.html, &mut self.buffers, lines)?;
         self.html.push_str("</p>")
     }
 
     /// Prints a paragraph of the first lines of a text, so many (CommonMark 4.8).
-    fn whole_paragraph(&mut self, tight: bool, count: usize, text: &str) -> Result<(), AllocError>
+    fn whole_paragraph<T: Tables>(
+        &mut self,
+        texts: &Texts<'_, T, A>,
+        tight: bool,
+        count: usize,
+        text: &str,
+    ) -> Result<(), AllocError>
         ensures default { self.new.default_ending ≡ self.old.default_ending }
-        ensures printed { (options : CompileOptions) → OnOk result (string_bytes self.new.html ≡ laid self.old.default_ending (string_bytes self.old.html) (block_pieces options true tight false (Paragraph (own_lines (whole_lines count text.now))))) }
+        ensures printed { (ds : List Definition) → HasDefinitions texts.now.labels.now texts.now.links.now ds →
+            OnOk result (string_bytes self.new.html ≡ laid self.old.default_ending (string_bytes self.old.html) (block_pieces (document texts.now.options.now (text_tables (T.reference_of texts.now.tables.now) (T.punctuation_of texts.now.tables.now)) ds) true tight false (Paragraph (own_lines (whole_lines count text.now))))) }
         ensures bytes { (k : ℕ) → slice_index text.now k < 256 }
     {
         if tight {
-            return self.whole_text(count, text);
+            return texts.push_whole(&mut self.html, &mut self.buffers, count, text);
         }
         self.fresh()?;
         self.html.push_str("<p>")?;
-        self.whole_text(count, text)?;
+        texts.push_whole(&mut self.html, &mut self.buffers, count, text)?;
         self.html.push_str("</p>")
-    }
-
-    /// Prints the first lines of a text, so many, without the last ending.
-    fn whole_text(&mut self, count: usize, text: &str) -> Result<(), AllocError>
-        ensures default { self.new.default_ending ≡ self.old.default_ending }
-        ensures printed { OnOk result (string_bytes self.new.html ≡ string_bytes self.old.html ++ text_of (own_lines (whole_lines count text.now))) }
-    {
-        let mut waiting = None;
-        let mut rest = text;
-        for _i in 0..count {
-            if rest.is_empty() {
-                return Ok(());
-            }
-            let (content, ending, after) = next_line(rest);
-            self.push_ending(waiting)?;
-            push_encoded(&mut self.html, trim(content))?;
-            waiting = ending;
-            rest = after;
-        }
-        Ok(())
     }
 
     /// Prints a thematic break (CommonMark 4.1).
     fn thematic_break(&mut self) -> Result<(), AllocError>
         ensures default { self.new.default_ending ≡ self.old.default_ending }
-        ensures printed { (options : CompileOptions) → OnOk result (string_bytes self.new.html ≡ laid self.old.default_ending (string_bytes self.old.html) (block_pieces options true false false Break)) }
+        ensures printed { (d : Document) → OnOk result (string_bytes self.new.html ≡ laid self.old.default_ending (string_bytes self.old.html) (block_pieces d true false false Break)) }
     {
         self.fresh()?;
         self.html.push_str("<hr />")
-    }
-
-    /// Prints lines of text without the last ending.
-    pub(crate) fn text(&mut self, lines: &[Piece<'_>]) -> Result<(), AllocError>
-        ensures default { self.new.default_ending ≡ self.old.default_ending }
-        ensures printed { OnOk result (string_bytes self.new.html ≡ string_bytes self.old.html ++ text_of (own_lines (piece_lines lines.now))) }
-    {
-        let mut waiting = None;
-        for line in lines {
-            self.push_ending(waiting)?;
-            self.text_line(line)?;
-            waiting = line.ending;
-        }
-        Ok(())
-    }
-
-    /// Prints a line of text, without the spaces and tabs at its ends.
-    pub(crate) fn text_line(&mut self, line: &Piece<'_>) -> Result<(), AllocError>
-        ensures default { self.new.default_ending ≡ self.old.default_ending }
-        ensures printed { OnOk result (string_bytes self.new.html ≡ string_bytes self.old.html ++ encode (trimmed (piece_line line.now).codes)) }
-    {
-        push_encoded(&mut self.html, trim(line.text))
     }
 
     /// Prints an ending, if there is one.

@@ -3,6 +3,7 @@ use Rattle.std.specs.Io.KnownBytes.{Appends}
 use Rattle.std.proofs.lemmas.Bool.{cases_Bool}
 use Rattle.markdown_options.specs.declared.configuration.Options.{Options}
 use Rattle.markdown_definition.specs.Html.{html}
+use Rattle.builtin_tables.specs.Builtin.{builtin_tables}
 use Rattle.markdown.specs.Faults.{is_write_error}
 use Rattle.std.specs.Prelude.{map, string_bytes}
 use Rattle.markdown.specs.Plain.{options_of}
@@ -18,9 +19,9 @@ returns-in_err-run_with_options-clause-fault g c =
     let new = g.W.Write.contents (device c.run_with_options.new.writer) in
     let k = c.in_err-run_with_options.ensures in
     let o = options_of (map string_bytes c.args.words.now) in
-    let some : IfSome known (λ text. AppendsBeginning old new (html text o)) =
+    let some : IfSome known (λ text. AppendsBeginning old new (html builtin_tables text o)) =
     elim (cases_Bool (is_write_error c.in_err-run_with_options.field-0.0)) [
-      | inl h ↦ subst (λ (x : Options). IfSome known (λ text. AppendsBeginning old new (html text x))) c.options_of-options.ensures.options (k.beginning h)
+      | inl h ↦ subst (λ (x : Options). IfSome known (λ text. AppendsBeginning old new (html builtin_tables text x))) c.options_of-options.ensures.options (k.beginning h)
       | inr h ↦ begins_kept known old new o (k.nothing h)
     ] in
     on_err_from c.from_residual.result some
@@ -32,7 +33,7 @@ returns-clause-fault g c =
     let mid = g.W.Write.contents (device c.run_with_options.new.writer) in
     let new = g.W.Write.contents (device c.flush.new.self) in
     let o = options_of (map string_bytes c.args.words.now) in
-    let wrote = subst (λ (x : Options). IfSome known (λ text. Appends old mid (html text x))) c.options_of-options.ensures.options c.in_ok-run_with_options.ensures.ok in
+    let wrote = subst (λ (x : Options). IfSome known (λ text. Appends old mid (html builtin_tables text x))) c.options_of-options.ensures.options c.in_ok-run_with_options.ensures.ok in
     on_err_from c.map_err.result (begins_whole known old new o (written_kept known old mid new o wrote c.flush.ensures.bytes))
 
 pub returns-clause-ok : goal.returns-clause-ok
@@ -42,5 +43,5 @@ returns-clause-ok g c =
     let mid = g.W.Write.contents (device c.run_with_options.new.writer) in
     let new = g.W.Write.contents (device c.flush.new.self) in
     let o = options_of (map string_bytes c.args.words.now) in
-    let wrote = subst (λ (x : Options). IfSome known (λ text. Appends old mid (html text x))) c.options_of-options.ensures.options c.in_ok-run_with_options.ensures.ok in
+    let wrote = subst (λ (x : Options). IfSome known (λ text. Appends old mid (html builtin_tables text x))) c.options_of-options.ensures.options c.in_ok-run_with_options.ensures.ok in
     on_ok_from c.map_err.result (written_kept known old mid new o wrote c.flush.ensures.bytes)

@@ -1,6 +1,7 @@
 use Rattle.std.proofs.Common.{◌∙◌, ap}
 use Rattle.std.proofs.lemmas.Result.{on_ok_weaker}
 use Rattle.markdown_definition.specs.Html.{html}
+use Rattle.builtin_tables.specs.Builtin.{builtin_tables}
 use Rattle.markdown.proofs.Transfers.{page_of_text}
 use Rattle.markdown.proofs.run.run_with_options.Goals as goal
 
@@ -8,5 +9,5 @@ pub returns-clause-ok : goal.returns-clause-ok
 returns-clause-ok g c =
     on_ok_weaker c.write_all.result
     (λ wrote. page_of_text _ _ _ c.in_ok-bytes.bytes.items c.as_bytes.result.now c.args.options.now c.in_ok-bytes.ensures.ok
-    (c.as_bytes.ensures.value ∙ c.in_ok-page.ensures.ok ∙ ap (λ b. html b c.args.options.now) c.deref.ensures.value) wrote)
+    (c.as_bytes.ensures.value ∙ c.in_ok-page.ensures.ok ∙ ap (λ b. html builtin_tables b c.args.options.now) c.deref.ensures.value) wrote)
     c.write_all.ensures.ok

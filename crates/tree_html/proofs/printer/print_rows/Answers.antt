@@ -5,6 +5,8 @@ use Rattle.markdown_options.specs.declared.line_ending.LineEnding.{LineEnding}
 use Rattle.markdown_options.specs.LineEndings.{ending_bytes}
 use Rattle.markdown_definition.specs.declared.row.Row.{Row}
 use Rattle.markdown_definition.specs.declared.row.Row.TheVariants.{Paragraph}
+use Rattle.markdown_definition.specs.Document.{document}
+use Rattle.inline_text.specs.Texts.{text_tables}
 use Rattle.markdown_definition.specs.Tree.{BlockLine}
 use Rattle.markdown_definition.specs.Rows.{Shown, row_shown, piece_lines, piece_line, shown, lines_taken}
 use Rattle.tree_html.specs.Printable.{IsPrintableRow}
@@ -34,7 +36,6 @@ loop-row-preserved g c =
     let pieces = c.args.pieces.now in
     let i = c.loop-row.row-index in
     let row : Row = get_or rows i (Paragraph 0) in
-    let options = c.args.options.now in
     let default = ending_bytes c.args.default_ending in
     let all = piece_lines pieces in
     let start = blank_page (shown rows all).rows in
@@ -45,12 +46,13 @@ loop-row-preserved g c =
     let at : rest ≡ so_far.left = ap piece_lines (take_rest pieces c.loop-row.taken) ∙ sym k.left in
     record {
       same_default = c.in_ok-row.ensures.default ∙ k.same_default;
-      printed =
-          c.in_ok-row.ensures.printed
-          ∙ ap (λ (e : LineEnding). row_printed options (ending_bytes e) (printed_of c.loop-row.printer) (row_shown row rest)) k.same_default
-          ∙ ap (λ (ls : List BlockLine). row_printed options default (printed_of c.loop-row.printer) (row_shown row ls)) at
-          ∙ ap (λ (p : Printed). row_printed options default p (row_shown row so_far.left)) k.printed
-          ∙ sym (ap (λ (s : Shown). printed options default start s.rows) more ∙ printed_more options default start so_far.rows (row_shown row so_far.left));
+      printed = λ ds has.
+          let d = document c.args.texts.now.options.now (text_tables (g.T.Tables.reference_of c.args.texts.now.tables.now) (g.T.Tables.punctuation_of c.args.texts.now.tables.now)) ds in
+          c.in_ok-row.ensures.printed ds has
+          ∙ ap (λ (e : LineEnding). row_printed d (ending_bytes e) (printed_of c.loop-row.printer) (row_shown row rest)) k.same_default
+          ∙ ap (λ (ls : List BlockLine). row_printed d default (printed_of c.loop-row.printer) (row_shown row ls)) at
+          ∙ ap (λ (p : Printed). row_printed d default p (row_shown row so_far.left)) (k.printed ds has)
+          ∙ sym (ap (λ (s : Shown). printed d default start s.rows) more ∙ printed_more d default start so_far.rows (row_shown row so_far.left));
       left =
           ap (λ (s : Shown). s.left) more
           ∙ ap (drop (lines_taken row)) k.left
@@ -60,18 +62,18 @@ loop-row-preserved g c =
     }
 
 pub returns : goal.returns
-returns g c = λ bs rows_are can.
+returns g c = λ ds has bs rows_are can.
+    let d = document c.args.texts.now.options.now (text_tables (g.T.Tables.reference_of c.args.texts.now.tables.now) (g.T.Tables.punctuation_of c.args.texts.now.tables.now)) ds in
     let rows = c.args.rows.now in
     let all = piece_lines c.args.pieces.now in
-    let options = c.args.options.now in
     let default = ending_bytes c.args.default_ending in
     let every = (shown rows all).rows in
     let start = blank_page every in
     let k = c.loop-row.invariant in
     let out = string_bytes c.loop-row.printer.page.html in
     let whole : take c.loop-row.row-index rows ≡ rows = take_all c.loop-row.row-index rows c.loop-row-test.false in
-    let laid_out : out ≡ (printed options default start every).out =
-    ap (λ (p : Printed). p.out) (k.printed ∙ ap (λ (rs : List Row). printed options default start (shown rs all).rows) whole) in
+    let laid_out : out ≡ (printed d default start every).out =
+    ap (λ (p : Printed). p.out) (k.printed ds has ∙ ap (λ (rs : List Row). printed d default start (shown rs all).rows) whole) in
     let ends = λ (x : List ℕ) (blank : Bool). fold (print default) x (last_piece blank) in
     let ended : string_bytes c.if-ends_blank.printer.page.html ≡ ends out c.ends_blank.result = elim c.if-ends_blank.branch [
       | then-ends_blank+in_ok-fresh w ↦
@@ -84,5 +86,5 @@ returns g c = λ bs rows_are can.
     ended
     ∙ ap (ends out) (c.ends_blank.ensures all)
     ∙ ap (λ x. ends x (ends_blank_rows every)) laid_out
-    ∙ ap (rows_html options default) rows_are
-    ∙ rows_html_of options default bs can
+    ∙ ap (rows_html d default) rows_are
+    ∙ rows_html_of d default bs can

@@ -1,5 +1,8 @@
-use Rattle.std.proofs.Common.{◌≡◌, ◌≤◌, ◌+◌, length, take, drop}
+use Rattle.std.proofs.Common.{List, ◌≡◌, ◌≤◌, ◌+◌, length, take, drop}
 use Rattle.markdown_options.specs.LineEndings.{ending_bytes}
+use Rattle.markdown_definition.specs.Document.{document}
+use Rattle.markdown_definition.specs.LinkDefinition.{Definition}
+use Rattle.inline_text.specs.Texts.{HasDefinitions, text_tables}
 use Rattle.markdown_definition.specs.Rows.{all_taken, piece_lines, shown}
 use Rattle.tree_html.specs.Printed.{printed, blank_page, printed_of}
 use Rattle.tree_html.proofs.printer.print_rows.Given as goal
@@ -8,7 +11,8 @@ use Rattle.tree_html.proofs.printer.print_rows.Given as goal
 abbrev pub invariant-loop-row : goal.invariant-loop-row
 invariant-loop-row g l = record {
   same_default : l.printer.page.default_ending ≡ l.fn.default_ending;
-  printed : printed_of l.printer ≡ printed l.options (ending_bytes l.fn.default_ending) (blank_page (shown l.rows (piece_lines l.pieces)).rows) (shown (take l.row-index l.rows) (piece_lines l.pieces)).rows;
+  printed : (ds : List Definition) → HasDefinitions l.texts.labels.now l.texts.links.now ds →
+      printed_of l.printer ≡ printed (document l.texts.options.now (text_tables (g.T.Tables.reference_of l.texts.tables.now) (g.T.Tables.punctuation_of l.texts.tables.now)) ds) (ending_bytes l.fn.default_ending) (blank_page (shown l.rows (piece_lines l.pieces)).rows) (shown (take l.row-index l.rows) (piece_lines l.pieces)).rows;
   left : (shown (take l.row-index l.rows) (piece_lines l.pieces)).left ≡ piece_lines (drop l.taken l.pieces);
   enough : l.taken + all_taken (drop l.row-index l.rows) ≤ length l.pieces;
 }

@@ -1,0 +1,3 @@
+pub mod Punctuation
+pub mod PunctuationLaws
+pub mod Builtin

@@ -1,0 +1,9 @@
+pub mod FormedText
+pub mod HtmlLines
+pub mod InLine
+pub mod KeptText
+pub mod LeafTexts
+pub mod Numbers
+pub mod OpenStack
+pub mod PartTexts
+pub mod RowsPrinted

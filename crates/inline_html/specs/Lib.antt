@@ -1,0 +1,6 @@
+pub mod CodeBytes
+pub mod Forms
+pub mod HtmlBytes
+pub mod Kept
+pub mod Opens
+pub mod Printed

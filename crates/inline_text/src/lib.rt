@@ -1,0 +1,8 @@
+//! The texts of a document, printed.
+#![tactic(auto)]
+
+pub mod buffers;
+pub mod texts;
+
+pub use buffers::TextBuffers;
+pub use texts::Texts;

@@ -1,0 +1,58 @@
+use Rattle.std.proofs.Common.{List, ap, sym, ◌∙◌, refl, subst, ℕ, ◌<◌, get_or, arith}
+use Rattle.std.proofs.lemmas.Result.{IfOk-weaker}
+use Rattle.markdown_options.specs.declared.line_ending.LineEnding.{LineEnding}
+use Rattle.markdown_options.specs.LineEndings.{ending_bytes}
+use Rattle.markdown_definition.specs.declared.row.Row.{Row}
+use Rattle.markdown_definition.specs.declared.row.Piece.{Piece}
+use Rattle.markdown_definition.specs.Document.{document}
+use Rattle.markdown_definition.specs.Pieces.{layout}
+use Rattle.markdown_definition.specs.Html.{document_pieces}
+use Rattle.markdown_definition.specs.Targets.{document_definitions}
+use Rattle.markdown_definition.specs.Tree.{blocks}
+use Rattle.markdown_definition.specs.Rows.{Shown, piece_lines, shown}
+use Rattle.std.specs.Prelude.{map}
+use Rattle.inline_rows.specs.View.{linked_view}
+use Rattle.inline_rows.specs.declared.row.Linked.{Linked}
+use Rattle.inline_text.specs.Texts.{HasDefinitions, text_tables}
+use Rattle.tree_html.specs.Printable.{ArePrintable}
+use Rattle.tree_html.proofs.RowsOf.{printable_rows_of}
+use Rattle.tree_html.proofs.Printable.{blocks_printable}
+use Rattle.markdown.proofs.convert.print.Goals as goal
+
+pub print_rows-requires-clause-printable : goal.print_rows-requires-clause-printable
+print_rows-requires-clause-printable g c =
+    let on = c.args.options.now.parse.constructs in
+    let text = c.args.text.now in
+    let bytes : (k : ℕ) → get_or text k 0 < 256 = λ k. omega (arith, c.type_inv.text k) in
+    let rows = ap (λ (s : Shown). s.rows) (
+    ap (λ (rs : List Row). shown rs (piece_lines c.deref-5.result.now)) c.deref-4.ensures.value
+    ∙ ap (λ (ps : List Piece). shown c.in_ok-blocks.blocks.rows.items (piece_lines ps)) c.deref-5.ensures.value
+    ∙ c.in_ok-blocks.ensures.shown) in
+    subst ArePrintable (sym rows) (printable_rows_of (blocks on text) (blocks_printable on text bytes))
+
+pub returns : goal.returns
+returns g c =
+    let options = c.args.options.now in
+    let on = options.parse.constructs in
+    let text = c.args.text.now in
+    let bytes : (k : ℕ) → get_or text k 0 < 256 = λ k. omega (arith, c.type_inv.text k) in
+    let tables = text_tables (g.T.Tables.reference_of c.args.tables.now) (g.T.Tables.punctuation_of c.args.tables.now) in
+    let bs = blocks on text in
+    let ds = document_definitions bs in
+    let ending = c.default_ending-ending.ensures options refl in
+    let read = ap (λ (s : Shown). s.rows) (
+    ap (λ (rs : List Row). shown rs (piece_lines c.deref-2.result.now)) c.deref.ensures.value
+    ∙ ap (λ (ps : List Piece). shown c.in_ok-blocks.blocks.rows.items (piece_lines ps)) c.deref-2.ensures.value
+    ∙ c.in_ok-blocks.ensures.shown) in
+    let rows = ap (λ (s : Shown). s.rows) (
+    ap (λ (rs : List Row). shown rs (piece_lines c.deref-5.result.now)) c.deref-4.ensures.value
+    ∙ ap (λ (ps : List Piece). shown c.in_ok-blocks.blocks.rows.items (piece_lines ps)) c.deref-5.ensures.value
+    ∙ c.in_ok-blocks.ensures.shown) in
+    let contents = c.in_ok-contents.ensures bs read in
+    let has : HasDefinitions c.in_ok-definitions.definitions.labels c.deref-3.result.now ds = record {
+      has_labels = (c.in_ok-definitions.ensures ds contents).has_labels;
+      leads = ap (λ (ls : List Linked). map linked_view ls) c.deref-3.ensures.value ∙ (c.in_ok-definitions.ensures ds contents).each;
+    } in
+    IfOk-weaker c.print_rows.result _ _
+    (λ page printed. printed ∙ ap (λ (e : LineEnding). layout (ending_bytes e) (document_pieces (document options tables ds) bs)) ending)
+    (c.print_rows.ensures ds has bs rows (blocks_printable on text bytes))

@@ -1,0 +1,114 @@
+//! From a text to HTML.
+ghost use Rattle.std.specs.Prelude.{◌≡◌, ◌/◌, ◌≤◌, ◌↔◌, IsTrue, IfOk, IfErr, length, string_bytes, true};
+ghost use Rattle.markdown_options.specs.Built.{is_built};
+ghost use Rattle.markdown_options.specs.Messages.{IsOutOfMemory};
+ghost use Rattle.markdown_options.specs.Defaults.{default_options};
+ghost use Rattle.markdown_definition.specs.Html.{html, marked_html, default_ending};
+ghost use Rattle.builtin_tables.specs.Builtin.{builtin_tables};
+ghost use Rattle.inline_text.specs.Texts.{text_tables};
+
+use block_tree::block_rows;
+use builtin_tables::Builtin;
+use inline_text::Texts;
+use link_table::{definition_contents, document_definitions};
+use markdown_options::{LineEnding, Message, Options, Tables};
+use std::alloc::{AllocError, Allocator};
+use text_lines::{Lines, without_mark};
+use tree_html::print_rows;
+
+/// The longest text that is read, in bytes.
+pub const SIZE_MAX: usize = usize::MAX / 8;
+
+/// Whether a text is short enough to be read: it has at most `usize::MAX / 8` bytes.
+pub fn fits(value: &str) -> bool
+    ensures { IsTrue result ↔ (length value.now ≤ SIZE_MAX) }
+{
+    value.len() <= SIZE_MAX
+}
+
+/// The HTML of a text, with the default options and the tables that are built in.
+///
+/// The text fits. The only error is want of memory.
+pub fn to_html<A: Allocator + Clone>(alloc: A, value: &str) -> Result<String<A>, Message>
+    requires size { length value.now ≤ SIZE_MAX }
+    ensures page { IfOk result (λ page. string_bytes page ≡ html builtin_tables value.now default_options) }
+    ensures memory { IfErr result (λ message. IsOutOfMemory message) }
+{
+    to_html_with_options(alloc, value, &Options::default())
+}
+
+/// The HTML of a text, with the tables that are built in.
+///
+/// The text fits, and the options turn on only constructs that are built, which
+/// `ParseOptions::built` tests. The only error is want of memory.
+pub fn to_html_with_options<A: Allocator + Clone>(
+    alloc: A,
+    value: &str,
+    options: &Options,
+) -> Result<String<A>, Message>
+    requires size { length value.now ≤ SIZE_MAX }
+    requires built { is_built options.now.parse.constructs ≡ true }
+    ensures page { IfOk result (λ page. string_bytes page ≡ html builtin_tables value.now options.now) }
+    ensures memory { IfErr result (λ message. IsOutOfMemory message) }
+{
+    to_html_with_tables(alloc, value, options, &Builtin)
+}
+
+/// The HTML of a text, with tables of named references and punctuation.
+///
+/// The text fits, and the options turn on only constructs that are built, which
+/// `ParseOptions::built` tests. The only error is want of memory.
+pub fn to_html_with_tables<T: Tables, A: Allocator + Clone>(
+    alloc: A,
+    value: &str,
+    options: &Options,
+    tables: &T,
+) -> Result<String<A>, Message>
+    requires size { length value.now ≤ SIZE_MAX }
+    requires built { is_built options.now.parse.constructs ≡ true }
+    ensures page { IfOk result (λ page. string_bytes page ≡ html (text_tables (T.reference_of tables.now) (T.punctuation_of tables.now)) value.now options.now) }
+    ensures memory { IfErr result (λ message. IsOutOfMemory message) }
+{
+    let page = print(alloc, without_mark(value), options, tables)?;
+    Ok(page)
+}
+
+/// The HTML of a text without a byte order mark.
+fn print<T: Tables, A: Allocator + Clone>(
+    alloc: A,
+    text: &str,
+    options: &Options,
+    tables: &T,
+) -> Result<String<A>, AllocError>
+    requires size { length text.now ≤ SIZE_MAX }
+    requires built { is_built options.now.parse.constructs ≡ true }
+    ensures { IfOk result (λ page. string_bytes page ≡ marked_html (text_tables (T.reference_of tables.now) (T.punctuation_of tables.now)) text.now options.now) }
+{
+    let blocks = block_rows(alloc.clone()?, text, &options.parse.constructs)?;
+    let ending = default_ending(text, options.compile.default_line_ending);
+    let contents = definition_contents(alloc.clone()?, &blocks.rows, &blocks.pieces)?;
+    let definitions = document_definitions(alloc.clone()?, &contents)?;
+    let texts = Texts {
+        options,
+        tables,
+        labels: &definitions.labels,
+        links: &definitions.links,
+    };
+    let room = room(text.len());
+    print_rows(alloc, room, ending, &texts, &blocks.rows, &blocks.pieces)
+}
+
+/// How many bytes a page is given at once: those of the text, and some for tags and references.
+fn room(len: usize) -> usize
+    requires { len ≤ SIZE_MAX }
+{
+    len + len / 8
+}
+
+/// The text's first ending, or another.
+fn default_ending(text: &str, other: LineEnding) -> LineEnding
+    requires { length text.now ≤ SIZE_MAX }
+    ensures { (options : Options) → options.compile.default_line_ending ≡ other → result ≡ default_ending options text.now }
+{
+    Lines::first(text).ending.unwrap_or(other)
+}
