@@ -3,7 +3,7 @@
 
 pub mod edit;
 pub mod edit_map;
-mod relink;
+pub mod relink;
 #[cfg(test)]
 mod tests;
 

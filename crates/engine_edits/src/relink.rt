@@ -6,7 +6,7 @@ use engine_events::{Event, Link};
 use std::alloc::{AllocError, Allocator};
 
 /// Adds the places of events that stay, from a place on.
-pub(crate) fn push_kept<A: Allocator>(
+pub fn push_kept<A: Allocator>(
     places: &mut Vec<Option<usize>, A>,
     first: usize,
     count: usize,
@@ -21,7 +21,7 @@ pub(crate) fn push_kept<A: Allocator>(
 }
 
 /// Adds that events are gone.
-pub(crate) fn push_gone<A: Allocator>(
+pub fn push_gone<A: Allocator>(
     places: &mut Vec<Option<usize>, A>,
     count: usize,
 ) -> Result<(), AllocError>
@@ -34,7 +34,7 @@ pub(crate) fn push_gone<A: Allocator>(
 }
 
 /// Adds events that stay, with their links to where the others stand now.
-pub(crate) fn push_relinked<A: Allocator>(
+pub fn push_relinked<A: Allocator>(
     all: &mut Vec<Event, A>,
     events: &[Event],
     places: &[Option<usize>],

@@ -2,11 +2,13 @@
 use Rattle.std.proofs.Common.{◌≡◌, ℕ, ◌<◌, ◌≤◌, ◌++◌, List, [], ◌∷◌, map, Option, Some, None, refl, sym, ◌∙◌, arith, append-nil}
 use Rattle.engine_events.specs.declared.event.Event.{Event}
 use Rattle.engine_events.specs.declared.state.Name.{Name}
+use Rattle.engine_events.specs.declared.place.Point.{Point}
+use Rattle.engine_events.specs.declared.state.State.{State}
 use Rattle.engine_events.specs.declared.state.State.TheVariants as states
 use Rattle.markdown_engine.specs.declared.attempt.Attempt.{Attempt}
 use Rattle.markdown_engine.specs.declared.virtual_text.VirtualByte.{VirtualByte}
-use Rattle.markdown_engine.specs.Reading.{Config, mark, handed}
-use Rattle.markdown_engine.specs.Laws.{IsFront, Nested, OnlyAdds, Keeps, Falls, IsRead}
+use Rattle.markdown_engine.specs.Reading.{Config, mark, moved, handed}
+use Rattle.markdown_engine.specs.Laws.{IsFront, Nested, OnlyAdds, Keeps, Falls, IsFed}
 use Rattle.engine_tests.specs.declared.count.Count.{Count}
 use Rattle.engine_tests.specs.Counting.{count_at, count_step, counts, count_rank}
 
@@ -29,10 +31,18 @@ called_at : (b : Option ℕ) (c : Config Count) (stack : List Attempt) (n : Name
 called_at None c stack n h = append-nil stack ∙ h
 called_at (Some b) c stack n h = append-nil stack ∙ h
 
+moved_at : (s : State) (c : Config Count) (stack : List Attempt) (p : Point) → counts c stack s → counts (moved p c) stack s
+moved_at (states.Error m) c stack p h = h
+moved_at (states.Next n) c stack p h = h
+moved_at (states.Retry n) c stack p h = h
+moved_at states.Ok c stack p h = h
+moved_at states.Nok c stack p h = h
+
 pub count_keeps : Keeps counts count_step
 unfolding count_step
 count_keeps = record {
-  fed = λ size c stack n v read h. h;
+  fed = λ size c stack n p v fed h. h;
+  moved = λ size c stack s p forward h. moved_at s c stack p h;
   called = λ c stack n h. called_at c.current c stack n h;
   ok = λ c stack a h. absurd (never stack a h);
   nok = λ c stack a h. absurd (never stack a h);
@@ -43,14 +53,14 @@ lower_at : (b : Option ℕ) (size : ℕ) (c : Config Count) (stack : List Attemp
 lower_at None size c stack n h = rw h (omega arith)
 lower_at (Some b) size c stack n h = rw h (omega arith)
 
-fed_at : (size : ℕ) (c : Config Count) (stack : List Attempt) (n : Name) (v : Option VirtualByte) → ((w : VirtualByte) → v ≡ Some w → IsRead size c.point w) → count_rank size (handed c v) stack (states.Retry n) ≤ count_rank size c stack (states.Next n)
-fed_at size c stack n None read = omega arith
-fed_at size c stack n (Some w) read = let f = (read w refl).falls in omega arith
+fed_at : (size : ℕ) (c : Config Count) (stack : List Attempt) (n : Name) (p : Point) (v : Option VirtualByte) → IsFed size c.point p v → count_rank size (handed c p v) stack (states.Retry n) ≤ count_rank size c stack (states.Next n)
+fed_at size c stack n p None fed = omega arith
+fed_at size c stack n p (Some w) fed = let f = (fed.read w refl).falls in let g = fed.forward in omega arith
 
 pub count_falls : Falls counts count_step count_rank
 unfolding count_step
 count_falls = record {
-  fed = λ size c stack n v h read. fed_at size c stack n v read;
+  fed = λ size c stack n p v h fed. fed_at size c stack n p v fed;
   called = λ size c stack n h. lower_at c.current size c stack n refl;
   ok = λ size c stack a h. absurd (never stack a h);
   nok = λ size c stack a h. absurd (never stack a h);

@@ -5,8 +5,9 @@ use Rattle.std.proofs.lemmas.Bool.Decides.{nat_tests}
 use Rattle.engine_events.specs.declared.place.Point.{Point}
 use Rattle.engine_events.specs.Columns.{tab_size}
 use Rattle.markdown_engine.specs.declared.virtual_text.VirtualByte.{VirtualByte}
-use Rattle.markdown_engine.specs.VirtualText.{virtual_byte, text_to, is_before, given, tab_column, in_line, in_tab, next_line, as_byte, feeds}
-use Rattle.markdown_engine.specs.Laws.{remaining, IsRead}
+use Rattle.markdown_engine.specs.VirtualText.{virtual_byte, byte_before, place_in, Skips, is_before, given, tab_column, in_line, in_tab, next_line, as_byte, feeds}
+use Rattle.markdown_engine.specs.Laws.{remaining, IsRead, IsFed}
+use Rattle.markdown_engine.proofs.Starts.{start_less}
 
 module _ (size : ℕ) (p : Point) (low : p.index < size) where
   Less : VirtualByte → Type 0
@@ -74,7 +75,7 @@ some_same : {x y : VirtualByte} → Some x ≡ Some y → x ≡ y
 some_same h = cc
 
 -- a byte that was read
-pub is_read : (bytes : List ℕ) (to : ℕ × ℕ) (p : Point) (v : Option VirtualByte) (w : VirtualByte) → to.0 ≤ length bytes → (to.0 ≡ length bytes → to.1 ≡ 0) → v ≡ text_to bytes to p → v ≡ Some w → IsRead (length bytes) p w
+pub is_read : (bytes : List ℕ) (to : ℕ × ℕ) (p : Point) (v : Option VirtualByte) (w : VirtualByte) → to.0 ≤ length bytes → (to.0 ≡ length bytes → to.1 ≡ 0) → v ≡ byte_before bytes to p → v ≡ Some w → IsRead (length bytes) p w
 is_read bytes to p v w h k e s = pick (is_before to p) refl
   where
     pick : (t : Bool) → is_before to p ≡ t → IsRead (length bytes) p w
@@ -84,3 +85,14 @@ is_read bytes to p v w h k e s = pick (is_before to p) refl
         let same = some_same f in
         record { within = low; falls = subst (λ (z : VirtualByte). remaining (length bytes) z.next < remaining (length bytes) p) same (given_falls (length bytes) p low bytes (slice_index bytes p.index)) }
     pick false q = absurd (let f : None ≡ Some w = sym (rw q at e) ∙ s in cc)
+
+-- what is handed in was read
+pub is_fed : (bytes : List ℕ) (skips : Skips) (to : ℕ × ℕ) (c p : Point) (v : Option VirtualByte) → to.0 ≤ length bytes → (to.0 ≡ length bytes → to.1 ≡ 0) → p ≡ place_in skips c → v ≡ byte_before bytes to p → IsFed (length bytes) c p v
+is_fed bytes skips to c p v h k ep ev = record {
+  forward = subst (λ (z : Point). remaining (length bytes) z ≤ remaining (length bytes) c) (sym ep) (start_less (length bytes) skips c);
+  read = λ w s. is_read bytes to p v w h k ev s;
+}
+
+-- over a byte
+pub step_less : (bytes : List ℕ) (to : ℕ × ℕ) (p : Point) → to.0 ≤ length bytes → (to.0 ≡ length bytes → to.1 ≡ 0) → is_before to p ≡ true → remaining (length bytes) (virtual_byte bytes p).next < remaining (length bytes) p
+step_less bytes to p h k e = given_falls (length bytes) p (within (length bytes) to p h k e) bytes (slice_index bytes p.index)

@@ -1,3 +1,4 @@
 pub mod Outcomes
+pub mod Starts
 pub mod Push
 pub mod Falls

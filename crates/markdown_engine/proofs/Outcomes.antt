@@ -8,7 +8,8 @@ use Rattle.engine_events.specs.declared.state.Name.{Name}
 use Rattle.markdown_engine.specs.declared.attempt.Attempt.{Attempt}
 use Rattle.engine_events.specs.declared.state.State.{State}
 use Rattle.engine_events.specs.declared.state.State.TheVariants as states
-use Rattle.markdown_engine.specs.Reading.{Text, Config, Frame, Steps, Runs, ends-ok, ends-nok, next, retry, first, second, mark, restore, resumed, chosen, feed, passed, hand_on, Unwinds, Outcome, ended}
+use Rattle.markdown_engine.specs.Reading.{Config, Frame, Steps, Runs, ends-ok, ends-nok, next, retry, first, second, mark, restore, resumed, chosen, feed, passed, hand_on, Unwinds, Outcome, ended}
+use Rattle.markdown_engine.specs.VirtualText.{Text}
 use Rattle.markdown_engine.specs.Laws.{IsFront, Nested, OnlyAdds}
 
 pub front_take : (a b : List Event) → IsFront a b → take (length a) b ≡ a
@@ -36,7 +37,7 @@ module _ {M : Type 0} (text : Text) (step : Steps M) where
   keeps adds (second {d = d} {f = f} r q) base h = keeps adds q base h.0
 
   pub restored : (f : Frame M) (d : Config M) → IsFront f.start.events d.events → restore (mark f) d ≡ hand_on f.start d
-  restored f d h = ap (λ (a : List Event). let c : Config M = record d { events = a; point = f.start.point; next = f.start.next; previous = f.start.previous; current = f.start.current } in c) (front_take f.start.events d.events h)
+  restored f d h = ap (λ (a : List Event). let c : Config M = record d { events = a; point = f.start.point; next = f.start.next; line_start = f.start.line_start; previous = f.start.previous; current = f.start.current } in c) (front_take f.start.events d.events h)
 
   pub choice : (x : Bool) {c : Config M} {s : State} {d e : Config M} {w : Bool} {f : Frame M} {fs : List (Frame M)} → IsFront f.start.events d.events → Runs text step c fs s d x → Runs text step (resumed (mark f) d x) [] (chosen (mark f) x) e w → Runs text step c (f ∷ fs) s e w
   choice true {d = d} {e = e} {w = w} {f = f} h r q = first r (subst (λ (z : Config M). Runs text step (cond f.check z d) [] f.ok e w) (restored f d h) q)

@@ -1,5 +1,5 @@
 -- The loop of `push`.
-use Rattle.std.proofs.Common.{◌≡◌, ℕ, ◌+◌, ◌<◌, ◌≤◌, ◌++◌, [], ◌∷◌, length, map, List, Bool, true, false, refl, sym, ap, subst, ◌∙◌, arith, ◌⊎◌, inl, inr, Option, Some, None, is_some, not, append-nil}
+use Rattle.std.proofs.Common.{◌≡◌, ℕ, ◌+◌, ◌<◌, ◌≤◌, ◌++◌, [], ◌∷◌, length, map, List, Bool, true, false, refl, sym, ap, subst, ◌∙◌, arith, ◌⊎◌, inl, inr, Option, None, is_some, not, append-nil}
 use Rattle.std.proofs.Common.{nat_lt, ◌==◌, ◌&&◌, ◌||◌}
 use Rattle.std.proofs.lemmas.Bool.{ltb-true, lt-ltb, eqb-true, eq-eqb, cases_lt}
 use Rattle.engine_events.specs.declared.place.Point.{Point}
@@ -10,11 +10,12 @@ use Rattle.markdown_options.specs.declared.message.Message.{Message}
 use Rattle.markdown_engine.specs.declared.attempt.Attempt.{Attempt}
 use Rattle.markdown_engine.specs.declared.virtual_text.VirtualByte.{VirtualByte}
 use Rattle.markdown_engine.specs.declared.tokenizer.Tokenizer.{Tokenizer}
-use Rattle.markdown_engine.specs.VirtualText.{is_before, text_to}
-use Rattle.markdown_engine.specs.Reading.{Text, Config, Steps, Runs, mark, resumed, chosen, handed, feed, Outcome, ended}
-use Rattle.markdown_engine.specs.Machine.{config, IsAfter, Goes, GoesAll, Refused, Did, Answers, Turn, Ended, Flushed, ReadWhole, weight}
-use Rattle.markdown_engine.specs.Laws.{Holds, Ranks, Keeps, Falls, OnlyAdds, IsRead}
+use Rattle.markdown_engine.specs.VirtualText.{Source, Text, is_before, byte_before, line_start, place_in, text_to, with_skip}
+use Rattle.markdown_engine.specs.Reading.{Config, Steps, Runs, mark, moved, resumed, chosen, handed, feed, Outcome, ended}
+use Rattle.markdown_engine.specs.Machine.{config, source, Around, Opened, IsAfter, GoesOn, Goes, GoesAll, Refused, Did, Answers, Turn, Ended, Flushed, ReadWhole, weight}
+use Rattle.markdown_engine.specs.Laws.{Holds, Ranks, Keeps, Falls, OnlyAdds, IsFed}
 use Rattle.markdown_engine.proofs.Outcomes.{ends, outcome_pop, outcome_retry, outcome_next}
+use Rattle.markdown_engine.proofs.Starts.{before, before_start, skip_later}
 
 pub at_outcome : {M : Type 0} (text : Text) (step : Steps M) (s t : List Attempt) (c e : Config M) (x y : State) (d : Config M) (w : Bool) → s ≡ t → c ≡ e → x ≡ y → Outcome text step s c [] x d w → Outcome text step t e [] y d w
 at_outcome {M = M} text step s t c e x y d w p q r o =
@@ -42,6 +43,20 @@ module _ {M A : Type 0} (text : Text) (step : Steps M) (adds : OnlyAdds step) wh
         back = λ d w o. g.back d w (at_outcome text step t.attempts.items t.attempts.items (config t) (config t) (states.Next n) x d w refl refl (sym ex)
             (outcome_next text step adds t.attempts.items (config t) n d w (at_outcome text step u.attempts.items (t.attempts.items ++ map mark e.pushed) (config u) e.config y e.state d w q d'.config d'.state o)));
       }
+
+-- reading goes on from one place to another, and this byte is there
+pub record IsThere (s : Source) (limit : ℕ × ℕ) (c p : Point) (b : Option VirtualByte) : Type 0 where
+  pub place : place_in s.skips c ≡ p
+  pub byte : byte_before s.bytes limit p ≡ b
+
+fed_as : {M : Type 0} (more : Source) (limit : ℕ × ℕ) (c : Config M) (p : Point) (b : Option VirtualByte) → IsThere more limit c.point p b → handed c p b ≡ feed (text_to more limit) c
+fed_as more limit c p b h =
+    subst (λ (z : Point). handed c p b ≡ handed c z (byte_before more.bytes limit z)) (sym h.place) (ap (λ (v : Option VirtualByte). handed c p v) (sym h.byte))
+
+pub around : {M A : Type 0} (t u : Tokenizer M A) → Around t u → source u ≡ source t
+around t u h =
+    let f = λ (bytes : List ℕ) (skips : List (ℕ × Point)). let s : Source = record { bytes = bytes; skips = skips } in s in
+    ap (λ (z : List ℕ). f z u.skips.entries) h.bytes ∙ ap (λ (z : List (ℕ × Point)). f t.bytes.now z) h.skips
 
 not_ended : (v : Bool) → Refused (ended v) → ⊥
 not_ended true h = h
@@ -92,13 +107,13 @@ module _ {M A : Type 0} (valid : Holds M) (step : Steps M) (rank : Ranks M) (add
   pub is_valid : (to : ℕ × ℕ) (end : Bool) (f t : Tokenizer M A) (s x y : State) → x ≡ y → (Refused y → ⊥) → Turn valid step to end f s t x → valid (config t) t.attempts.items y
   is_valid to end f t s x y e h k = subst (λ (z : State). valid (config t) t.attempts.items z) e (unless x (λ r. h (at_refused x y e r)) k.holds)
 
-  pub turn_pop : (v : Bool) (a : Attempt) (to : ℕ × ℕ) (end : Bool) (f t u : Tokenizer M A) (s x y : State) → x ≡ ended v → y ≡ chosen a v → t.attempts.items ≡ u.attempts.items ++ a ∷ [] → config u ≡ resumed a (config t) v → u.bytes.now ≡ t.bytes.now → Turn valid step to end f s t x → Turn valid step to end f s u y
+  pub turn_pop : (v : Bool) (a : Attempt) (to : ℕ × ℕ) (end : Bool) (f t u : Tokenizer M A) (s x y : State) → x ≡ ended v → y ≡ chosen a v → t.attempts.items ≡ u.attempts.items ++ a ∷ [] → config u ≡ resumed a (config t) v → source u ≡ source t → Turn valid step to end f s t x → Turn valid step to end f s u y
   turn_pop v a to end f t u s x y ex ey p q b h =
       let k : valid (config t) (u.attempts.items ++ a ∷ []) (ended v) = subst (λ (z : List Attempt). valid (config t) z (ended v)) p (is_valid to end f t s x (ended v) ex (not_ended v) h) in
       record {
-        bytes = b ∙ h.bytes;
+        same = b ∙ h.same;
         holds = inr (at_valid valid (resumed a (config t) v) (config u) u.attempts.items u.attempts.items (chosen a v) y (sym q) refl (sym ey) (kept_pop valid step keeps v u.attempts.items a (config t) k));
-        reads = elim h.reads [ inl r ↦ absurd (not_ended v (at_refused x (ended v) ex r)) | inr g ↦ inr (λ limit after none. goes_pop (text_to f.bytes.now limit) step adds v a f t u s x y ex ey p q (g limit after none)) ];
+        reads = elim h.reads [ inl r ↦ absurd (not_ended v (at_refused x (ended v) ex r)) | inr g ↦ inr (λ more limit on. goes_pop (text_to more limit) step adds v a f t u s x y ex ey p q (g more limit on)) ];
       }
 
   pub turn_retry : (n : Name) (to : ℕ × ℕ) (end : Bool) (f t u : Tokenizer M A) (s x y : State) → x ≡ states.Retry n → Answers (step (config t) n) t u y → Turn valid step to end f s t x → Turn valid step to end f s u y
@@ -106,33 +121,33 @@ module _ {M A : Type 0} (valid : Holds M) (step : Steps M) (rank : Ranks M) (add
       let e = step (config t) n in
       let v : valid (config t) t.attempts.items (states.Retry n) = is_valid to end f t s x (states.Retry n) ex (λ r. r) k in
       elim h.1 [
-        | inl r ↦ record { bytes = h.0 ∙ k.bytes; holds = inl r; reads = inl r }
+        | inl r ↦ record { same = around t u h.0 ∙ k.same; holds = inl r; reads = inl r }
         | inr did ↦ record {
-          bytes = h.0 ∙ k.bytes;
+          same = around t u h.0 ∙ k.same;
           holds = inr (at_valid valid e.config (config u) (t.attempts.items ++ map mark e.pushed) u.attempts.items e.state y (sym did.config) (sym did.attempts) (sym did.state) (keeps.called (config t) t.attempts.items n v));
-          reads = elim k.reads [ inl r ↦ absurd (at_refused x (states.Retry n) ex r) | inr g ↦ inr (λ limit after none. goes_retry (text_to f.bytes.now limit) step adds n f t u s x y ex did (g limit after none)) ];
+          reads = elim k.reads [ inl r ↦ absurd (at_refused x (states.Retry n) ex r) | inr g ↦ inr (λ more limit on. goes_retry (text_to more limit) step adds n f t u s x y ex did (g more limit on)) ];
         }
       ]
 
-  pub valid_fed : (n : Name) (b : Option VirtualByte) (size : ℕ) (to : ℕ × ℕ) (end : Bool) (f t v : Tokenizer M A) (s x : State) → ((w : VirtualByte) → b ≡ Some w → IsRead size t.point w) → x ≡ states.Next n
-      → config v ≡ handed (config t) b → v.attempts.items ≡ t.attempts.items → Turn valid step to end f s t x → valid (config v) v.attempts.items (states.Retry n)
-  valid_fed n b size to end f t v s x read ex ec es k =
+  pub valid_fed : (n : Name) (p : Point) (b : Option VirtualByte) (size : ℕ) (to : ℕ × ℕ) (end : Bool) (f t v : Tokenizer M A) (s x : State) → IsFed size t.point p b → x ≡ states.Next n
+      → config v ≡ handed (config t) p b → v.attempts.items ≡ t.attempts.items → Turn valid step to end f s t x → valid (config v) v.attempts.items (states.Retry n)
+  valid_fed n p b size to end f t v s x read ex ec es k =
       let h : valid (config t) t.attempts.items (states.Next n) = is_valid to end f t s x (states.Next n) ex (λ r. r) k in
-      at_valid valid (handed (config t) b) (config v) t.attempts.items v.attempts.items (states.Retry n) (states.Retry n) (sym ec) (sym es) refl (keeps.fed size (config t) t.attempts.items n b read h)
+      at_valid valid (handed (config t) p b) (config v) t.attempts.items v.attempts.items (states.Retry n) (states.Retry n) (sym ec) (sym es) refl (keeps.fed size (config t) t.attempts.items n p b read h)
 
-  pub turn_next : (n : Name) (b : Option VirtualByte) (size : ℕ) (to : ℕ × ℕ) (end : Bool) (f t v u : Tokenizer M A) (s x y : State) → ((w : VirtualByte) → b ≡ Some w → IsRead size t.point w) → x ≡ states.Next n
-      → config v ≡ handed (config t) b → v.attempts.items ≡ t.attempts.items → v.bytes.now ≡ t.bytes.now
-      → ((limit : ℕ × ℕ) → IsAfter to limit → (end ≡ true → limit ≡ to) → text_to f.bytes.now limit t.point ≡ b)
+  pub turn_next : (n : Name) (p : Point) (b : Option VirtualByte) (size : ℕ) (to : ℕ × ℕ) (end : Bool) (f t v u : Tokenizer M A) (s x y : State) → IsFed size t.point p b → x ≡ states.Next n
+      → config v ≡ handed (config t) p b → v.attempts.items ≡ t.attempts.items → source v ≡ source t
+      → ((more : Source) (limit : ℕ × ℕ) → GoesOn (source f) to end more limit → IsThere more limit t.point p b)
       → Answers (step (config v) n) v u y → Turn valid step to end f s t x → Turn valid step to end f s u y
-  turn_next n b size to end f t v u s x y read ex ec es eb text h k =
+  turn_next n p b size to end f t v u s x y read ex ec es eb text h k =
       let e = step (config v) n in
-      let bs : u.bytes.now ≡ f.bytes.now = h.0 ∙ (eb ∙ k.bytes) in
+      let bs : source u ≡ source f = around v u h.0 ∙ (eb ∙ k.same) in
       elim h.1 [
-        | inl r ↦ record { bytes = bs; holds = inl r; reads = inl r }
+        | inl r ↦ record { same = bs; holds = inl r; reads = inl r }
         | inr did ↦ record {
-          bytes = bs;
-          holds = inr (at_valid valid e.config (config u) (v.attempts.items ++ map mark e.pushed) u.attempts.items e.state y (sym did.config) (sym did.attempts) (sym did.state) (keeps.called (config v) v.attempts.items n (valid_fed n b size to end f t v s x read ex ec es k)));
-          reads = elim k.reads [ inl r ↦ absurd (at_refused x (states.Next n) ex r) | inr g ↦ inr (λ limit after none. goes_next (text_to f.bytes.now limit) step adds n f t v u s x y ex (ec ∙ ap (λ (z : Option VirtualByte). handed (config t) z) (sym (text limit after none))) es did (g limit after none)) ];
+          same = bs;
+          holds = inr (at_valid valid e.config (config u) (v.attempts.items ++ map mark e.pushed) u.attempts.items e.state y (sym did.config) (sym did.attempts) (sym did.state) (keeps.called (config v) v.attempts.items n (valid_fed n p b size to end f t v s x read ex ec es k)));
+          reads = elim k.reads [ inl r ↦ absurd (at_refused x (states.Next n) ex r) | inr g ↦ inr (λ more limit on. goes_next (text_to more limit) step adds n f t v u s x y ex (ec ∙ fed_as more limit (config t) p b (text more limit on)) es did (g more limit on)) ];
         }
       ]
 
@@ -161,21 +176,21 @@ module _ {M A : Type 0} (valid : Holds M) (step : Steps M) (rank : Ranks M) (add
             smaller_by size t u x y (omega arith) top)
       ]
 
-  pub smaller_next : (n : Name) (b : Option VirtualByte) (size : ℕ) (to : ℕ × ℕ) (end : Bool) (f t v u : Tokenizer M A) (s x y : State) → ((w : VirtualByte) → b ≡ Some w → IsRead size t.point w) → x ≡ states.Next n
-      → config v ≡ handed (config t) b → v.attempts.items ≡ t.attempts.items
+  pub smaller_next : (n : Name) (p : Point) (b : Option VirtualByte) (size : ℕ) (to : ℕ × ℕ) (end : Bool) (f t v u : Tokenizer M A) (s x y : State) → IsFed size t.point p b → x ≡ states.Next n
+      → config v ≡ handed (config t) p b → v.attempts.items ≡ t.attempts.items
       → Answers (step (config v) n) v u y → Turn valid step to end f s t x → weight y (rank size (config u) u.attempts.items y) < weight x (rank size (config t) t.attempts.items x)
-  smaller_next n b size to end f t v u s x y read ex ec es a k =
+  smaller_next n p b size to end f t v u s x y read ex ec es a k =
       let h : valid (config t) t.attempts.items (states.Next n) = is_valid to end f t s x (states.Next n) ex (λ r. r) k in
-      let hv = valid_fed n b size to end f t v s x read ex ec es k in
+      let hv = valid_fed n p b size to end f t v s x read ex ec es k in
       let top : weight x (rank size (config t) t.attempts.items x) ≡ rank size (config t) t.attempts.items x + 1 = weight_known x (states.Next n) (rank size (config t) t.attempts.items x) ex refl in
       elim a.1 [
         | inl r ↦ (let z = weight_refused y (rank size (config u) u.attempts.items y) r in omega arith)
         | inr did ↦ (
             let lower = falls.called size (config v) v.attempts.items n hv in
-            let fed = falls.fed size (config t) t.attempts.items n b h read in
+            let fed = falls.fed size (config t) t.attempts.items n p b h read in
             let e = step (config v) n in
             let at_u : rank size (config u) u.attempts.items y ≡ rank size e.config (v.attempts.items ++ map mark e.pushed) e.state = cc in
-            let at_v : rank size (config v) v.attempts.items (states.Retry n) ≡ rank size (handed (config t) b) t.attempts.items (states.Retry n) = cc in
+            let at_v : rank size (config v) v.attempts.items (states.Retry n) ≡ rank size (handed (config t) p b) t.attempts.items (states.Retry n) = cc in
             let at_t : rank size (config t) t.attempts.items x ≡ rank size (config t) t.attempts.items (states.Next n) = cc in
             smaller_by size t u x y (omega arith) top)
       ]
@@ -210,30 +225,46 @@ before_later to limit p h e =
       | inr k ↦ at_index to limit p h (eqb-true p.index to.0 k.0) (ltb-true p.vs to.1 k.1) (cases_lt to.0 limit.0)
     ]
 
--- what a byte before the range's end is, it is wherever the text ends later
-pub same_text : (bytes : List ℕ) (to limit : ℕ × ℕ) (p : Point) (end : Bool) (b : Option VirtualByte) → b ≡ text_to bytes to p → IsAfter to limit → (b ≡ None → end ≡ true) → (end ≡ true → limit ≡ to) → text_to bytes limit p ≡ b
-same_text bytes to limit p end b e after h none = pick (is_before to p) refl
+-- what a byte before the range's end is, it is however the text goes on
+pub same_text : (old : Source) (to : ℕ × ℕ) (more : Source) (limit : ℕ × ℕ) (c p : Point) (end : Bool) (b : Option VirtualByte) → p ≡ place_in old.skips c → b ≡ byte_before old.bytes to p → GoesOn old to end more limit → (b ≡ None → end ≡ true) → IsThere more limit c p b
+same_text old to more limit c p end b ep eb on h = pick (is_before to p) refl
   where
-    pick : (t : Bool) → is_before to p ≡ t → text_to bytes limit p ≡ b
-    pick true q = rw (before_later to limit p after q) (sym (rw q at e))
-    pick false q = ap (λ (z : ℕ × ℕ). text_to bytes z p) (none (h (rw q at e))) ∙ sym e
+    pick : (t : Bool) → is_before to p ≡ t → IsThere more limit c p b
+    pick true q =
+        let e : is_before to (place_in old.skips c) ≡ true = subst (λ (z : Point). is_before to z ≡ true) ep q in
+        record {
+          place = on.starts c (before_start old.skips to c e) ∙ sym ep;
+          byte = subst (λ (z : List ℕ). byte_before z limit p ≡ b) (sym on.bytes) (rw (before_later to limit p on.after q) (sym (rw q at eb)));
+        }
+    pick false q =
+        let e = on.ends (h (rw q at eb)) in
+        record {
+          place = subst (λ (z : Source). place_in z.skips c ≡ p) (sym e.0) (sym ep);
+          byte = subst (λ (z : Source). byte_before z.bytes limit p ≡ b) (sym e.0) (subst (λ (z : ℕ × ℕ). byte_before old.bytes z p ≡ b) (sym e.1) (sym eb));
+        }
 
 pub at_end : (b : Option VirtualByte) (n end : Bool) → is_some b ≡ not n → ((n ≡ true) × (end ≡ true)) ⊎ (n ≡ false) → b ≡ None → end ≡ true
 at_end b n end h (inl k) e = k.1
 at_end b n end h (inr k) e = absurd (let f : false ≡ true = sym (ap is_some e) ∙ (h ∙ ap not k) in cc)
 
 -- the stack has the same attempts
-pub same_stack : {M A : Type 0} (valid : Holds M) (step : Steps M) (to : ℕ × ℕ) (end : Bool) (f t u : Tokenizer M A) (s x : State) → config u ≡ config t → t.attempts.items ≡ u.attempts.items ++ [] → u.bytes.now ≡ t.bytes.now
-    → Turn valid step to end f s t x → (u.bytes.now ≡ f.bytes.now) × (Refused x ⊎ GoesAll step f.bytes.now to end s f u x)
+pub same_stack : {M A : Type 0} (valid : Holds M) (step : Steps M) (to : ℕ × ℕ) (end : Bool) (f t u : Tokenizer M A) (s x : State) → config u ≡ config t → t.attempts.items ≡ u.attempts.items ++ [] → source u ≡ source t
+    → Turn valid step to end f s t x → (source u ≡ source f) × (Refused x ⊎ GoesAll step (source f) to end s f u x)
 same_stack valid step to end f t u s x ec es eb k = (
-  eb ∙ k.bytes,
+  eb ∙ k.same,
   elim k.reads [
     | inl r ↦ inl r
-    | inr g ↦ inr (λ limit after none. record {
-      back = λ d w o. (g limit after none).back d w (at_outcome (text_to f.bytes.now limit) step u.attempts.items t.attempts.items (config u) (config t) x x d w (sym (es ∙ append-nil u.attempts.items)) ec refl o);
+    | inr g ↦ inr (λ more limit on. record {
+      back = λ d w o. (g more limit on).back d w (at_outcome (text_to more limit) step u.attempts.items t.attempts.items (config u) (config t) x x d w (sym (es ∙ append-nil u.attempts.items)) ec refl o);
     })
   ],
 )
+
+-- where a range begins, what is next holds
+pub opened_valid : {M A : Type 0} (valid : Holds M) (step : Steps M) (keeps : Keeps valid step) (from : ℕ × ℕ) (f t : Tokenizer M A) (s : State) → Opened from f t → Refused s ⊎ valid (config f) f.attempts.items s → Refused s ⊎ valid (config t) t.attempts.items s
+opened_valid valid step keeps from f t s o (inl r) = inl r
+opened_valid valid step keeps from f t s o (inr v) =
+    inr (at_valid valid (moved o.point (config f)) (config t) f.attempts.items t.attempts.items s s (sym o.config) (sym o.attempts) refl (keeps.moved (length f.bytes.now) (config f) f.attempts.items s o.point o.forward v))
 
 unless_refused : {P : Type 0} (s : State) → (Refused s → ⊥) → Refused s ⊎ P → P
 unless_refused s h (inl r) = absurd (h r)
@@ -242,37 +273,70 @@ unless_refused s h (inr p) = p
 at_itself : (to : ℕ × ℕ) → IsAfter to to
 at_itself to = record { index = omega arith; column = λ e. omega arith }
 
-done : {M A : Type 0} (step : Steps M) (to : ℕ × ℕ) (old new : Tokenizer M A) (s r : State) → Ended new r → GoesAll step old.bytes.now to true s old new r → (v : Bool) → r ≡ ended v → Flushed (text_to old.bytes.now to) step s old new r
-done step to old new s r h g v e =
-    let text = text_to old.bytes.now to in
-    let o : Outcome text step new.attempts.items (config new) [] r (config new) v = at_outcome text step [] new.attempts.items (config new) (config new) (ended v) r (config new) v (sym h.attempts) refl (sym e) (record { mid = config new; how = v; runs = ends text step v (config new); unwinds = (refl, refl) }) in
-    record { well = v; state = e; outcome = (g to (at_itself to) (λ x. refl)).back (config new) v o }
+right_there : (s : Source) (to : ℕ × ℕ) → GoesOn s to true s to
+right_there s to = record { bytes = refl; after = at_itself to; starts = λ p e. refl; ends = λ e. (refl, refl) }
 
-pub flushed : {M A : Type 0} (step : Steps M) (to : ℕ × ℕ) (old new : Tokenizer M A) (s r : State) → (new.bytes.now ≡ old.bytes.now) × (Refused r ⊎ GoesAll step old.bytes.now to true s old new r) → Refused r ⊎ Ended new r → Refused r ⊎ Flushed (text_to old.bytes.now to) step s old new r
+done : {M A : Type 0} (step : Steps M) (to : ℕ × ℕ) (old new : Tokenizer M A) (s r : State) → Ended new r → GoesAll step (source old) to true s old new r → (v : Bool) → r ≡ ended v → Flushed (text_to (source old) to) step s old new r
+done step to old new s r h g v e =
+    let text = text_to (source old) to in
+    let o : Outcome text step new.attempts.items (config new) [] r (config new) v = at_outcome text step [] new.attempts.items (config new) (config new) (ended v) r (config new) v (sym h.attempts) refl (sym e) (record { mid = config new; how = v; runs = ends text step v (config new); unwinds = (refl, refl) }) in
+    record { well = v; state = e; outcome = (g (source old) to (right_there (source old) to)).back (config new) v o }
+
+pub flushed : {M A : Type 0} (step : Steps M) (to : ℕ × ℕ) (old new : Tokenizer M A) (s r : State) → (source new ≡ source old) × (Refused r ⊎ GoesAll step (source old) to true s old new r) → Refused r ⊎ Ended new r → Refused r ⊎ Flushed (text_to (source old) to) step s old new r
 flushed step to old new s r p (inl h) = inl h
 flushed step to old new s r p (inr h) = elim p.1 [ inl k ↦ inl k | inr g ↦ inr (elim h.state [ inl e ↦ done step to old new s r h g true e | inr e ↦ done step to old new s r h g false e ]) ]
 
-pub at_once : {M A : Type 0} (step : Steps M) (old new : Tokenizer M A) (s r : State) → old.attempts.items ≡ [] → Refused r ⊎ Flushed (text_to old.bytes.now (length old.bytes.now, 0)) step s old new r → Refused r ⊎ ReadWhole old.bytes.now step s old new r
-at_once step old new s r f (inl h) = inl h
-at_once {M = M} step old new s r f (inr h) =
-    let text = text_to old.bytes.now (length old.bytes.now, 0) in
+-- with nothing that waits at first, the text is read whole
+pub whole_of : {M A : Type 0} (step : Steps M) (from : Source) (old new : Tokenizer M A) (s r : State) → old.attempts.items ≡ [] → Refused r ⊎ Flushed (text_to from (length from.bytes, 0)) step s old new r → Refused r ⊎ ReadWhole from step s old new r
+whole_of step from old new s r f (inl h) = inl h
+whole_of {M = M} step from old new s r f (inr h) =
+    let text = text_to from (length from.bytes, 0) in
     let o : Outcome text step [] (config old) [] s (config new) h.well = subst (λ (z : List Attempt). Outcome text step z (config old) [] s (config new) h.well) f h.outcome in
     let x : o.mid ≡ config new = o.unwinds.0 in
     let y : o.how ≡ h.well = o.unwinds.1 in
     inr (record { well = h.well; state = h.state; runs = subst (λ (z : Bool). Runs text step (config old) [] s (config new) z) y (subst (λ (z : Config M). Runs text step (config old) [] s z o.how) x o.runs) })
 
--- two ranges are read as one text
-pub joined : {M A : Type 0} (step : Steps M) (cut : ℕ × ℕ) (old mid new : Tokenizer M A) (s x r : State) → cut.0 < length old.bytes.now
-    → (mid.bytes.now ≡ old.bytes.now) × (Refused x ⊎ GoesAll step old.bytes.now cut false s old mid x) → (Refused x → ⊥)
-    → Refused r ⊎ Flushed (text_to mid.bytes.now (length mid.bytes.now, 0)) step x mid new r → Refused r ⊎ Flushed (text_to old.bytes.now (length old.bytes.now, 0)) step s old new r
-joined step cut old mid new s x r low p n (inl h) = inl h
-joined {M = M} step cut old mid new s x r low p n (inr h) =
-    let end : ℕ × ℕ = (length old.bytes.now, 0) in
-    let after : IsAfter cut end = record { index = omega arith; column = λ e. absurd (omega arith) } in
-    let g = (unless_refused x n p.1) end after (λ f. absurd (let k : false ≡ true = f in cc)) in
-    let o : Outcome (text_to old.bytes.now end) step mid.attempts.items (config mid) [] x (config new) h.well =
-    subst (λ (z : List ℕ). Outcome (text_to z (length z, 0)) step mid.attempts.items (config mid) [] x (config new) h.well) p.0 h.outcome in
+pub at_once : {M A : Type 0} (step : Steps M) (old new : Tokenizer M A) (s r : State) → old.attempts.items ≡ [] → Refused r ⊎ Flushed (text_to (source old) (length old.bytes.now, 0)) step s old new r → Refused r ⊎ ReadWhole (source old) step s old new r
+at_once step old new s r f h = whole_of step (source old) old new s r f h
+
+-- a line got a skip
+pub skipped_as : {M A : Type 0} (t u : Tokenizer M A) (p : Point) → u.bytes.now ≡ t.bytes.now → u.skips.entries ≡ (with_skip (source t) p).skips → source u ≡ with_skip (source t) p
+skipped_as t u p b k =
+    let f = λ (bytes : List ℕ) (skips : List (ℕ × Point)). let s : Source = record { bytes = bytes; skips = skips } in s in
+    ap (λ (z : List ℕ). f z u.skips.entries) b ∙ ap (λ (z : List (ℕ × Point)). f t.bytes.now z) k
+
+-- two ranges are read as one text, however it goes on after the first
+pub joined : {M A : Type 0} (step : Steps M) (cut : ℕ × ℕ) (old mid later new : Tokenizer M A) (s x r : State) → GoesOn (source old) cut false (source later) (length later.bytes.now, 0)
+    → config later ≡ config mid → later.attempts.items ≡ mid.attempts.items
+    → (source mid ≡ source old) × (Refused x ⊎ GoesAll step (source old) cut false s old mid x) → (Refused x → ⊥)
+    → Refused r ⊎ Flushed (text_to (source later) (length later.bytes.now, 0)) step x later new r → Refused r ⊎ Flushed (text_to (source later) (length later.bytes.now, 0)) step s old new r
+joined step cut old mid later new s x r on ec es p n (inl h) = inl h
+joined {M = M} step cut old mid later new s x r on ec es p n (inr h) =
+    let end : ℕ × ℕ = (length later.bytes.now, 0) in
+    let g = (unless_refused x n p.1) (source later) end on in
+    let o = at_outcome (text_to (source later) end) step later.attempts.items mid.attempts.items (config later) (config mid) x x (config new) h.well es ec refl h.outcome in
     inr (record { well = h.well; state = h.state; outcome = g.back (config new) h.well o })
+
+-- the same text goes on
+pub same_goes_on : (s more : Source) (cut end : ℕ × ℕ) → more ≡ s → IsAfter cut end → GoesOn s cut false more end
+same_goes_on s more cut end e after = record {
+  bytes = ap (λ (z : Source). z.bytes) e;
+  after = after;
+  starts = λ p h. ap (λ (z : Source). place_in z.skips p) e;
+  ends = λ f. absurd (let k : false ≡ true = f in cc);
+}
+
+-- a text goes on with a line that has a skip
+pub skip_goes_on : (s : Source) (cut : ℕ) (p : Point) (end : ℕ × ℕ) → cut ≤ line_start s.bytes p.index → IsAfter (cut, 0) end → GoesOn s (cut, 0) false (with_skip s p) end
+skip_goes_on s cut p end low after = record {
+  bytes = refl;
+  after = after;
+  starts = λ q h. skip_later s.skips (line_start s.bytes p.index) p q (elim (before (cut, 0) q h) [ inl k ↦ omega arith | inr k ↦ absurd (let l = k.1 in omega arith) ]);
+  ends = λ f. absurd (let k : false ≡ true = f in cc);
+}
+
+pub within : (cut : ℕ × ℕ) (n : ℕ) → cut.0 < n → IsAfter cut (n, 0)
+within cut n low = record { index = omega arith; column = λ e. absurd (omega arith) }
 
 pub not_refused : (s : State) → ((m : Message) → s ≡ states.Error m → ⊥) → Refused s → ⊥
 not_refused (states.Error m) h r = h m refl

@@ -8,7 +8,7 @@ use Rattle.engine_events.specs.declared.state.State.{State}
 use Rattle.engine_events.specs.declared.state.State.TheVariants as states
 use Rattle.markdown_engine.specs.declared.attempt.Attempt.{Attempt}
 use Rattle.markdown_engine.specs.declared.virtual_text.VirtualByte.{VirtualByte}
-use Rattle.markdown_engine.specs.Reading.{Config, Frame, Steps, mark, resumed, handed}
+use Rattle.markdown_engine.specs.Reading.{Config, Frame, Steps, mark, moved, resumed, handed}
 
 -- the first list is a front of the second
 abbrev pub IsFront : List Event → List Event → Type 0
@@ -32,13 +32,20 @@ pub record IsRead (size : ℕ) (p : Point) (v : VirtualByte) : Type 0 where
   pub within : p.index < size
   pub falls : remaining size v.next < remaining size p
 
+-- reading went on to a place, and the byte there, or the end, was read
+pub record IsFed (size : ℕ) (from p : Point) (v : Option VirtualByte) : Type 0 where
+  pub forward : remaining size p ≤ remaining size from
+  pub read : (w : VirtualByte) → v ≡ Some w → IsRead size p w
+
 -- what holds of a configuration, its stack and its next state
 abbrev pub Holds : Type 0 → Type 1
 Holds M = Config M → List Attempt → State → Type 0
 
 -- each move of the engine keeps it
 pub record Keeps {M : Type 0} (valid : Holds M) (step : Steps M) : Type 0 where
-  pub fed : (size : ℕ) (c : Config M) (stack : List Attempt) (n : Name) (v : Option VirtualByte) → ((w : VirtualByte) → v ≡ Some w → IsRead size c.point w) → valid c stack (states.Next n) → valid (handed c v) stack (states.Retry n)
+  pub fed : (size : ℕ) (c : Config M) (stack : List Attempt) (n : Name) (p : Point) (v : Option VirtualByte) → IsFed size c.point p v → valid c stack (states.Next n) → valid (handed c p v) stack (states.Retry n)
+  -- a range may begin at a later place
+  pub moved : (size : ℕ) (c : Config M) (stack : List Attempt) (s : State) (p : Point) → remaining size p ≤ remaining size c.point → valid c stack s → valid (moved p c) stack s
   pub called : (c : Config M) (stack : List Attempt) (n : Name) → valid c stack (states.Retry n) → let e = step c n in valid e.config (stack ++ map mark e.pushed) e.state
   pub ok : (c : Config M) (stack : List Attempt) (a : Attempt) → valid c (stack ++ a ∷ []) states.Ok → valid (resumed a c true) stack a.ok
   pub nok : (c : Config M) (stack : List Attempt) (a : Attempt) → valid c (stack ++ a ∷ []) states.Nok → valid (resumed a c false) stack a.nok
@@ -50,8 +57,8 @@ abbrev pub Ranks : Type 0 → Type 0
 Ranks M = ℕ → Config M → List Attempt → State → ℕ
 
 pub record Falls {M : Type 0} (valid : Holds M) (step : Steps M) (rank : Ranks M) : Type 0 where
-  pub fed : (size : ℕ) (c : Config M) (stack : List Attempt) (n : Name) (v : Option VirtualByte) → valid c stack (states.Next n) → ((w : VirtualByte) → v ≡ Some w → IsRead size c.point w)
-      → rank size (handed c v) stack (states.Retry n) ≤ rank size c stack (states.Next n)
+  pub fed : (size : ℕ) (c : Config M) (stack : List Attempt) (n : Name) (p : Point) (v : Option VirtualByte) → valid c stack (states.Next n) → IsFed size c.point p v
+      → rank size (handed c p v) stack (states.Retry n) ≤ rank size c stack (states.Next n)
   pub called : (size : ℕ) (c : Config M) (stack : List Attempt) (n : Name) → valid c stack (states.Retry n)
       → let e = step c n in rank size e.config (stack ++ map mark e.pushed) e.state < rank size c stack (states.Retry n)
   pub ok : (size : ℕ) (c : Config M) (stack : List Attempt) (a : Attempt) → valid c (stack ++ a ∷ []) states.Ok

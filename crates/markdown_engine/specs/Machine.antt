@@ -1,5 +1,5 @@
 -- What the calls of a tokenizer do.
-use Rattle.std.specs.Prelude.{◌≡◌, ℕ, ◌+◌, ◌≤◌, Bool, true, false, List, length, [], ◌∷◌, ◌++◌, map, Option, None, ◌⊎◌}
+use Rattle.std.specs.Prelude.{◌≡◌, ℕ, ◌+◌, ◌≤◌, Bool, true, false, if◌then◌else◌, length, [], ◌∷◌, ◌++◌, map, Option, None, ◌⊎◌}
 use Rattle.markdown_options.specs.Messages.{IsOutOfMemory}
 use Rattle.engine_events.specs.declared.event.Name.{Name}
 use Rattle.engine_events.specs.declared.event.Kind.TheVariants.{Enter, Exit}
@@ -8,13 +8,18 @@ use Rattle.engine_events.specs.declared.state.State.TheVariants as states
 use Rattle.engine_events.specs.declared.event.Link.{Link}
 use Rattle.engine_events.specs.Events.{event}
 use Rattle.markdown_engine.specs.declared.tokenizer.Tokenizer.{Tokenizer}
-use Rattle.markdown_engine.specs.Reading.{Config, Effect, Frame, Steps, Text, Outcome, Runs, ended, mark}
-use Rattle.markdown_engine.specs.VirtualText.{is_before, text_to}
-use Rattle.markdown_engine.specs.Laws.{Holds}
+use Rattle.markdown_engine.specs.Reading.{Config, Effect, Frame, Steps, Outcome, Runs, ended, mark, moved}
+use Rattle.markdown_engine.specs.VirtualText.{Source, Text, Walks, is_before, is_feed, place_in, text_to}
+use Rattle.engine_events.specs.declared.place.Point.{Point}
+use Rattle.markdown_engine.specs.Laws.{Holds, remaining}
 
 module _ {M A : Type 0} where
   abbrev pub config : Tokenizer M A → Config M
-  config t = record { events = t.events.items; point = t.point; next = t.next; previous = t.previous; current = t.current; tokenize_state = t.tokenize_state; machine = t.machine }
+  config t = record { events = t.events.items; point = t.point; next = t.next; line_start = t.line_start; previous = t.previous; current = t.current; tokenize_state = t.tokenize_state; machine = t.machine }
+
+  -- what it reads from
+  abbrev pub source : Tokenizer M A → Source
+  source t = record { bytes = t.bytes.now; skips = t.skips.entries }
 
 -- memory was wanted
 abbrev pub Refused : State → Type 0
@@ -29,6 +34,17 @@ pub record IsAfter (from to : ℕ × ℕ) : Type 0 where
   pub index : from.0 ≤ to.0
   pub column : from.0 ≡ to.0 → from.1 ≤ to.1
 
+-- where a range begins: where reading is, or, if the range leaves a gap, over it at the range's start
+abbrev pub Begins : Source → ℕ × ℕ → Point → Point → Type 0
+Begins s from p q = let place = place_in s.skips p in ((is_before from place ≡ false) × (q ≡ p)) ⊎ ((is_before from place ≡ true) × Walks s.bytes from place q)
+
+-- a text goes on after the end of a range: it has the same bytes, ends there or later, and up to there nothing else is skipped; with the end handed in it ends right there
+pub record GoesOn (s : Source) (to : ℕ × ℕ) (end : Bool) (more : Source) (limit : ℕ × ℕ) : Type 0 where
+  pub bytes : more.bytes ≡ s.bytes
+  pub after : IsAfter to limit
+  pub starts : (p : Point) → is_before to p ≡ true → place_in more.skips p ≡ place_in s.skips p
+  pub ends : end ≡ true → (more ≡ s) × (limit ≡ to)
+
 module _ {M A : Type 0} where
   -- a call did what the step says
   pub record Did (e : Effect M) (old new : Tokenizer M A) (s : State) : Type 0 where
@@ -36,20 +52,37 @@ module _ {M A : Type 0} where
     pub attempts : new.attempts.items ≡ old.attempts.items ++ map mark e.pushed
     pub state : s ≡ e.state
 
+  -- what is read from stayed
+  pub record Around (old new : Tokenizer M A) : Type 0 where
+    pub bytes : new.bytes.now ≡ old.bytes.now
+    pub skips : new.skips.entries ≡ old.skips.entries
+
   -- or memory was wanted
   abbrev pub Answers : Effect M → Tokenizer M A → Tokenizer M A → State → Type 0
-  Answers e old new s = (new.bytes.now ≡ old.bytes.now) × (Refused s ⊎ Did e old new s)
+  Answers e old new s = Around old new × (Refused s ⊎ Did e old new s)
 
   -- what `push` leaves: reading a text from what is left is reading it from what was there
   pub record Goes (text : Text) (step : Steps M) (state : State) (old new : Tokenizer M A) (s : State) : Type 0 where
     pub back : (d : Config M) (w : Bool) → Outcome text step new.attempts.items (config new) [] s d w → Outcome text step old.attempts.items (config old) [] state d w
 
-  -- wherever the text ends, at the range's end or later; with the end handed in, right there
-  abbrev pub GoesAll : Steps M → List ℕ → ℕ × ℕ → Bool → State → Tokenizer M A → Tokenizer M A → State → Type 0
-  GoesAll step bytes to end state old new s = (limit : ℕ × ℕ) → IsAfter to limit → (end ≡ true → limit ≡ to) → Goes (text_to bytes limit) step state old new s
+  -- however the text goes on after the range
+  abbrev pub GoesAll : Steps M → Source → ℕ × ℕ → Bool → State → Tokenizer M A → Tokenizer M A → State → Type 0
+  GoesAll step s to end given old new state = (more : Source) (limit : ℕ × ℕ) → GoesOn s to end more limit → Goes (text_to more limit) step given old new state
 
   abbrev pub Pushed : Steps M → ℕ × ℕ → Bool → State → Tokenizer M A → Tokenizer M A → State → Type 0
-  Pushed step to end state old new s = (new.bytes.now ≡ old.bytes.now) × (Refused s ⊎ GoesAll step old.bytes.now to end state old new s)
+  Pushed step to end given old new state = (source new ≡ source old) × (Refused state ⊎ GoesAll step (source old) to end given old new state)
+
+  pub record Opened (from : ℕ × ℕ) (old new : Tokenizer M A) : Type 0 where
+    pub point : Point
+    pub begins : Begins (source old) from old.point point
+    pub forward : remaining (length old.bytes.now) point ≤ remaining (length old.bytes.now) old.point
+    pub config : config new ≡ moved point (config old)
+    pub attempts : new.attempts.items ≡ old.attempts.items
+    pub same : Around old new
+
+  -- a range was read from its start
+  abbrev pub PushedFrom : Steps M → ℕ × ℕ → ℕ × ℕ → State → Tokenizer M A → Tokenizer M A → State → Type 0
+  PushedFrom step from to given old new state = (start : Tokenizer M A) × Opened from old start × Pushed step to false given start new state
 
   -- nothing waits any more
   pub record Ended (t : Tokenizer M A) (s : State) : Type 0 where
@@ -63,27 +96,28 @@ module _ {M A : Type 0} where
     pub outcome : Outcome text step old.attempts.items (config old) [] given (config new) well
 
   -- the text read at once
-  pub record ReadWhole (bytes : List ℕ) (step : Steps M) (given : State) (old new : Tokenizer M A) (s : State) : Type 0 where
+  pub record ReadWhole (from : Source) (step : Steps M) (given : State) (old new : Tokenizer M A) (s : State) : Type 0 where
     pub well : Bool
     pub state : s ≡ ended well
-    pub runs : Runs (text_to bytes (length bytes, 0)) step (config old) [] given (config new) well
+    pub runs : Runs (text_to from (length from.bytes, 0)) step (config old) [] given (config new) well
 
   -- what the loop of `push` keeps
   pub record Turn (valid : Holds M) (step : Steps M) (to : ℕ × ℕ) (end : Bool) (first : Tokenizer M A) (given : State) (t : Tokenizer M A) (s : State) : Type 0 where
-    pub bytes : t.bytes.now ≡ first.bytes.now
+    pub same : source t ≡ source first
     pub holds : Refused s ⊎ valid (config t) t.attempts.items s
-    pub reads : Refused s ⊎ GoesAll step first.bytes.now to end given first t s
+    pub reads : Refused s ⊎ GoesAll step (source first) to end given first t s
 
   -- a part of a call changed the configuration so
   pub record Became (c : Config M) (old new : Tokenizer M A) : Type 0 where
     pub config : config new ≡ c
     pub attempts : new.attempts ≡ old.attempts
     pub bytes : new.bytes ≡ old.bytes
+    pub skips : new.skips ≡ old.skips
 
   -- where `push` stops: at the range's end, or with nothing that waits
   abbrev pub Reached : ℕ × ℕ → Tokenizer M A → State → Type 0
   Reached to t (states.Error m) = Unit {0}
-  Reached to t (states.Next n) = is_before to t.point ≡ false
+  Reached to t (states.Next n) = is_before to (place_in t.skips.entries t.point) ≡ false
   Reached to t (states.Retry n) = ⊥
   Reached to t states.Ok = t.attempts.items ≡ []
   Reached to t states.Nok = t.attempts.items ≡ []
@@ -101,11 +135,11 @@ module _ {M : Type 0} where
   entered name link c = record c { events = c.events ++ event Enter name c.point link ∷ [] }
 
   abbrev pub exited : Name → Config M → Config M
-  exited name c = record c { events = c.events ++ event Exit name c.point None ∷ [] }
+  exited name c = record c { events = c.events ++ event Exit name (if is_feed c.previous then c.line_start else c.point) None ∷ [] }
 
   -- over the byte
   abbrev pub consumed : Config M → Config M
-  consumed c = record c { point = c.next; previous = c.current; current = None }
+  consumed c = record c { point = c.next; line_start = if is_feed c.current then c.next else c.line_start; previous = c.current; current = None }
 
   -- an attempt that begins here
   abbrev pub begun : Bool → State → State → Config M → Frame M

@@ -8,12 +8,14 @@ use Rattle.engine_events.specs.declared.state.State.TheVariants as states
 use Rattle.markdown_engine.specs.declared.attempt.Attempt.{Attempt}
 use Rattle.markdown_engine.specs.declared.tokenize_state.TokenizeState.{TokenizeState}
 use Rattle.markdown_engine.specs.declared.virtual_text.VirtualByte.{VirtualByte}
+use Rattle.markdown_engine.specs.VirtualText.{Text}
 
--- what a state may read and write: the events so far, the place, the place after the byte there, the byte before, the byte, what states keep for one another, and the machine
+-- what a state may read and write: the events so far, the place, the place after the byte there, where the line starts, the byte before, the byte, what states keep for one another, and the machine
 pub record Config (M : Type 0) : Type 0 where
   pub events : List Event
   pub point : Point
   pub next : Point
+  pub line_start : Point
   pub previous : Option ℕ
   pub current : Option ℕ
   pub tokenize_state : TokenizeState
@@ -36,10 +38,6 @@ pub record Effect (M : Type 0) : Type 0 where
 abbrev pub Steps : Type 0 → Type 0
 Steps M = Config M → Name → Effect M
 
--- a text: at each place its byte and the place after it, or none at its end
-abbrev pub Text : Type 0
-Text = Point → Option VirtualByte
-
 abbrev pub byte_of : Option VirtualByte → Option ℕ
 byte_of None = None
 byte_of (Some v) = Some v.byte
@@ -48,17 +46,21 @@ abbrev pub place_after : Point → Option VirtualByte → Point
 place_after p None = p
 place_after p (Some v) = v.next
 
--- a byte, or the end, is handed in
-abbrev pub handed : {M : Type 0} → Config M → Option VirtualByte → Config M
-handed c v = record c { current = byte_of v; next = place_after c.next v }
+-- reading goes on at another place
+abbrev pub moved : {M : Type 0} → Point → Config M → Config M
+moved p c = record c { point = p }
+
+-- the byte of a place, or the end there, is handed in
+abbrev pub handed : {M : Type 0} → Config M → Point → Option VirtualByte → Config M
+handed c p v = record c { point = p; current = byte_of v; next = place_after c.next v }
 
 -- the next byte is handed in, at the text's end none
 abbrev pub feed : {M : Type 0} → Text → Config M → Config M
-feed text c = handed c (text c.point)
+feed text c = handed c (text.start c.point) (text.byte (text.start c.point))
 
 -- back at the start of an attempt, with what isn't restored
 abbrev pub hand_on : {M : Type 0} → Config M → Config M → Config M
-hand_on start c = record c { events = start.events; point = start.point; next = start.next; previous = start.previous; current = start.current }
+hand_on start c = record c { events = start.events; point = start.point; next = start.next; line_start = start.line_start; previous = start.previous; current = start.current }
 
 -- a check goes back in any case
 abbrev pub passed : {M : Type 0} → Frame M → Config M → Config M
@@ -75,11 +77,11 @@ pub data Runs {M : Type 0} (text : Text) (step : Steps M) : Config M → List (F
 
 -- the mark that the code keeps of an attempt
 abbrev pub mark : {M : Type 0} → Frame M → Attempt
-mark f = record { check = f.check; ok = f.ok; nok = f.nok; events = length f.start.events; point = f.start.point; next = f.start.next; previous = f.start.previous; current = f.start.current }
+mark f = record { check = f.check; ok = f.ok; nok = f.nok; events = length f.start.events; point = f.start.point; next = f.start.next; line_start = f.start.line_start; previous = f.start.previous; current = f.start.current }
 
 -- back at a mark
 abbrev pub restore : {M : Type 0} → Attempt → Config M → Config M
-restore a c = record c { events = take a.events c.events; point = a.point; next = a.next; previous = a.previous; current = a.current }
+restore a c = record c { events = take a.events c.events; point = a.point; next = a.next; line_start = a.line_start; previous = a.previous; current = a.current }
 
 abbrev pub resumed : {M : Type 0} → Attempt → Config M → Bool → Config M
 resumed a c true = cond a.check (restore a c) c

@@ -1,5 +1,8 @@
--- The text as the states see it (CommonMark 2.1 and 2.2): a tab gives itself and then spaces up to the next tab stop, a line ending gives one line feed.
-use Rattle.std.specs.Prelude.{ℕ, ◌+◌, ◌-◌, ◌^◌, min, Bool, false, ◌==◌, ◌&&◌, ◌||◌, nat_lt, nat_le, if◌then◌else◌, List, slice_get, slice_index, Option, None, Some}
+-- The text as the states see it (CommonMark 2.1 and 2.2): a tab gives itself and then spaces up to the next tab stop, a line ending gives one line feed, and a line may be read from a later place than its start.
+use Rattle.std.specs.Prelude.{◌≡◌, ℕ, ◌+◌, ◌-◌, ◌^◌, zero, suc, min, Bool, true, false, not, ◌==◌, ◌&&◌, ◌||◌, nat_lt, nat_le, if◌then◌else◌, List, slice_get, slice_index, Option, None, Some}
+use Rattle.std.specs.Ordering.{nat_cmp}
+use Rattle.std.specs.BTreeMap.{is_at, insert_entry}
+use Rattle.std.specs.Map.{lookup}
 use Rattle.engine_events.specs.declared.place.Point.{Point}
 use Rattle.engine_events.specs.Columns.{tab_size}
 use Rattle.markdown_engine.specs.declared.virtual_text.VirtualByte.{VirtualByte}
@@ -51,6 +54,55 @@ virtual_byte bytes p = given bytes p (slice_index bytes p.index)
 abbrev pub is_before : ℕ × ℕ → Point → Bool
 is_before to p = nat_lt p.index to.0 || ((p.index == to.0) && nat_lt p.vs to.1)
 
+-- the byte at a place, before an index and a column of a tab there
+abbrev pub byte_before : List ℕ → ℕ × ℕ → Point → Option VirtualByte
+byte_before bytes to p = if is_before to p then Some (virtual_byte bytes p) else None
+
+abbrev pub is_return : Option ℕ → Bool
+is_return None = false
+is_return (Some b) = b == 13
+
+-- whether a line ending stands right before an index
+abbrev pub ends_before : List ℕ → ℕ → Bool
+ends_before bytes index = feeds bytes (index - 1) || (is_return (slice_get bytes (index - 1)) && not (feeds bytes index))
+
+-- where the line of an index starts: after the last line ending before it
+abbrev pub line_start : List ℕ → ℕ → ℕ
+line_start bytes zero = 0
+line_start bytes (suc index) = if ends_before bytes (index + 1) then index + 1 else line_start bytes index
+
+-- where lines are read from, by the index of their start; of the others nothing is skipped
+abbrev pub Skips : Type 0
+Skips = List (ℕ × Point)
+
+-- a line is read from the place that is given for it, if that is after its start
+abbrev pub start_of_line : Point → Option Point → Point
+start_of_line start None = start
+start_of_line start (Some q) = if is_before (q.index, q.vs) start then q else start
+
+-- where reading goes on from a place: at a line's start, after what is skipped
+abbrev pub place_in : Skips → Point → Point
+place_in skips p = if not (p.column == 1) || not (p.vs == 0) then p else start_of_line p (lookup (is_at (nat_cmp p.index)) skips)
+
+-- from a place over the bytes before an index and a column of a tab there
+pub data Walks (bytes : List ℕ) (to : ℕ × ℕ) : Point → Point → Type 0 where
+  there : {p : Point} → is_before to p ≡ false → Walks bytes to p p
+  over : {p q : Point} → is_before to p ≡ true → Walks bytes to (virtual_byte bytes p).next q → Walks bytes to p q
+
+-- what a text is read from
+pub record Source : Type 0 where
+  pub bytes : List ℕ
+  pub skips : Skips
+
+-- of a further line that has a skip
+abbrev pub with_skip : Source → Point → Source
+with_skip s p = record s { skips = insert_entry nat_cmp s.skips (line_start s.bytes p.index) p }
+
+-- a text: for each place where reading goes on, and there the byte and the place after it, or none at the text's end
+pub record Text : Type 0 where
+  pub start : Point → Point
+  pub byte : Point → Option VirtualByte
+
 -- the virtual text up to an index and a column of a tab there
-abbrev pub text_to : List ℕ → ℕ × ℕ → Point → Option VirtualByte
-text_to bytes to p = if is_before to p then Some (virtual_byte bytes p) else None
+abbrev pub text_to : Source → ℕ × ℕ → Text
+text_to s to = record { start = place_in s.skips; byte = byte_before s.bytes to }

@@ -14,6 +14,7 @@ pub struct Attempt {
     pub events: usize,
     pub point: Point,
     pub next: Point,
+    pub line_start: Point,
     pub previous: Option<u8>,
     pub current: Option<u8>,
 }

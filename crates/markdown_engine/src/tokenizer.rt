@@ -3,18 +3,22 @@ ghost use Rattle.std.specs.Prelude.{◌≡◌, ◌+◌, ◌<◌, ◌≤◌, ◌+
 ghost use Rattle.markdown_options.specs.Messages.{IsOutOfMemory};
 ghost use Rattle.engine_events.specs.declared.state.State.TheVariants as states;
 ghost use Rattle.markdown_engine.specs.Reading.{Steps, mark, restore, resumed, handed};
-ghost use Rattle.markdown_engine.specs.Machine.{config, Answers, Became, Refused, Pushed, Reached, Ended, Flushed, entered, exited, consumed, begun};
-ghost use Rattle.markdown_engine.specs.VirtualText.{is_before, text_to};
+ghost use Rattle.std.specs.BTreeMap.{insert_entry};
+ghost use Rattle.markdown_engine.specs.Machine.{config, source, Answers, Became, Around, Refused, Pushed, Reached, Ended, Flushed, entered, exited, consumed, begun};
+ghost use Rattle.markdown_engine.specs.VirtualText.{is_before, line_start};
 ghost use Rattle.markdown_engine.specs.Laws.{Holds, Ranks, OnlyAdds, Keeps, Falls};
 
 use crate::attempt::Attempt;
 use crate::tokenize_state::TokenizeState;
-use crate::virtual_text::{VirtualByte, is_before, virtual_byte};
+use crate::virtual_text::{
+    VirtualByte, is_before, line_start, place_over, start_of_line, virtual_byte,
+};
 use engine_events::event::Name as EventName;
 use engine_events::state::Name;
 use engine_events::{Event, Kind, Link, Point, State};
 use markdown_options::Message;
 use std::alloc::{AllocError, Allocator};
+use std::collections::BTreeMap;
 
 /// A set of states. A state reads a tokenizer's byte, changes the tokenizer by its calls, and says
 /// how reading goes on.
@@ -55,6 +59,8 @@ pub struct Tokenizer<'a, M, A: Allocator> {
     pub point: Point,
     /// The place after the byte that is read.
     pub next: Point,
+    /// Where the line starts, before what is skipped.
+    pub line_start: Point,
     /// The byte before it.
     pub previous: Option<u8>,
     /// The byte that is read; none at the text's end, and once it is consumed.
@@ -62,10 +68,16 @@ pub struct Tokenizer<'a, M, A: Allocator> {
     /// What states keep for one another.
     pub tokenize_state: TokenizeState,
     pub machine: M,
+    /// Where the lines are read from that have a skip, by the index of their start.
+    pub skips: BTreeMap<usize, Point, A>,
 }
 
 impl<'a, M, A: Allocator + Clone> Tokenizer<'a, M, A> {
-    ghost use Rattle.std.specs.Prelude.{◌≡◌, [], None, IfOk, IfErr};
+    ghost use Rattle.std.specs.Prelude.{◌≡◌, [], None, IfOk, IfErr, OnOk, OnErr, length, ◌≤◌};
+    ghost use Rattle.std.specs.Ordering.{nat_cmp};
+    ghost use Rattle.std.specs.BTreeMap.{insert_entry};
+    ghost use Rattle.markdown_engine.specs.Machine.{config};
+    ghost use Rattle.markdown_engine.specs.VirtualText.{line_start};
     ghost use Rattle.markdown_options.specs.Messages.{IsOutOfMemory};
 
     /// A tokenizer at a place of a text; nothing was read.
@@ -83,19 +95,39 @@ impl<'a, M, A: Allocator + Clone> Tokenizer<'a, M, A> {
         ensures point { IfOk result (λ tokenizer. tokenizer.point ≡ point) }
         ensures current { IfOk result (λ tokenizer. tokenizer.current ≡ None) }
         ensures machine { IfOk result (λ tokenizer. tokenizer.machine ≡ machine) }
+        ensures skips { IfOk result (λ tokenizer. tokenizer.skips.entries ≡ []) }
         ensures memory { IfErr result (λ message. IsOutOfMemory message) }
     {
         Ok(Tokenizer {
             bytes,
             events: Vec::new(alloc.clone()?),
-            attempts: Vec::new(alloc),
+            attempts: Vec::new(alloc.clone()?),
             point,
             next: point,
+            line_start: point,
             previous: None,
             current: None,
             tokenize_state: TokenizeState::default(),
             machine,
+            skips: BTreeMap::new(alloc),
         })
+    }
+
+    /// Makes the reading of a point's line begin at the point, whenever the line is read.
+    pub fn define_skip(&mut self, point: Point) -> Result<(), Message>
+        requires { point.index ≤ length self.old.bytes.now }
+        ensures skips { OnOk result (self.new.skips.entries ≡ insert_entry nat_cmp self.old.skips.entries (line_start self.old.bytes.now point.index) point) }
+        ensures err { OnErr result (self.new.skips.entries ≡ self.old.skips.entries) }
+        ensures config { config self.new ≡ config self.old }
+        ensures attempts { self.new.attempts ≡ self.old.attempts }
+        ensures bytes { self.new.bytes ≡ self.old.bytes }
+        ensures memory { IfErr result (λ message. IsOutOfMemory message) }
+    {
+        let start = line_start(self.bytes, point.index);
+        if self.skips.insert(start, point).is_err() {
+            return Err(Message::out_of_memory());
+        }
+        Ok(())
     }
 }
 
@@ -104,6 +136,7 @@ impl<'a, M, A: Allocator> Tokenizer<'a, M, A> {
     pub fn enter(&mut self, name: EventName) -> Result<(), Message>
         ensures became { OnOk result (Became (entered name None (config self.old)) self.old self.new) }
         ensures bytes { self.new.bytes ≡ self.old.bytes }
+        ensures skips { self.new.skips ≡ self.old.skips }
         ensures memory { IfErr result (λ message. IsOutOfMemory message) }
     {
         self.add(Event::new(Kind::Enter, name, self.point, None))?;
@@ -114,19 +147,26 @@ impl<'a, M, A: Allocator> Tokenizer<'a, M, A> {
     pub fn enter_link(&mut self, name: EventName, link: Link) -> Result<(), Message>
         ensures became { OnOk result (Became (entered name (Some link) (config self.old)) self.old self.new) }
         ensures bytes { self.new.bytes ≡ self.old.bytes }
+        ensures skips { self.new.skips ≡ self.old.skips }
         ensures memory { IfErr result (λ message. IsOutOfMemory message) }
     {
         self.add(Event::new(Kind::Enter, name, self.point, Some(link)))?;
         Ok(())
     }
 
-    /// Adds that something ends here.
+    /// Adds that something ends here; right after a line ending, at the line's start.
     pub fn exit(&mut self, name: EventName) -> Result<(), Message>
         ensures became { OnOk result (Became (exited name (config self.old)) self.old self.new) }
         ensures bytes { self.new.bytes ≡ self.old.bytes }
+        ensures skips { self.new.skips ≡ self.old.skips }
         ensures memory { IfErr result (λ message. IsOutOfMemory message) }
     {
-        self.add(Event::new(Kind::Exit, name, self.point, None))?;
+        let point = if self.previous == Some(b'\n') {
+            self.line_start
+        } else {
+            self.point
+        };
+        self.add(Event::new(Kind::Exit, name, point, None))?;
         Ok(())
     }
 
@@ -134,6 +174,7 @@ impl<'a, M, A: Allocator> Tokenizer<'a, M, A> {
     fn add(&mut self, event: Event) -> Result<(), AllocError>
         ensures became { OnOk result (Became (record (config self.old) { events = self.old.events.items ++ event ∷ [] }) self.old self.new) }
         ensures bytes { self.new.bytes ≡ self.old.bytes }
+        ensures skips { self.new.skips ≡ self.old.skips }
     {
         self.events.push(event)?;
         Ok(())
@@ -143,6 +184,9 @@ impl<'a, M, A: Allocator> Tokenizer<'a, M, A> {
     pub fn consume(&mut self)
         ensures { Became (consumed (config self.old)) self.old self.new }
     {
+        if self.current == Some(b'\n') {
+            self.line_start = self.next;
+        }
         self.previous = self.current;
         self.point = self.next;
         self.current = None;
@@ -163,6 +207,7 @@ impl<'a, M, A: Allocator> Tokenizer<'a, M, A> {
             events: self.events.len(),
             point: self.point,
             next: self.next,
+            line_start: self.line_start,
             previous: self.previous,
             current: self.current,
         };
@@ -186,6 +231,7 @@ impl<'a, M, A: Allocator> Tokenizer<'a, M, A> {
             events: self.events.len(),
             point: self.point,
             next: self.next,
+            line_start: self.line_start,
             previous: self.previous,
             current: self.current,
         };
@@ -200,10 +246,12 @@ impl<'a, M, A: Allocator> Tokenizer<'a, M, A> {
         ensures config { config self.new ≡ restore attempt.now (config self.old) }
         ensures attempts { self.new.attempts ≡ self.old.attempts }
         ensures bytes { self.new.bytes ≡ self.old.bytes }
+        ensures skips { self.new.skips ≡ self.old.skips }
     {
         self.events.truncate(attempt.events);
         self.point = attempt.point;
         self.next = attempt.next;
+        self.line_start = attempt.line_start;
         self.previous = attempt.previous;
         self.current = attempt.current;
     }
@@ -213,18 +261,21 @@ impl<'a, M, A: Allocator> Tokenizer<'a, M, A> {
         ensures config { config self.new ≡ resumed attempt.now (config self.old) well }
         ensures attempts { self.new.attempts ≡ self.old.attempts }
         ensures bytes { self.new.bytes ≡ self.old.bytes }
+        ensures skips { self.new.skips ≡ self.old.skips }
     {
         if !well || attempt.check {
             self.free(attempt);
         }
     }
 
-    /// Hands in a byte, or the text's end.
-    fn hand(&mut self, given: Option<VirtualByte>)
-        ensures config { config self.new ≡ handed (config self.old) given }
+    /// Hands in the byte of a place, or the text's end there.
+    fn hand(&mut self, place: Point, given: Option<VirtualByte>)
+        ensures config { config self.new ≡ handed (config self.old) place given }
         ensures attempts { self.new.attempts ≡ self.old.attempts }
         ensures bytes { self.new.bytes ≡ self.old.bytes }
+        ensures skips { self.new.skips ≡ self.old.skips }
     {
+        self.point = place;
         match given {
             Some(given) => {
                 self.current = Some(given.byte);
@@ -237,17 +288,27 @@ impl<'a, M, A: Allocator> Tokenizer<'a, M, A> {
 
 impl<'a, M: Machine, A: Allocator> Tokenizer<'a, M, A> {
     ghost use Rattle.std.specs.Prelude.{◌≡◌, ◌≤◌, ◌<◌, [], length, true, false, ◌⊎◌};
-    ghost use Rattle.markdown_engine.specs.Machine.{config, Refused, Pushed, Reached, Ended, Flushed, ReadWhole};
-    ghost use Rattle.markdown_engine.specs.VirtualText.{text_to};
+    ghost use Rattle.markdown_engine.specs.Machine.{config, source, Refused, Opened, Pushed, PushedFrom, Reached, Ended, Flushed, ReadWhole};
+    ghost use Rattle.markdown_engine.specs.VirtualText.{text_to, byte_before, place_in};
 
-    /// The byte at the point, before the end of a range.
-    fn byte_before(&self, to: (usize, usize)) -> Option<VirtualByte>
+    /// Where reading goes on: at the start of a line that has a skip, after it.
+    fn place(&self) -> Point
+        ensures { result ≡ place_in self.now.skips.entries self.now.point }
+    {
+        if self.point.column != 1 || self.point.vs != 0 {
+            return self.point;
+        }
+        start_of_line(self.point, self.skips.get(&self.point.index).copied())
+    }
+
+    /// The byte at a place, before the end of a range.
+    fn byte_before(&self, place: Point, to: (usize, usize)) -> Option<VirtualByte>
         requires within { to.0 ≤ length self.now.bytes.now }
         requires column { to.0 ≡ length self.now.bytes.now → to.1 ≡ 0 }
-        ensures { result ≡ text_to self.now.bytes.now to self.now.point }
+        ensures { result ≡ byte_before self.now.bytes.now to place }
     {
-        if is_before(self.point, to) {
-            Some(virtual_byte(self.bytes, self.point))
+        if is_before(place, to) {
+            Some(virtual_byte(self.bytes, place))
         } else {
             None
         }
@@ -282,11 +343,12 @@ impl<'a, M: Machine, A: Allocator> Tokenizer<'a, M, A> {
                     }
                 },
                 State::Next(name) => {
-                    let byte = self.byte_before(to);
+                    let place = self.place();
+                    let byte = self.byte_before(place, to);
                     if byte.is_none() && !end {
                         return next;
                     }
-                    self.hand(byte);
+                    self.hand(place, byte);
                     next = M::call(self, name);
                 }
                 State::Retry(name) => next = M::call(self, name),
@@ -294,18 +356,34 @@ impl<'a, M: Machine, A: Allocator> Tokenizer<'a, M, A> {
         }
     }
 
-    /// Reads on, up to an index and a column of a tab there.
+    /// Goes on at a later place, over what isn't read; stays where that isn't after where reading is.
+    fn move_to(&mut self, from: (usize, usize))
+        requires within { from.0 ≤ length self.old.bytes.now }
+        requires column { from.0 ≡ length self.old.bytes.now → from.1 ≡ 0 }
+        ensures { Opened from self.old self.new }
+    {
+        let place = self.place();
+        if is_before(place, from) {
+            self.point = place_over(self.bytes, place, from);
+        }
+    }
+
+    /// Reads a range, from and up to an index and a column of a tab there.
     ///
-    /// The ranges of a text adjoin: each begins where the last one ended, and the state is the one
-    /// that was answered last. What is read doesn't depend on where the text is cut.
-    pub fn push(&mut self, to: (usize, usize), state: State) -> State
+    /// The state is the one that was answered last. Where the ranges of a text adjoin, each begins
+    /// where the last one ended, or after what is skipped there, and what is read doesn't depend on
+    /// where the text is cut. What stands before a range otherwise isn't read.
+    pub fn push(&mut self, from: (usize, usize), to: (usize, usize), state: State) -> State
+        requires from_within { from.0 ≤ length self.old.bytes.now }
+        requires from_column { from.0 ≡ length self.old.bytes.now → from.1 ≡ 0 }
         requires within { to.0 ≤ length self.old.bytes.now }
         requires column { to.0 ≡ length self.old.bytes.now → to.1 ≡ 0 }
         requires valid { Refused state ⊎ M.valid (config self.old) self.old.attempts.items state }
         ensures valid { Refused result ⊎ M.valid (config self.new) self.new.attempts.items result }
-        ensures reads { Pushed M.step to false state self.old self.new result }
+        ensures reads { PushedFrom M.step from to state self.old self.new result }
         ensures reached { Reached to self.new result }
     {
+        self.move_to(from);
         self.read(to, false, state)
     }
 
@@ -314,7 +392,7 @@ impl<'a, M: Machine, A: Allocator> Tokenizer<'a, M, A> {
         requires within { to.0 ≤ length self.old.bytes.now }
         requires column { to.0 ≡ length self.old.bytes.now → to.1 ≡ 0 }
         requires valid { Refused state ⊎ M.valid (config self.old) self.old.attempts.items state }
-        ensures { Refused result ⊎ Flushed (text_to self.old.bytes.now to) M.step state self.old self.new result }
+        ensures { Refused result ⊎ Flushed (text_to (source self.old) to) M.step state self.old self.new result }
     {
         self.read(to, true, state)
     }
@@ -323,7 +401,7 @@ impl<'a, M: Machine, A: Allocator> Tokenizer<'a, M, A> {
     pub fn whole(&mut self, state: State) -> State
         requires fresh { self.old.attempts.items ≡ [] }
         requires valid { M.valid (config self.old) [] state }
-        ensures { Refused result ⊎ ReadWhole self.old.bytes.now M.step state self.old self.new result }
+        ensures { Refused result ⊎ ReadWhole (source self.old) M.step state self.old self.new result }
     {
         let to = (self.bytes.len(), 0);
         self.flush(to, state)
@@ -334,11 +412,38 @@ impl<'a, M: Machine, A: Allocator> Tokenizer<'a, M, A> {
         requires cut { cut.0 < length self.old.bytes.now }
         requires fresh { self.old.attempts.items ≡ [] }
         requires valid { M.valid (config self.old) [] state }
-        ensures { Refused result ⊎ ReadWhole self.old.bytes.now M.step state self.old self.new result }
+        ensures { Refused result ⊎ ReadWhole (source self.old) M.step state self.old self.new result }
     {
-        let first = self.push(cut, state);
+        let first = self.read(cut, false, state);
         if let State::Error(_) = first {
             return first;
+        }
+        let to = (self.bytes.len(), 0);
+        self.flush(to, first)
+    }
+}
+
+impl<'a, M: Machine, A: Allocator + Clone> Tokenizer<'a, M, A> {
+    ghost use Rattle.std.specs.Prelude.{◌≡◌, ◌≤◌, ◌<◌, [], length, ◌⊎◌};
+    ghost use Rattle.markdown_engine.specs.Machine.{config, source, Refused, ReadWhole};
+    ghost use Rattle.markdown_engine.specs.VirtualText.{line_start, with_skip};
+
+    /// Reads a text in two ranges, the second of which is read from a later place of its line: what
+    /// is read is the text that skips the line's start.
+    pub fn in_lines(&mut self, cut: usize, point: Point, state: State) -> State
+        requires cut { cut < length self.old.bytes.now }
+        requires within { point.index ≤ length self.old.bytes.now }
+        requires line { cut ≤ line_start self.old.bytes.now point.index }
+        requires fresh { self.old.attempts.items ≡ [] }
+        requires valid { M.valid (config self.old) [] state }
+        ensures { Refused result ⊎ ReadWhole (with_skip (source self.old) point) M.step state self.old self.new result }
+    {
+        let first = self.read((cut, 0), false, state);
+        if let State::Error(_) = first {
+            return first;
+        }
+        if let Err(message) = self.define_skip(point) {
+            return State::Error(message);
         }
         let to = (self.bytes.len(), 0);
         self.flush(to, first)

@@ -1,9 +1,10 @@
 //! The text as the states see it: a tab is read column by column, and any line ending is one byte.
 //!
 //! A tab gives itself and then spaces up to the next tab stop (CommonMark 2.2). CR LF, CR and LF
-//! each give one line feed (CommonMark 2.1).
-ghost use Rattle.std.specs.Prelude.{◌≡◌, ◌<◌, ◌+◌, ◌-◌, ◌^◌, length};
-ghost use Rattle.markdown_engine.specs.VirtualText.{virtual_byte, tab_column, is_before, feeds, in_line, next_line};
+//! each give one line feed (CommonMark 2.1). A line may be read from a later place than its start.
+ghost use Rattle.std.specs.Prelude.{◌≡◌, ◌<◌, ◌≤◌, ◌+◌, ◌-◌, ◌^◌, length};
+ghost use Rattle.markdown_engine.specs.VirtualText.{virtual_byte, tab_column, is_before, feeds, in_line, next_line, ends_before, line_start, start_of_line, Walks};
+ghost use Rattle.markdown_engine.specs.Laws.{remaining};
 
 use engine_events::Point;
 use engine_events::place::tab_size;
@@ -94,4 +95,48 @@ pub fn is_before(point: Point, to: (usize, usize)) -> bool
     ensures { result ≡ is_before to point }
 {
     point.index < to.0 || (point.index == to.0 && (point.vs as usize) < to.1)
+}
+
+/// The place at or after an index and a column of a tab there, on the way from a place before.
+pub fn place_over(bytes: &[u8], point: Point, to: (usize, usize)) -> Point
+    requires within { to.0 ≤ length bytes.now }
+    requires column { to.0 ≡ length bytes.now → to.1 ≡ 0 }
+    ensures walks { Walks bytes.now to point result }
+    ensures forward { remaining (length bytes.now) result ≤ remaining (length bytes.now) point }
+{
+    let mut place = point;
+    while is_before(place, to) {
+        place = virtual_byte(bytes, place).next;
+    }
+    place
+}
+
+/// Where the line of an index starts (CommonMark 2.1).
+pub fn line_start(bytes: &[u8], index: usize) -> usize
+    requires { index ≤ length bytes.now }
+    ensures { result ≡ line_start bytes.now index }
+{
+    let mut start = index;
+    while start > 0 && !ends_before(bytes, start) {
+        start -= 1;
+    }
+    start
+}
+
+/// Whether a line ending stands right before an index.
+fn ends_before(bytes: &[u8], index: usize) -> bool
+    requires { 0 < index }
+    ensures { result ≡ ends_before bytes.now index }
+{
+    feeds(bytes, index - 1) || (bytes.get(index - 1) == Some(&b'\r') && !feeds(bytes, index))
+}
+
+/// Where a line is read from: from its start, or from a later place that is given for it.
+pub fn start_of_line(start: Point, given: Option<Point>) -> Point
+    ensures { result ≡ start_of_line start given }
+{
+    match given {
+        Some(given) if is_before(start, (given.index, given.vs as usize)) => given,
+        _ => start,
+    }
 }

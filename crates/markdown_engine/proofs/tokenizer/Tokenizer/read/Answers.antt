@@ -1,24 +1,23 @@
-use Rattle.markdown_engine.specs.Machine.{config}
+use Rattle.markdown_engine.specs.Machine.{config, source}
 use Rattle.std.proofs.Common.{inl}
-use Rattle.std.proofs.Common.{◌≡◌, ℕ, length, List, Some, true, false, refl, ◌∙◌, ap}
-use Rattle.markdown_engine.specs.declared.virtual_text.VirtualByte.{VirtualByte}
-use Rattle.markdown_engine.specs.VirtualText.{text_to}
-use Rattle.markdown_engine.specs.Laws.{IsRead}
+use Rattle.std.proofs.Common.{◌≡◌, ℕ, length, List, true, false, refl, ◌∙◌, ap}
+use Rattle.markdown_engine.specs.VirtualText.{Source, byte_before, place_in}
+use Rattle.markdown_engine.specs.Laws.{IsFed}
 use Rattle.markdown_engine.proofs.tokenizer.Tokenizer.read.Goals as goal
-use Rattle.markdown_engine.proofs.Falls.{is_read}
-use Rattle.markdown_engine.proofs.Push.{turn_pop, turn_retry, turn_next, smaller_next, valid_fed, same_text, same_stack, at_end, only_memory}
+use Rattle.markdown_engine.proofs.Falls.{is_fed}
+use Rattle.markdown_engine.proofs.Push.{around, turn_pop, turn_retry, turn_next, smaller_next, valid_fed, same_text, same_stack, at_end, only_memory}
 
 pub turns-preserved-in-Some : goal.turns-preserved-in-Some
 turns-preserved-in-Some g c =
     turn_pop g.M.Machine.valid g.M.Machine.step g.M.Machine.rank g.met.M.Machine.only_adds g.met.M.Machine.keeps g.met.M.Machine.falls
     true c.in-Some.attempt c.args.to c.args.end c.args.self.now c.turns.self c.resume.new.self c.args.state c.turns.next c.in-Some.attempt.ok
-    c.in-Ok.is refl (rw c.resume.ensures.attempts c.in-Some.ensures.items) c.resume.ensures.config (rw c.resume.ensures.bytes refl) c.turns.invariant
+    c.in-Ok.is refl (rw c.resume.ensures.attempts c.in-Some.ensures.items) c.resume.ensures.config (around c.turns.self c.resume.new.self (record { bytes = rw c.resume.ensures.bytes refl; skips = rw c.resume.ensures.skips refl })) c.turns.invariant
 
 pub turns-preserved-in-Some-pop : goal.turns-preserved-in-Some-pop
 turns-preserved-in-Some-pop g c =
     turn_pop g.M.Machine.valid g.M.Machine.step g.M.Machine.rank g.met.M.Machine.only_adds g.met.M.Machine.keeps g.met.M.Machine.falls
     false c.in-Some-pop.attempt c.args.to c.args.end c.args.self.now c.turns.self c.resume-in-Some-pop.new.self c.args.state c.turns.next c.in-Some-pop.attempt.nok
-    c.in-Nok.is refl (rw c.resume-in-Some-pop.ensures.attempts c.in-Some-pop.ensures.items) c.resume-in-Some-pop.ensures.config (rw c.resume-in-Some-pop.ensures.bytes refl) c.turns.invariant
+    c.in-Nok.is refl (rw c.resume-in-Some-pop.ensures.attempts c.in-Some-pop.ensures.items) c.resume-in-Some-pop.ensures.config (around c.turns.self c.resume-in-Some-pop.new.self (record { bytes = rw c.resume-in-Some-pop.ensures.bytes refl; skips = rw c.resume-in-Some-pop.ensures.skips refl })) c.turns.invariant
 
 pub turns-preserved : goal.turns-preserved
 turns-preserved g c =
@@ -28,36 +27,42 @@ turns-preserved g c =
 
 pub call-next-requires : goal.call-next-requires
 call-next-requires g c =
-    let b = c.turns.invariant.bytes in
-    let n : length c.turns.self.bytes.now ≡ length c.args.self.now.bytes.now = ap (λ (z : List ℕ). length z) b in
-    let same : c.byte_before-byte.result ≡ text_to c.args.self.now.bytes.now c.args.to c.turns.self.point = c.byte_before-byte.ensures ∙ ap (λ (z : List ℕ). text_to z c.args.to c.turns.self.point) b in
-    let read : (w : VirtualByte) → c.byte_before-byte.result ≡ Some w → IsRead (length c.args.self.now.bytes.now) c.turns.self.point w = (λ w e. is_read c.args.self.now.bytes.now c.args.to c.turns.self.point c.byte_before-byte.result w c.requires.within c.requires.column same e) in
+    let same = c.turns.invariant.same in
+    let b = ap (λ (z : Source). z.bytes) same in
+    let p = c.place-place.result in
+    let place : p ≡ place_in c.args.self.now.skips.entries c.turns.self.point = c.place-place.ensures ∙ ap (λ (z : Source). place_in z.skips c.turns.self.point) same in
+    let byte : c.byte_before-byte.result ≡ byte_before c.args.self.now.bytes.now c.args.to p = c.byte_before-byte.ensures ∙ ap (λ (z : List ℕ). byte_before z c.args.to p) b in
+    let fed : IsFed (length c.args.self.now.bytes.now) c.turns.self.point p c.byte_before-byte.result = is_fed c.args.self.now.bytes.now c.args.self.now.skips.entries c.args.to c.turns.self.point p c.byte_before-byte.result c.requires.within c.requires.column place byte in
     let stack : c.hand.new.self.attempts.items ≡ c.turns.self.attempts.items = rw c.hand.ensures.attempts refl in
     valid_fed g.M.Machine.valid g.M.Machine.step g.M.Machine.rank g.met.M.Machine.only_adds g.met.M.Machine.keeps g.met.M.Machine.falls
-    c.in-Next.name c.byte_before-byte.result (length c.args.self.now.bytes.now) c.args.to c.args.end c.args.self.now c.turns.self c.hand.new.self c.args.state c.turns.next read c.in-Next.is c.hand.ensures.config stack c.turns.invariant
+    c.in-Next.name p c.byte_before-byte.result (length c.args.self.now.bytes.now) c.args.to c.args.end c.args.self.now c.turns.self c.hand.new.self c.args.state c.turns.next fed c.in-Next.is c.hand.ensures.config stack c.turns.invariant
 
 pub turns-smaller-in-Next : goal.turns-smaller-in-Next
 turns-smaller-in-Next g c =
-    let b = c.turns.invariant.bytes in
-    let n : length c.turns.self.bytes.now ≡ length c.args.self.now.bytes.now = ap (λ (z : List ℕ). length z) b in
-    let same : c.byte_before-byte.result ≡ text_to c.args.self.now.bytes.now c.args.to c.turns.self.point = c.byte_before-byte.ensures ∙ ap (λ (z : List ℕ). text_to z c.args.to c.turns.self.point) b in
-    let read : (w : VirtualByte) → c.byte_before-byte.result ≡ Some w → IsRead (length c.args.self.now.bytes.now) c.turns.self.point w = (λ w e. is_read c.args.self.now.bytes.now c.args.to c.turns.self.point c.byte_before-byte.result w c.requires.within c.requires.column same e) in
+    let same = c.turns.invariant.same in
+    let b = ap (λ (z : Source). z.bytes) same in
+    let p = c.place-place.result in
+    let place : p ≡ place_in c.args.self.now.skips.entries c.turns.self.point = c.place-place.ensures ∙ ap (λ (z : Source). place_in z.skips c.turns.self.point) same in
+    let byte : c.byte_before-byte.result ≡ byte_before c.args.self.now.bytes.now c.args.to p = c.byte_before-byte.ensures ∙ ap (λ (z : List ℕ). byte_before z c.args.to p) b in
+    let fed : IsFed (length c.args.self.now.bytes.now) c.turns.self.point p c.byte_before-byte.result = is_fed c.args.self.now.bytes.now c.args.self.now.skips.entries c.args.to c.turns.self.point p c.byte_before-byte.result c.requires.within c.requires.column place byte in
     let stack : c.hand.new.self.attempts.items ≡ c.turns.self.attempts.items = rw c.hand.ensures.attempts refl in
     smaller_next g.M.Machine.valid g.M.Machine.step g.M.Machine.rank g.met.M.Machine.only_adds g.met.M.Machine.keeps g.met.M.Machine.falls
-    c.in-Next.name c.byte_before-byte.result (length c.args.self.now.bytes.now) c.args.to c.args.end c.args.self.now c.turns.self c.hand.new.self c.call-next.new.tokenizer c.args.state c.turns.next c.call-next.result read c.in-Next.is c.hand.ensures.config stack
+    c.in-Next.name p c.byte_before-byte.result (length c.args.self.now.bytes.now) c.args.to c.args.end c.args.self.now c.turns.self c.hand.new.self c.call-next.new.tokenizer c.args.state c.turns.next c.call-next.result fed c.in-Next.is c.hand.ensures.config stack
     c.call-next.ensures c.turns.invariant
 
 pub turns-preserved-in-Next : goal.turns-preserved-in-Next
 turns-preserved-in-Next g c =
-    let b = c.turns.invariant.bytes in
-    let n : length c.turns.self.bytes.now ≡ length c.args.self.now.bytes.now = ap (λ (z : List ℕ). length z) b in
-    let same : c.byte_before-byte.result ≡ text_to c.args.self.now.bytes.now c.args.to c.turns.self.point = c.byte_before-byte.ensures ∙ ap (λ (z : List ℕ). text_to z c.args.to c.turns.self.point) b in
-    let read : (w : VirtualByte) → c.byte_before-byte.result ≡ Some w → IsRead (length c.args.self.now.bytes.now) c.turns.self.point w = (λ w e. is_read c.args.self.now.bytes.now c.args.to c.turns.self.point c.byte_before-byte.result w c.requires.within c.requires.column same e) in
+    let same = c.turns.invariant.same in
+    let b = ap (λ (z : Source). z.bytes) same in
+    let p = c.place-place.result in
+    let place : p ≡ place_in c.args.self.now.skips.entries c.turns.self.point = c.place-place.ensures ∙ ap (λ (z : Source). place_in z.skips c.turns.self.point) same in
+    let byte : c.byte_before-byte.result ≡ byte_before c.args.self.now.bytes.now c.args.to p = c.byte_before-byte.ensures ∙ ap (λ (z : List ℕ). byte_before z c.args.to p) b in
+    let fed : IsFed (length c.args.self.now.bytes.now) c.turns.self.point p c.byte_before-byte.result = is_fed c.args.self.now.bytes.now c.args.self.now.skips.entries c.args.to c.turns.self.point p c.byte_before-byte.result c.requires.within c.requires.column place byte in
     let stack : c.hand.new.self.attempts.items ≡ c.turns.self.attempts.items = rw c.hand.ensures.attempts refl in
     let stop = at_end c.byte_before-byte.result c.is_none.result c.args.end c.is_none.ensures c.else-is_none.either in
     turn_next g.M.Machine.valid g.M.Machine.step g.M.Machine.rank g.met.M.Machine.only_adds g.met.M.Machine.keeps g.met.M.Machine.falls
-    c.in-Next.name c.byte_before-byte.result (length c.args.self.now.bytes.now) c.args.to c.args.end c.args.self.now c.turns.self c.hand.new.self c.call-next.new.tokenizer c.args.state c.turns.next c.call-next.result read c.in-Next.is c.hand.ensures.config stack
-    (rw c.hand.ensures.bytes refl) (λ limit after none. same_text c.args.self.now.bytes.now c.args.to limit c.turns.self.point c.args.end c.byte_before-byte.result same after stop none) c.call-next.ensures c.turns.invariant
+    c.in-Next.name p c.byte_before-byte.result (length c.args.self.now.bytes.now) c.args.to c.args.end c.args.self.now c.turns.self c.hand.new.self c.call-next.new.tokenizer c.args.state c.turns.next c.call-next.result fed c.in-Next.is c.hand.ensures.config stack
+    (around c.turns.self c.hand.new.self (record { bytes = rw c.hand.ensures.bytes refl; skips = rw c.hand.ensures.skips refl })) (λ more limit on. same_text (source c.args.self.now) c.args.to more limit c.turns.self.point p c.args.end c.byte_before-byte.result place byte on stop) c.call-next.ensures c.turns.invariant
 
 pub returns-in-None-clause-reads : goal.returns-in-None-clause-reads
 returns-in-None-clause-reads g c = same_stack g.M.Machine.valid g.M.Machine.step c.args.to c.args.end c.args.self.now c.turns.self _ c.args.state c.turns.next refl c.in-None.ensures.items refl c.turns.invariant

@@ -1,0 +1,89 @@
+//! The events that were read of a chain, put in place of its chunks.
+ghost use Rattle.std.specs.Prelude.{◌≡◌, ◌++◌, OnOk, IfOk, IfErr, length};
+ghost use Rattle.markdown_options.specs.Messages.{IsOutOfMemory};
+ghost use Rattle.engine_edits.specs.Edits.{edits_of};
+ghost use Rattle.engine_chunks.specs.Chunks.{chunks};
+ghost use Rattle.engine_chunks.specs.Parts.{places_of, counts, divided, divided_at};
+
+use crate::chunks::{chunks, part_size};
+use engine_edits::EditMap;
+use engine_edits::relink::{push_kept, push_relinked};
+use engine_events::Event;
+use markdown_options::Message;
+use std::alloc::{AllocError, Allocator};
+
+/// Puts one chain's edits into the map: each chunk is replaced by its part of the child events,
+/// with their links to where they stand afterwards.
+///
+/// Answers how many events go and come by the edits so far, given how many did before the chain.
+/// After an error nothing is said of the map.
+pub fn divide_events<A: Allocator + Clone>(
+    alloc: A,
+    map: &mut EditMap<A>,
+    events: &[Event],
+    link_index: usize,
+    child_events: &[Event],
+    acc_before: (usize, usize),
+) -> Result<(usize, usize), Message>
+    ensures edits { OnOk result (edits_of map.new ≡ divided events.now link_index child_events.now acc_before (edits_of map.old)) }
+    ensures counts { IfOk result (λ after. after ≡ counts events.now (chunks events.now link_index) child_events.now 0 acc_before.0 acc_before.1) }
+    ensures memory { IfErr result (λ message. IsOutOfMemory message) }
+{
+    let chain = chunks(alloc.clone()?, events, link_index)?;
+    let mut places = Vec::new(alloc.clone()?);
+    let after = push_places(&mut places, events, &chain, child_events, acc_before)?;
+    add_parts(alloc, map, events, &chain, child_events, &places)?;
+    Ok(after)
+}
+
+/// Adds where the child events stand afterwards, and answers how many events go and come by then.
+fn push_places<A: Allocator>(
+    places: &mut Vec<Option<usize>, A>,
+    events: &[Event],
+    chain: &[usize],
+    children: &[Event],
+    before: (usize, usize),
+) -> Result<(usize, usize), AllocError>
+    ensures places { OnOk result (places.new.items ≡ places.old.items ++ places_of events.now chain.now children.now 0 before.0 before.1) }
+    ensures counts { IfOk result (λ after. after ≡ counts events.now chain.now children.now 0 before.0 before.1) }
+{
+    let mut removed = before.0;
+    let mut added = before.1;
+    let mut from = 0;
+    for chunk in chain {
+        let size = part_size(events, *chunk, children, from);
+        let first = chunk
+            .saturating_sub(removed)
+            .checked_add(added)
+            .ok_or(AllocError)?;
+        first.checked_add(size).ok_or(AllocError)?;
+        push_kept(places, first, size)?;
+        from += size;
+        removed = removed.checked_add(2).ok_or(AllocError)?;
+        added = added.checked_add(size).ok_or(AllocError)?;
+    }
+    Ok((removed, added))
+}
+
+/// Adds an edit for each chunk.
+fn add_parts<A: Allocator + Clone>(
+    alloc: A,
+    map: &mut EditMap<A>,
+    events: &[Event],
+    chain: &[usize],
+    children: &[Event],
+    places: &[Option<usize>],
+) -> Result<(), Message>
+    ensures edits { OnOk result (edits_of map.new ≡ divided_at events.now chain.now children.now places.now 0 (edits_of map.old)) }
+    ensures memory { IfErr result (λ message. IsOutOfMemory message) }
+{
+    let mut from = 0;
+    for chunk in chain {
+        let size = part_size(events, *chunk, children, from);
+        let mut part = Vec::new(alloc.clone()?);
+        push_relinked(&mut part, &children[from..from + size], places)?;
+        map.add(*chunk, 2, part)?;
+        from += size;
+    }
+    Ok(())
+}

@@ -1,0 +1,72 @@
+//! Chunks joined to chains.
+ghost use Rattle.std.specs.Prelude.{◌≡◌, ◌≤◌, ◌<◌, ◌-◌, length};
+ghost use Rattle.engine_chunks.specs.Joins.{updated, with_next, with_previous, joined};
+
+use engine_events::{Event, Link};
+
+/// Joins the chunk at an index to the one that is two events before: no event stands between.
+pub fn link(events: &mut [Event], index: usize)
+    requires after { 2 ≤ index }
+    requires within { index < length events.old }
+    ensures { events.new ≡ joined (index - 2) index events.old }
+{
+    link_to(events, index - 2, index);
+}
+
+/// Joins two chunks. An event that holds no link stays as it is.
+pub fn link_to(events: &mut [Event], previous: usize, next: usize)
+    requires previous { previous < length events.old }
+    requires next { next < length events.old }
+    ensures { events.new ≡ joined previous next events.old }
+{
+    join_next(events, previous, next);
+    join_previous(events, next, previous);
+}
+
+/// Gives the chunk at an index another one after it.
+fn join_next(events: &mut [Event], index: usize, next: usize)
+    requires { index < length events.old }
+    ensures { events.new ≡ updated (with_next next) index events.old }
+{
+    let event = events[index];
+    events[index] = with_next(&event, next);
+}
+
+/// Gives the chunk at an index another one before it.
+fn join_previous(events: &mut [Event], index: usize, previous: usize)
+    requires { index < length events.old }
+    ensures { events.new ≡ updated (with_previous previous) index events.old }
+{
+    let event = events[index];
+    events[index] = with_previous(&event, previous);
+}
+
+/// A chunk with another one after it.
+fn with_next(event: &Event, next: usize) -> Event
+    ensures { result ≡ with_next next event.now }
+{
+    let mut event = *event;
+    if let Some(link) = event.link() {
+        event.set_link(Some(Link {
+            previous: link.previous,
+            next: Some(next),
+            content: link.content,
+        }));
+    }
+    event
+}
+
+/// A chunk with another one before it.
+fn with_previous(event: &Event, previous: usize) -> Event
+    ensures { result ≡ with_previous previous event.now }
+{
+    let mut event = *event;
+    if let Some(link) = event.link() {
+        event.set_link(Some(Link {
+            previous: Some(previous),
+            next: link.next,
+            content: link.content,
+        }));
+    }
+    event
+}

@@ -1,0 +1,11 @@
+//! Chunks of a text that were read together, and the events that come in place of each.
+#![tactic(auto)]
+
+pub mod chunks;
+pub mod divide;
+mod join;
+#[cfg(test)]
+mod tests;
+
+pub use divide::divide_events;
+pub use join::{link, link_to};
