@@ -13,6 +13,11 @@ import time
 ROUNDS = 7
 
 
+def growing(byte, size):
+    """Runs of growing lengths, of so many bytes together."""
+    return "".join(byte * (i + 1) + " " for i in range(int((2 * size) ** 0.5)))
+
+
 def deep_list(depth):
     return "".join("  " * i + "- a\n" for i in range(depth))
 
@@ -39,6 +44,32 @@ FAMILIES = {
     "unclosed titles": lambda n: "[a]: b\n'\n\n" * (n // 2) + "[a]: b\n\"\n" * (n // 2),
     "unclosed labels": lambda n: "[a\n" * n,
     "tables of text": lambda n: "| a | b |\n" * n,
+    "`*a `": lambda n: "*a " * n + "\n",
+    "`_a `": lambda n: "_a " * n + "\n",
+    "`a**b`": lambda n: "a**b" * n + "\n",
+    "`*a **b `": lambda n: "*a **b " * n + "\n",
+    "emphasis": lambda n: "*a* **b** " * n + "\n",
+    "runs after `>`": lambda n: ">*a*\n" * n,
+    "`[`": lambda n: "[" * n + "\n",
+    "`![`": lambda n: "![" * n + "\n",
+    "`[a](`": lambda n: "[a](" * n + "\n",
+    "nested links": lambda n: "[" * n + "a" + "](b)" * n + "\n",
+    "nested images": lambda n: "![" * n + "a" + "](b)" * n + "\n",
+    "links": lambda n: "[a](b 'c') " * n + "\n",
+    "references to one definition": lambda n: "[a] " * n + "\n\n[a]: b 'c'\n",
+    "references without definitions": lambda n: "[a] " * n + "\n",
+    "code spans": lambda n: "`a` " * n + "\n",
+    "backticks of growing lengths": lambda n: growing("`", n) + "\n",
+    "`<`": lambda n: "<" * n + "\n",
+    "`<a `": lambda n: "<a " * n + "\n",
+    "raw HTML": lambda n: "<a b='c'> " * n + "\n",
+    "`<!-- a`": lambda n: "<!-- a" * n + "\n",
+    "autolinks": lambda n: "<http://a.b> " * n + "\n",
+    "`&`": lambda n: "&" * n + "\n",
+    "named references": lambda n: "&amp;" * n + "\n",
+    "backslashes": lambda n: "\\*" * n + "\n",
+    "hard breaks": lambda n: "a  \n" * n,
+    "spaces in a text": lambda n: "a" + " " * n + "b\n",
     "spaces": lambda n: " " * n + "a\n",
     "tabs": lambda n: "\t" * n + "a\n",
 }
