@@ -1,13 +1,15 @@
 //! Labels as they are matched (CommonMark 6.3).
 //!
 //! Two labels match if they have the same words once their case is folded.
-ghost use Rattle.std.specs.Prelude.{◌≡◌, ◌++◌, OnOk, string_bytes};
+ghost use Rattle.std.specs.Prelude.{◌≡◌, ◌++◌, IfErr, IfOk, OnOk, string_bytes};
+ghost use Rattle.markdown_options.specs.Messages.{IsOutOfMemory};
 ghost use Rattle.markdown_definition.specs.Content.{content_codes};
 ghost use Rattle.markdown_definition.specs.Labels.{case_folded, word_folded, normal_label};
 ghost use Rattle.link_labels.specs.Chunks.{replacement_of};
 
 use crate::words::Words;
 use caseless::Caseless;
+use markdown_options::Message;
 use std::alloc::{AllocError, Allocator};
 
 /// Makes `normal` the label as it is matched: its case folded in full, no white space at the ends,
@@ -24,6 +26,18 @@ pub fn normalize_label<A: Allocator>(normal: &mut String<A>, label: &[u8]) -> Re
         separator = " ";
     }
     Ok(())
+}
+
+/// A label as it is matched (CommonMark 6.3): its case folded in full, no white space at the ends,
+/// and one space for white space inside. The value is what stands between its brackets. The only
+/// error is want of memory.
+pub fn normalize_identifier<A: Allocator>(alloc: A, value: &str) -> Result<String<A>, Message>
+    ensures text { IfOk result (λ text. string_bytes text ≡ normal_label (content_codes value.now)) }
+    ensures memory { IfErr result IsOutOfMemory }
+{
+    let mut normal = String::with_capacity(alloc, value.len())?;
+    normalize_label(&mut normal, value.as_bytes())?;
+    Ok(normal)
 }
 
 /// Adds a word with its case folded; bytes that are no text count as U+FFFD.

@@ -7,5 +7,5 @@ pub mod table;
 mod tests;
 mod words;
 
-pub use label::normalize_label;
+pub use label::{normalize_identifier, normalize_label};
 pub use table::LabelTable;
