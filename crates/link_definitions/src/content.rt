@@ -44,7 +44,11 @@ pub fn push_ending<A: Allocator>(
 }
 
 /// A line without its ending.
-pub fn push_line<A: Allocator>(content: &mut String<A>, owed: u8, text: &str) -> Result<(), AllocError>
+pub fn push_line<A: Allocator>(
+    content: &mut String<A>,
+    owed: u8,
+    text: &str,
+) -> Result<(), AllocError>
     ensures { OnOk result (string_bytes content.new ≡ string_bytes content.old ++ map code_byte (replicate owed tab_column ++ text.now)) }
 {
     for _ in 0..owed {

@@ -46,7 +46,7 @@ returns g c =
     let after : c.first_kind-after.result ≡ first_kind p Whitespace (line_left (content_codes (drop c.run_size-size.result rest))) =
     c.first_kind-after.ensures ∙ ap (λ l. first_kind p Whitespace (line_left (content_codes l))) c.range_from.ensures.value in
     let first : get_or rest 0 0 ≡ c.run_between.result.marker =
-        sym (ap (λ (r : Run). r.marker) c.run_between.ensures ∙ ap (λ l. get_or l 0 0) value) in
+    sym (ap (λ (r : Run). r.marker) c.run_between.ensures ∙ ap (λ l. get_or l 0 0) value) in
     let count : c.run_between.result.size ≡ c.run_size-size.result = ap (λ (r : Run). r.left) c.run_between.ensures in
     record {
       read =
