@@ -14,6 +14,8 @@ mod headings;
 #[cfg(test)]
 mod html_blocks;
 #[cfg(test)]
+mod inline;
+#[cfg(test)]
 mod labels;
 #[cfg(test)]
 mod memory;

@@ -3,6 +3,7 @@ use Rattle.std.proofs.Common.{Option, Some, ◌≡◌, ℕ, ◌+◌, ◌-◌, �
 use Rattle.std.specs.Prelude.{map, if◌then◌else◌, ◌||◌}
 use Rattle.std.specs.List.{list_all}
 use Rattle.std.proofs.lemmas.List.{take-map, drop-map, take_rest}
+use Rattle.std.proofs.lemmas.List.Sums.{fold-append}
 use Rattle.markdown_options.specs.declared.line_ending.LineEnding.{LineEnding}
 use Rattle.markdown_options.specs.LineEndings.{ending_bytes}
 use Rattle.markdown_definition.specs.declared.row.Piece.{Piece}
@@ -10,10 +11,10 @@ use Rattle.markdown_definition.specs.Lines.{ending_text}
 use Rattle.markdown_definition.specs.Columns.{is_byte}
 use Rattle.markdown_definition.specs.Encode.{encode}
 use Rattle.markdown_definition.specs.Tree.{BlockLine, FencedCode, own_lines, last_ending}
-use Rattle.markdown_definition.specs.Pieces.{Fresh, print}
+use Rattle.markdown_definition.specs.Pieces.{Piece as Printed, Bytes, Fresh, print}
 use Rattle.markdown_definition.specs.Columns.{code_byte}
 use Rattle.markdown_definition.specs.Document.{Document, info_of}
-use Rattle.markdown_definition.specs.Html.{block_pieces, class_of, code_of, fenced_content}
+use Rattle.markdown_definition.specs.Html.{block_pieces, class_of, code_of, fenced_content, fresh_unless}
 use Rattle.markdown_definition.specs.Rows.{piece_line, piece_lines, first_codes}
 use Rattle.markdown_definition.proofs.RowSteps.{no_piece}
 use Rattle.tree_html.specs.Printed.{laid}
@@ -43,6 +44,38 @@ content_laid e out top closed [] some = absurd (omega arith)
 content_laid e out true closed (l ∷ ls) some = whole_laid e out (l ∷ ls)
 content_laid e out false true (l ∷ ls) some = whole_laid e out (l ∷ ls)
 content_laid e out false false (l ∷ ls) some = refl
+
+-- what stands after the content of code that isn't closed
+end_laid : (e : LineEnding) (out : List ℕ) (content : List Printed)
+    → print (ending_bytes e) (laid e out content ++ codes "</code></pre>") Fresh ≡ laid e out (content ++ Bytes (codes "</code></pre>") ∷ fresh_unless false)
+end_laid e out content = sym (fold-append (print (ending_bytes e)) out content (Bytes (codes "</code></pre>") ∷ Fresh ∷ []))
+
+-- code that isn't closed, step by step
+pub open_laid : (d : Document) (e inner after : LineEnding) (info : List ℕ) (top closed : Bool) (ls : List BlockLine) (out fresh tag class start content end : List ℕ)
+    → closed ≡ false → inner ≡ e → after ≡ e
+    → fresh ≡ print (ending_bytes e) out Fresh → tag ≡ fresh ++ codes "<pre><code" → class ≡ tag ++ class_of d info → start ≡ class ++ codes ">"
+    → content ≡ laid inner start (fenced_content top closed ls) → end ≡ content ++ codes "</code></pre>"
+    → print (ending_bytes after) end Fresh ≡ laid e out (block_pieces d top false false (FencedCode info closed ls))
+open_laid d e inner after info top closed ls out fresh tag class start content end not_closed same_inner same_after is_fresh is_tag is_class is_start is_content is_end =
+    ap (λ x. print (ending_bytes x) end Fresh) same_after
+    ∙ ap (λ x. print (ending_bytes e) x Fresh) (is_end ∙ ap (λ x. x ++ codes "</code></pre>") whole)
+    ∙ end_laid e first (fenced_content top closed ls)
+    ∙ ap (λ b. laid e first (fenced_content top closed ls ++ Bytes (codes "</code></pre>") ∷ fresh_unless b)) (sym not_closed)
+  where
+    line : List ℕ
+    line = print (ending_bytes e) out Fresh
+
+    first : List ℕ
+    first = line ++ (codes "<pre><code" ++ class_of d info ++ codes ">")
+
+    started : start ≡ first
+    started =
+        is_start
+        ∙ ap (λ x. x ++ codes ">") (is_class ∙ ap (λ x. x ++ class_of d info) (is_tag ∙ ap (λ x. x ++ codes "<pre><code") is_fresh) ∙ append_assoc line (codes "<pre><code") (class_of d info))
+        ∙ append_assoc line (codes "<pre><code" ++ class_of d info) (codes ">")
+
+    whole : content ≡ laid e first (fenced_content top closed ls)
+    whole = is_content ∙ ap (λ x. laid x start (fenced_content top closed ls)) same_inner ∙ ap (λ x. laid e x (fenced_content top closed ls)) started
 
 -- ---- what a row takes
 

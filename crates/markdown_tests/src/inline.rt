@@ -1,0 +1,148 @@
+//! Inline constructs: texts and their HTML.
+use crate::rows::prints;
+use markdown::{Options, RunError};
+
+/// Texts of CommonMark 6, most of them its examples.
+const INLINE: [(&str, &str); 52] = [
+    (
+        "\\*not emphasized*\n\\# not a heading",
+        "<p>*not emphasized*\n# not a heading</p>",
+    ),
+    ("\\\\*emphasis*", "<p>\\<em>emphasis</em></p>"),
+    ("foo\\\nbar", "<p>foo<br />\nbar</p>"),
+    ("foo  \nbar", "<p>foo<br />\nbar</p>"),
+    ("foo \n baz", "<p>foo\nbaz</p>"),
+    (
+        "&nbsp; &amp; &copy; &#35; &#0; &x;",
+        "<p>\u{A0} &amp; \u{A9} # \u{FFFD} &amp;x;</p>",
+    ),
+    ("&#42;foo&#42;\n*foo*", "<p>*foo*\n<em>foo</em></p>"),
+    (
+        "``` foo&bar\nfoo\n```",
+        "<pre><code class=\"language-foo&amp;bar\">foo\n</code></pre>",
+    ),
+    (
+        "``` f&ouml;\\o x\nfoo\n```",
+        "<pre><code class=\"language-fö\\o\">foo\n</code></pre>",
+    ),
+    ("`` foo ` bar ``", "<p><code>foo ` bar</code></p>"),
+    ("` `` `", "<p><code>``</code></p>"),
+    (
+        "``\nfoo\nbar  \nbaz\n``",
+        "<p><code>foo bar   baz</code></p>",
+    ),
+    ("`foo\\`bar`", "<p><code>foo\\</code>bar`</p>"),
+    ("*foo`*`", "<p>*foo<code>*</code></p>"),
+    (
+        "[not a `link](/foo`)",
+        "<p>[not a <code>link](/foo</code>)</p>",
+    ),
+    ("```foo``", "<p>```foo``</p>"),
+    ("a * foo bar*", "<p>a * foo bar*</p>"),
+    ("a*\"foo\"*", "<p>a*&quot;foo&quot;*</p>"),
+    ("*\u{A0}a\u{A0}*", "<p>*\u{A0}a\u{A0}*</p>"),
+    ("foo*bar*", "<p>foo<em>bar</em></p>"),
+    ("foo_bar_baz", "<p>foo_bar_baz</p>"),
+    ("пристаням_стремятся_", "<p>пристаням_стремятся_</p>"),
+    ("_(_foo_)_", "<p><em>(<em>foo</em>)</em></p>"),
+    ("**foo bar **", "<p>**foo bar **</p>"),
+    (
+        "__foo, __bar__, baz__",
+        "<p><strong>foo, <strong>bar</strong>, baz</strong></p>",
+    ),
+    (
+        "*foo**bar**baz*",
+        "<p><em>foo<strong>bar</strong>baz</em></p>",
+    ),
+    ("***foo** bar*", "<p><em><strong>foo</strong> bar</em></p>"),
+    (
+        "foo***bar***baz",
+        "<p>foo<em><strong>bar</strong></em>baz</p>",
+    ),
+    ("****foo*", "<p>***<em>foo</em></p>"),
+    ("*foo _bar* baz_", "<p><em>foo _bar</em> baz_</p>"),
+    ("*[bar*](/url)", "<p>*<a href=\"/url\">bar*</a></p>"),
+    (
+        "**a<https://foo.bar/?q=**>",
+        "<p>**a<a href=\"https://foo.bar/?q=**\">https://foo.bar/?q=**</a></p>",
+    ),
+    (
+        "[link](/uri \"title\")",
+        "<p><a href=\"/uri\" title=\"title\">link</a></p>",
+    ),
+    (
+        "[link](</my uri>)\n[a](<>)",
+        "<p><a href=\"/my%20uri\">link</a>\n<a href=\"\">a</a></p>",
+    ),
+    (
+        "[link](foo(and(bar)))",
+        "<p><a href=\"foo(and(bar))\">link</a></p>",
+    ),
+    (
+        "[link](foo%20b&auml;)",
+        "<p><a href=\"foo%20b%C3%A4\">link</a></p>",
+    ),
+    (
+        "[link](/url \"title \\\"&quot;\")",
+        "<p><a href=\"/url\" title=\"title &quot;&quot;\">link</a></p>",
+    ),
+    (
+        "[link *foo **bar** `#`*](/uri)",
+        "<p><a href=\"/uri\">link <em>foo <strong>bar</strong> <code>#</code></em></a></p>",
+    ),
+    (
+        "[foo [bar](/uri)](/uri)",
+        "<p>[foo <a href=\"/uri\">bar</a>](/uri)</p>",
+    ),
+    (
+        "![[[foo](uri1)](uri2)](uri3)",
+        "<p><img src=\"uri3\" alt=\"[foo](uri2)\" /></p>",
+    ),
+    (
+        "[foo][BaR]\n\n[bar]: /url \"title\"",
+        "<p><a href=\"/url\" title=\"title\">foo</a></p>\n",
+    ),
+    ("[ẞ]\n\n[SS]: /url", "<p><a href=\"/url\">ẞ</a></p>\n"),
+    (
+        "[foo]: /url1\n\n[foo]: /url2\n\n[bar][foo]",
+        "<p><a href=\"/url1\">bar</a></p>",
+    ),
+    (
+        "[foo][]\n[foo] []\n\n[foo]: /url",
+        "<p><a href=\"/url\">foo</a>\n<a href=\"/url\">foo</a> []</p>\n",
+    ),
+    (
+        "[foo][bar][baz]\n\n[baz]: /url1\n[bar]: /url2",
+        "<p><a href=\"/url2\">foo</a><a href=\"/url1\">baz</a></p>\n",
+    ),
+    (
+        "![foo *bar*][]\n\n[foo *bar*]: train.jpg \"t\"",
+        "<p><img src=\"train.jpg\" alt=\"foo bar\" title=\"t\" /></p>\n",
+    ),
+    (
+        "My ![foo ![b](/u)](/p  \"t\")",
+        "<p>My <img src=\"/p\" alt=\"foo b\" title=\"t\" /></p>",
+    ),
+    (
+        "\\![foo]\n\n[foo]: /url",
+        "<p>!<a href=\"/url\">foo</a></p>\n",
+    ),
+    (
+        "<http://foo.bar> <foo@bar.x> <m:a>",
+        "<p><a href=\"http://foo.bar\">http://foo.bar</a> <a href=\"mailto:foo@bar.x\">foo@bar.x</a> &lt;m:a&gt;</p>",
+    ),
+    (
+        "<a><b2/> </a > a < b",
+        "<p>&lt;a&gt;&lt;b2/&gt; &lt;/a &gt; a &lt; b</p>",
+    ),
+    ("[a](javascript:b)", "<p><a href=\"\">a</a></p>"),
+    (
+        "# *a* [b]\n\nc *d*\n===\n> [b]: e",
+        "<h1><em>a</em> <a href=\"e\">b</a></h1>\n<h1>c <em>d</em></h1>\n<blockquote>\n</blockquote>",
+    ),
+];
+
+#[test]
+fn prints_inline_constructs(rt: HostRuntime) -> Result<(), RunError> {
+    prints(&rt, &INLINE, &Options::default())
+}
