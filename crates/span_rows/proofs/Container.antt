@@ -31,8 +31,12 @@ bytes_are leads (b ∷ bs) = ap (λ xs. rows.Part (Data b) ∷ xs) (bytes_are le
 pub text_rows : (leads : Target → inline.Linked) (at : ℕ → inline.Linked) (text : _) → rows_view at (Text text ∷ []) ≡ flat_map (part_rows leads) (map Data text.now)
 text_rows leads at text = append-nil (data_rows text.now) ∙ data_are leads text.now
 
+escapes_are : (leads : Target → inline.Linked) (bytes : List ℕ) → map rows.Part (map inline.Escape bytes) ≡ flat_map (part_rows leads) (map inline.Escape bytes)
+escapes_are leads [] = refl
+escapes_are leads (b ∷ bs) = ap (λ xs. rows.Part (inline.Escape b) ∷ xs) (escapes_are leads bs)
+
 pub leaf_rows : (leads : Target → inline.Linked) (at : ℕ → inline.Linked) (part : LeafPart) → rows_view at (Leaf part ∷ []) ≡ flat_map (part_rows leads) (parts_of part)
-leaf_rows leads at (leaf.Escape byte) = refl
+leaf_rows leads at (leaf.Escape text) = append-nil (map rows.Part (map inline.Escape text.now)) ∙ escapes_are leads text.now
 leaf_rows leads at (leaf.Character text) = refl
 leaf_rows leads at (leaf.Number radix digits) = refl
 leaf_rows leads at (leaf.Code text) = refl
