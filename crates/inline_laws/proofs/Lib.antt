@@ -5,3 +5,5 @@ mod NextPair
 pub mod Pairs
 pub mod Escaped
 pub mod NestedLinks
+pub mod Matching
+pub mod References

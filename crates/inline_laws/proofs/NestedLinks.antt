@@ -27,7 +27,7 @@ use Rattle.inline_laws.proofs.Each.{Each, each-append, each_map, each_same}
 -- ---- spans of what lacks something
 
 module _ (test : Inline → Bool) (data_fails : (b : ℕ) → test (Data b) ≡ false) (span_fails : (span : Span) (kids : Inlines) → test (spanned span kids) ≡ false) where
-  abbrev Lacks : Token → Type 0
+  abbrev pub Lacks : Token → Type 0
   Lacks (Item i) = part_has test i ≡ false
   Lacks (Delimiters run) = Unit {0}
 
@@ -83,21 +83,21 @@ module _ (test : Inline → Bool) (data_fails : (b : ℕ) → test (Data b) ≡ 
   nest_lacks n [] p h = p
   nest_lacks n (row ∷ rows) p h = nest_lacks (nest_row n row) rows (row_lacks n row p h.0) h.1
 
-  emphasized_lacks : (tokens : List Token) → Each Lacks tokens → has test (emphasized tokens) ≡ false
+  pub emphasized_lacks : (tokens : List Token) → Each Lacks tokens → has test (emphasized tokens) ≡ false
   emphasized_lacks tokens h =
       let ps = pairs (runs_of tokens) in (nest_lacks (nest Nil []) (rows_from ps 0 tokens) (refl, tt) (rows_lack ps 0 tokens h)).0
 
 -- ---- constructs that hold no other
 
 -- a part that holds no other
-abbrev IsPlain : Inline → Type 0
+abbrev pub IsPlain : Inline → Type 0
 IsPlain (Emphasis kids) = ⊥
 IsPlain (Strong kids) = ⊥
 IsPlain (Link target kids) = ⊥
 IsPlain (Image target kids) = ⊥
 IsPlain i = Unit {0}
 
-abbrev PlainLeaf : Option Leaf → Type 0
+abbrev pub PlainLeaf : Option Leaf → Type 0
 PlainLeaf None = Unit {0}
 PlainLeaf (Some l) = Each IsPlain l.parts
 
@@ -171,7 +171,7 @@ plain_spaces on content =
     plain_if _ (leaf (cond (on.hard_break_trailing && is_trailing_break content) (TrailingBreak ∷ []) []) (indent content))
     (cond_both (on.hard_break_trailing && is_trailing_break content) (TrailingBreak ∷ []) [] (Each IsPlain) (λ _. (tt, tt)) (λ _. tt))
 
-plain_leaf : (context : InlineContext) (content : List ℕ) → PlainLeaf (leaf_at context content)
+pub plain_leaf : (context : InlineContext) (content : List ℕ) → PlainLeaf (leaf_at context content)
 plain_leaf context content =
     plain_or (escape_at context.on content) _ (plain_escape context.on content)
     (plain_or (escaped_break_at context.on content) _ (plain_break context.on content)

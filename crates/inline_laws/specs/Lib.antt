@@ -2,3 +2,5 @@ pub mod Occurs
 pub mod Pairs
 pub mod Escaped
 pub mod NestedLinks
+pub mod Matching
+pub mod References

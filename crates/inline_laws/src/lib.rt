@@ -4,4 +4,5 @@
 pub mod constructs;
 pub mod emphasis;
 pub mod escapes;
+pub mod labels;
 pub mod links;
