@@ -1,18 +1,18 @@
 //! Readers and writers that give and take little, and fail.
-use crate::rows::plain;
 use markdown::{RunError, Watched, run_with_options};
 use std::io::{self, Read, Write};
+use test_pages::plain;
 
 /// A device that moves at most so many bytes a call. After some calls it fails to read, and takes nothing.
 #[derive(Drop)]
-pub struct Short<D> {
+pub(crate) struct Short<D> {
     device: D,
     most: usize,
     calls: usize,
 }
 
 impl<D> Short<D> {
-    pub fn new(device: D, most: usize, calls: usize) -> Short<D> {
+    pub(crate) fn new(device: D, most: usize, calls: usize) -> Short<D> {
         Short {
             device,
             most,
@@ -20,7 +20,7 @@ impl<D> Short<D> {
         }
     }
 
-    pub fn into_inner(self) -> D {
+    pub(crate) fn into_inner(self) -> D {
         let Short { device, .. } = self;
         device
     }

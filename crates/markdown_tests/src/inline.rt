@@ -1,6 +1,6 @@
 //! Inline constructs: texts and their HTML.
-use crate::rows::prints;
 use markdown::{Options, RunError};
+use test_pages::prints;
 
 /// Texts of CommonMark 6, most of them its examples.
 const INLINE: [(&str, &str); 52] = [

@@ -2,10 +2,8 @@
 ghost use Rattle.std.specs.Prelude.{◌≡◌, true};
 ghost use Rattle.markdown_options.specs.Built.{is_built};
 
-use markdown::{
-    CompileOptions, Constructs, Options, ParseOptions, RunError, Watched, run_with_options,
-};
-use std::process::Abort;
+use markdown::{Options, RunError, Watched, run_with_options};
+use test_pages::{plain, prints};
 
 /// Texts and their HTML, with every construct off.
 const PLAIN: [(&str, &str); 20] = [
@@ -123,54 +121,16 @@ const LEAVES: [(&str, &str); 43] = [
     ),
 ];
 
-/// Every construct off.
-pub fn plain() -> Options
-    ensures { is_built result.parse.constructs ≡ true }
-{
-    with(Constructs::none())
-}
-
-/// The leaf blocks that can be read so far.
+/// Four leaf blocks, and nothing else.
 fn leaves() -> Options
     ensures { is_built result.parse.constructs ≡ true }
 {
-    with(Constructs {
-        code_fenced: true,
-        code_indented: true,
-        heading_atx: true,
-        thematic_break: true,
-        ..Constructs::none()
-    })
-}
-
-fn with(constructs: Constructs) -> Options
-    ensures { result.parse.constructs ≡ constructs }
-{
-    Options {
-        parse: ParseOptions {
-            constructs,
-            ..ParseOptions::default()
-        },
-        compile: CompileOptions::default(),
-    }
-}
-
-/// Prints each text, and compares.
-pub fn prints(
-    rt: &(impl AllocGlobal + Abort),
-    rows: &[(&str, &str)],
-    options: &Options,
-) -> Result<(), RunError>
-    requires { is_built options.now.parse.constructs ≡ true }
-{
-    for (text, want) in rows {
-        let mut reader = Watched::new(text.as_bytes());
-        let mut writer = Watched::new(Vec::new(rt.alloc()));
-        run_with_options(rt.alloc(), &mut reader, &mut writer, options)?;
-        let out = writer.into_inner();
-        assert_eq!(rt; out.as_slice(), want.as_bytes(), "at {text:?}");
-    }
-    Ok(())
+    let mut options = plain();
+    options.parse.constructs.code_fenced = true;
+    options.parse.constructs.code_indented = true;
+    options.parse.constructs.heading_atx = true;
+    options.parse.constructs.thematic_break = true;
+    options
 }
 
 #[test]

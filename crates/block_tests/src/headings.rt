@@ -1,7 +1,6 @@
 //! Setext headings: texts and their HTML.
-use crate::blocks::blocks;
-use crate::rows::prints;
 use markdown::RunError;
+use test_pages::{blocks, prints};
 
 /// Setext headings.
 const HEADINGS: [(&str, &str); 32] = [

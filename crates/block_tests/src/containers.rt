@@ -1,8 +1,7 @@
 //! Block quotes, list items and lists: texts and their HTML.
-use crate::blocks::blocks;
-use crate::rows::prints;
 use markdown::RunError;
 use std::alloc::{AllocError, Global};
+use test_pages::{blocks, prints};
 
 /// Block quotes.
 const QUOTES: [(&str, &str); 35] = [

@@ -1,9 +1,6 @@
 //! Leaf blocks next to each other: texts and their HTML.
-ghost use Rattle.std.specs.Prelude.{◌≡◌, true};
-ghost use Rattle.markdown_options.specs.Built.{is_built};
-
-use crate::rows::prints;
-use markdown::{CompileOptions, Constructs, Options, ParseOptions, RunError};
+use markdown::RunError;
+use test_pages::{blocks, prints};
 
 /// Leaf blocks.
 const BLOCKS: [(&str, &str); 18] = [
@@ -38,30 +35,6 @@ const BLOCKS: [(&str, &str); 18] = [
         "<p>Foo\nbar</p>\n<hr />\n<p>baz</p>",
     ),
 ];
-
-/// The blocks that can be read so far.
-pub fn blocks() -> Options
-    ensures { is_built result.parse.constructs ≡ true }
-{
-    Options {
-        parse: ParseOptions {
-            constructs: Constructs {
-                block_quote: true,
-                code_fenced: true,
-                code_indented: true,
-                definition: true,
-                heading_atx: true,
-                heading_setext: true,
-                html_flow: true,
-                list_item: true,
-                thematic_break: true,
-                ..Constructs::none()
-            },
-            ..ParseOptions::default()
-        },
-        compile: CompileOptions::default(),
-    }
-}
 
 #[test]
 fn prints_blocks(rt: HostRuntime) -> Result<(), RunError> {

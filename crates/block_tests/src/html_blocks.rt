@@ -1,7 +1,6 @@
 //! HTML blocks: texts and their HTML.
-use crate::blocks::blocks;
-use crate::rows::prints;
 use markdown::RunError;
+use test_pages::{blocks, prints};
 
 /// Where raw HTML is printed as text.
 const TEXT: [(&str, &str); 50] = [

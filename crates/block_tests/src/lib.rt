@@ -1,0 +1,13 @@
+//! Blocks: texts and their HTML.
+#![tactic(auto)]
+
+#[cfg(test)]
+mod blocks;
+#[cfg(test)]
+mod containers;
+#[cfg(test)]
+mod definitions;
+#[cfg(test)]
+mod headings;
+#[cfg(test)]
+mod html_blocks;

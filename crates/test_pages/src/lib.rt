@@ -1,0 +1,8 @@
+//! What the tests of pages share.
+#![tactic(auto)]
+
+mod compare;
+mod options;
+
+pub use compare::prints;
+pub use options::{blocks, plain};
