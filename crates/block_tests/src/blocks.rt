@@ -1,6 +1,6 @@
 //! Leaf blocks next to each other: texts and their HTML.
+use crate::compare::{blocks, prints};
 use markdown::RunError;
-use test_pages::{blocks, prints};
 
 /// Leaf blocks.
 const BLOCKS: [(&str, &str); 18] = [

@@ -1,7 +1,7 @@
 //! Block quotes, list items and lists: texts and their HTML.
+use crate::compare::{blocks, prints};
 use markdown::RunError;
 use std::alloc::{AllocError, Global};
-use test_pages::{blocks, prints};
 
 /// Block quotes.
 const QUOTES: [(&str, &str); 35] = [

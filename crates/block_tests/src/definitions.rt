@@ -2,8 +2,8 @@
 ghost use Rattle.std.specs.Prelude.{◌≡◌, true};
 ghost use Rattle.markdown_options.specs.Built.{is_built};
 
+use crate::compare::{blocks, prints};
 use markdown::{Options, RunError};
-use test_pages::{blocks, prints};
 
 /// What a definition is.
 const DEFINITIONS: [(&str, &str); 27] = [

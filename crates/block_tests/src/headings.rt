@@ -1,6 +1,6 @@
 //! Setext headings: texts and their HTML.
+use crate::compare::{blocks, prints};
 use markdown::RunError;
-use test_pages::{blocks, prints};
 
 /// Setext headings.
 const HEADINGS: [(&str, &str); 32] = [

@@ -1,6 +1,6 @@
 //! HTML blocks: texts and their HTML.
+use crate::compare::{blocks, prints};
 use markdown::RunError;
-use test_pages::{blocks, prints};
 
 /// Where raw HTML is printed as text.
 const TEXT: [(&str, &str); 50] = [

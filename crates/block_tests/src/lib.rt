@@ -4,6 +4,8 @@
 #[cfg(test)]
 mod blocks;
 #[cfg(test)]
+mod compare;
+#[cfg(test)]
 mod containers;
 #[cfg(test)]
 mod definitions;

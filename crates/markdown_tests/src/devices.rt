@@ -1,7 +1,7 @@
 //! Readers and writers that give and take little, and fail.
+use crate::compare::plain;
 use markdown::{RunError, Watched, run_with_options};
 use std::io::{self, Read, Write};
-use test_pages::plain;
 
 /// A device that moves at most so many bytes a call. After some calls it fails to read, and takes nothing.
 #[derive(Drop)]

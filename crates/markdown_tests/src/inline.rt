@@ -1,6 +1,6 @@
 //! Inline constructs: texts and their HTML.
-use markdown::{Options, RunError};
-use test_pages::prints;
+use crate::compare::prints;
+use markdown::{Message, Options};
 
 /// Texts of CommonMark 6, most of them its examples.
 const INLINE: [(&str, &str); 52] = [
@@ -143,6 +143,6 @@ const INLINE: [(&str, &str); 52] = [
 ];
 
 #[test]
-fn prints_inline_constructs(rt: HostRuntime) -> Result<(), RunError> {
+fn prints_inline_constructs(rt: HostRuntime) -> Result<(), Message> {
     prints(&rt, &INLINE, &Options::default())
 }

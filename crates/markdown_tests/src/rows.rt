@@ -2,8 +2,8 @@
 ghost use Rattle.std.specs.Prelude.{◌≡◌, true};
 ghost use Rattle.markdown_options.specs.Built.{is_built};
 
-use markdown::{Options, RunError, Watched, run_with_options};
-use test_pages::{plain, prints};
+use crate::compare::{plain, prints};
+use markdown::{Message, Options, RunError, Watched, run_with_options};
 
 /// Texts and their HTML, with every construct off.
 const PLAIN: [(&str, &str); 20] = [
@@ -134,12 +134,12 @@ fn leaves() -> Options
 }
 
 #[test]
-fn prints_leaf_rows(rt: HostRuntime) -> Result<(), RunError> {
+fn prints_leaf_rows(rt: HostRuntime) -> Result<(), Message> {
     prints(&rt, &LEAVES, &leaves())
 }
 
 #[test]
-fn prints_plain_rows(rt: HostRuntime) -> Result<(), RunError> {
+fn prints_plain_rows(rt: HostRuntime) -> Result<(), Message> {
     prints(&rt, &PLAIN, &plain())
 }
 
