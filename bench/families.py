@@ -3,7 +3,7 @@
 
     families.py PROGRAM [N]
 
-Growth is the time at 4n by that at n: at most about 4 where time is linear.
+Growth is the time at 4n by that at n: at most about 4 where time is linear. cmark's growth is that of its own times.
 """
 import subprocess
 import sys
@@ -89,16 +89,17 @@ def main():
     program, n = [sys.argv[1]], int(sys.argv[2]) if len(sys.argv) > 2 else 100000
     with tempfile.TemporaryDirectory() as folder:
         path = folder + "/text"
-        print("%-30s %27s %8s %10s" % ("family", "n, 2n, 4n (ms)", "growth", "cmark 4n"))
+        print("%-30s %27s %8s %10s %8s" % ("family", "n, 2n, 4n (ms)", "growth", "cmark 4n", "growth"))
         for name, text in FAMILIES.items():
-            times = []
+            times, others = [], []
             for k in (1, 2, 4):
                 with open(path, "w") as out:
                     out.write(text(n * k))
                 times.append(seconds(program, path))
-            growth = times[2] / times[0]
+                others.append(seconds(["cmark"], path))
             shown = " ".join("%8.1f" % (t * 1000) for t in times)
-            print("%-30s %27s %8.1f %10.1f" % (name, shown, growth, seconds(["cmark"], path) * 1000))
+            print("%-30s %27s %8.1f %10.1f %8.1f"
+                  % (name, shown, times[2] / times[0], others[2] * 1000, others[2] / others[0]))
 
 
 main()
