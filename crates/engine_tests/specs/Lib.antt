@@ -1,2 +1,4 @@
+pub mod Brackets
+pub mod BracketsLaws
 pub mod Counting
 pub mod CountingLaws
