@@ -36,4 +36,4 @@ pub rows_are_nested : RowsAreNested
 rows_are_nested bs = sym (ap (depth_after 0) (append-nil (rows_of bs))) ∙ rows_leave bs 0 []
 
 pub rows_of_text_are_nested : RowsOfTextAreNested
-rows_of_text_are_nested on text = rows_are_nested (blocks on text)
+rows_of_text_are_nested on before text = rows_are_nested (blocks on before text)

@@ -1,10 +1,12 @@
 -- Which blocks a text can have.
 use Rattle.std.proofs.Common.{◌≡◌, ℕ, suc, zero, Bool, true, false, cond, not, ◌&&◌, ◌||◌, leb, List, [], ◌∷◌, Option, None, Some, length, take, drop, refl, ap, ◌∙◌, eqb, ◌⊎◌, inl, inr}
-use Rattle.std.specs.List.{fold, prefix_len}
+use Rattle.std.specs.List.{prefix_len}
 use Rattle.std.proofs.lemmas.Bool.{cond_both, and_parts, or_parts, or_from, or_left, or_right, or_cases, both_ways, not_from_true}
 use Rattle.markdown_options.specs.declared.line_ending.LineEnding.{LineEnding}
 use Rattle.markdown_options.specs.declared.configuration.Constructs.{Constructs}
 use Rattle.markdown_definition.specs.declared.beside.Beside.{Beside}
+use Rattle.markdown_definition.specs.declared.beside.Kind.{Kind}
+use Rattle.markdown_definition.specs.declared.beside.Kind.TheVariants.{Whitespace}
 use Rattle.markdown_definition.specs.declared.container.Container.{Container}
 use Rattle.markdown_definition.specs.declared.container.Container.TheVariants.{Quote, Item}
 use Rattle.markdown_definition.specs.Lines.{TextLine, lines}
@@ -26,7 +28,7 @@ use Rattle.markdown_definition.specs.Content.{content_of}
 use Rattle.markdown_definition.specs.Definitions.{lines_before, Cut, cut_into, cut_after, cut_most, cut}
 use Rattle.markdown_definition.specs.Tree.{one, ended, own_lines, empty_tree, nothing, tree, blanks, paragraph_of, close_leaf, is_ending, all_endings, front, trailing, without_last, last_of, holds, close}
 use Rattle.markdown_definition.specs.Tree.{has_text, leaf_with_line, with_line, rest_line, indented_takes, fenced_takes, html_with, html_takes, takes}
-use Rattle.markdown_definition.specs.Tree.{or_heading, or_fence, or_html, begins, after, text_line_of, break_or_text, text_here, heading_of, underlined, turns, begun, taken, leaf_line, beside_in, start, new, began_blank, goes_on, grow, beside_line, step, closed}
+use Rattle.markdown_definition.specs.Tree.{or_heading, or_fence, or_html, begins, after, text_line_of, break_or_text, text_here, heading_of, underlined, turns, begun, taken, leaf_line, beside_in, start, new, began_blank, goes_on, grow, beside_line, step, steps, closed}
 use Rattle.markdown_definition.specs.Tree.{BlockLine, Block, Paragraph, Heading, Break, IndentedCode, FencedCode, Html, Definition, Holds, Items, Ending, Blank, Blocks, Nil, Cons, join, blocks}
 use Rattle.markdown_definition.specs.Tree.{OpenLeaf, Text, Indented, Fenced, OpenHtml, Opening, Leaf, Inside, Tree as BlockTree}
 use Rattle.markdown_definition.specs.Lists.{before, grouped_block, grouped}
@@ -344,19 +346,20 @@ module _ (on : Constructs) where
       may_go_on (continues on c (began_blank kids inner) rest) c kids inner beside rest (grow on (beside_in c rest beside) inner) p.0 p.1 p.2
       (λ others. may_grow (beside_in c rest beside) inner others p.2)
 
-  may_step : (t : BlockTree) (line : TextLine) → TreeMayStand on t → TreeMayStand on (step on t line)
-  may_step t line p =
-      let more = may_grow (beside_line line) t.now (whole line.content) p.1 in
-      (may-join t.done (grow on (beside_line line) t.now (whole line.content)).done p.0 more.0, more.1)
+  may_step : (kind : Kind) (t : BlockTree) (line : TextLine) → TreeMayStand on t → TreeMayStand on (step on kind t line)
+  may_step kind t line p =
+      let beside = beside_line kind line in
+      let more = may_grow beside t.now (whole line.content) p.1 in
+      (may-join t.done (grow on beside t.now (whole line.content)).done p.0 more.0, more.1)
 
-  may_steps : (ls : List TextLine) (t : BlockTree) → TreeMayStand on t → TreeMayStand on (fold (step on) t ls)
-  may_steps [] t p = p
-  may_steps (line ∷ ls) t p = may_steps ls (step on t line) (may_step t line p)
+  may_steps : (kind : Kind) (ls : List TextLine) (t : BlockTree) → TreeMayStand on t → TreeMayStand on (steps on kind t ls)
+  may_steps kind [] t p = p
+  may_steps kind (line ∷ ls) t p = may_steps Whitespace ls (step on kind t line) (may_step kind t line p)
 
-  pub may_stand : (text : List ℕ) → MayStand on (blocks on text)
-  may_stand text =
-      let t = fold (step on) empty_tree (lines text) in
-      let p : TreeMayStand on t = may_steps (lines text) empty_tree (tt, tt) in
+  pub may_stand : (kind : Kind) (text : List ℕ) → MayStand on (blocks on kind text)
+  may_stand kind text =
+      let t = steps on kind empty_tree (lines text) in
+      let p : TreeMayStand on t = may_steps kind (lines text) empty_tree (tt, tt) in
       may-join t.done (close on t.now) p.0 (may_close t.now p.1)
 
   -- ---- what passes no test
@@ -372,8 +375,8 @@ module _ (on : Constructs) where
       has_none Nil p = refl
       has_none (Cons b bs) p = or_from (block_has test b) (has test bs) (block_has_none b p.0) (has_none bs p.1)
 
-    pub never : (text : List ℕ) → has test (blocks on text) ≡ false
-    never text = has_none (blocks on text) (may_stand text)
+    pub never : (kind : Kind) (text : List ℕ) → has test (blocks on kind text) ≡ false
+    never kind text = has_none (blocks on kind text) (may_stand kind text)
 
 -- ---- the laws
 
@@ -422,41 +425,41 @@ no_deep_heading on off (Heading rank ls) p =
 no_deep_heading on off b p = refl
 
 pub no_quotes : NoQuotes
-no_quotes on text off = never on is_quote (no_quote on off) text
+no_quotes on kind text off = never on is_quote (no_quote on off) kind text
 
 pub no_items : NoItems
-no_items on text off = never on is_list_item (no_item on off) text
+no_items on kind text off = never on is_list_item (no_item on off) kind text
 
 pub no_indented_code : NoIndentedCode
-no_indented_code on text off = never on is_indented_code (not_indented on off) text
+no_indented_code on kind text off = never on is_indented_code (not_indented on off) kind text
 
 pub no_fenced_code : NoFencedCode
-no_fenced_code on text off = never on is_fenced_code (not_fenced on off) text
+no_fenced_code on kind text off = never on is_fenced_code (not_fenced on off) kind text
 
 pub no_html : NoHtml
-no_html on text off = never on is_html (not_html on off) text
+no_html on kind text off = never on is_html (not_html on off) kind text
 
 pub no_breaks : NoBreaks
-no_breaks on text off = never on is_thematic_break (no_break on off) text
+no_breaks on kind text off = never on is_thematic_break (no_break on off) kind text
 
 pub no_definitions : NoDefinitions
-no_definitions on text off = never on is_definition (no_definition on off) text
+no_definitions on kind text off = never on is_definition (no_definition on off) kind text
 
 pub no_headings : NoHeadings
-no_headings on text off = never on is_heading (no_heading on off) text
+no_headings on kind text off = never on is_heading (no_heading on off) kind text
 
 pub no_long_headings : NoLongHeadings
-no_long_headings on text off = never on is_long_heading (no_long_heading on off) text
+no_long_headings on kind text off = never on is_long_heading (no_long_heading on off) kind text
 
 pub no_deep_headings : NoDeepHeadings
-no_deep_headings on text off = never on is_deep_heading (no_deep_heading on off) text
+no_deep_headings on kind text off = never on is_deep_heading (no_deep_heading on off) kind text
 
 all_marked : (on : Constructs) (b : Block) → BlockMayStand on b → is_unmarked b ≡ false
 all_marked on (Holds (Item item) kids) p = not_from_true (is_item_marker item.marker) p.0.1
 all_marked on b p = refl
 
 pub items_are_marked : ItemsAreMarked
-items_are_marked on text = never on is_unmarked (all_marked on) text
+items_are_marked on kind text = never on is_unmarked (all_marked on) kind text
 
 -- without items there is nothing to put into lists
 module _ (on : Constructs) (off : on.list_item ≡ false) where
@@ -475,4 +478,4 @@ module _ (on : Constructs) (off : on.list_item ≡ false) where
         ap (before (grouped_block b)) (as_they_are bs p.1) ∙ ap (λ x. before x bs) (block_as_it_is b p.0) ∙ before_others b bs p.0
 
 pub no_lists : NoLists
-no_lists on text off = as_they_are on off (blocks on text) (may_stand on text)
+no_lists on kind text off = as_they_are on off (blocks on kind text) (may_stand on kind text)

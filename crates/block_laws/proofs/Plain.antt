@@ -57,4 +57,4 @@ plain on off (Ending ending) p = refl
 plain on off (Blank ending) p = refl
 
 pub only_plain : OnlyPlain
-only_plain on text off = never on (λ b. not (is_plain b)) (plain on (are_off on off)) text
+only_plain on before text off = never on (λ b. not (is_plain b)) (plain on (are_off on off)) before text

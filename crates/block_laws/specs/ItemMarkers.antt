@@ -1,6 +1,7 @@
 -- The markers of items (CommonMark 5.2).
 use Rattle.std.specs.Prelude.{◌≡◌, ℕ, Bool, false, not, ◌==◌, ◌||◌, List}
 use Rattle.markdown_options.specs.declared.configuration.Constructs.{Constructs}
+use Rattle.markdown_definition.specs.declared.beside.Kind.{Kind}
 use Rattle.markdown_definition.specs.declared.container.Container.TheVariants.{Item}
 use Rattle.markdown_definition.specs.Tree.{Block, Holds, blocks}
 use Rattle.block_laws.specs.Occurs.{has}
@@ -16,4 +17,4 @@ is_unmarked b = false
 
 -- each item of a text has one of these markers
 abbrev pub ItemsAreMarked : Type 0
-ItemsAreMarked = (on : Constructs) (text : List ℕ) → has is_unmarked (blocks on text) ≡ false
+ItemsAreMarked = (on : Constructs) (before : Kind) (text : List ℕ) → has is_unmarked (blocks on before text) ≡ false

@@ -1,6 +1,7 @@
 -- How the rows of blocks are nested.
 use Rattle.std.specs.Prelude.{◌≡◌, ℕ, suc, zero, List, [], ◌∷◌, Option, None, Some}
 use Rattle.markdown_options.specs.declared.configuration.Constructs.{Constructs}
+use Rattle.markdown_definition.specs.declared.beside.Kind.{Kind}
 use Rattle.markdown_definition.specs.Tree.{Blocks, blocks}
 use Rattle.markdown_definition.specs.Rows.{BlockRow, Single, EnterQuote, EnterItem, Exit, rows_of}
 
@@ -19,4 +20,4 @@ RowsAreNested = (bs : Blocks) → depth_after 0 (rows_of bs) ≡ Some 0
 
 -- and so the rows of any text
 abbrev pub RowsOfTextAreNested : Type 0
-RowsOfTextAreNested = (on : Constructs) (text : List ℕ) → depth_after 0 (rows_of (blocks on text)) ≡ Some 0
+RowsOfTextAreNested = (on : Constructs) (before : Kind) (text : List ℕ) → depth_after 0 (rows_of (blocks on before text)) ≡ Some 0

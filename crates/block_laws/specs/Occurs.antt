@@ -1,6 +1,7 @@
 -- Which blocks a text can have (CommonMark 4 and 5): a construct that is off never occurs.
 use Rattle.std.specs.Prelude.{◌≡◌, ℕ, Bool, true, false, not, ◌||◌, leb, List, [], ◌∷◌}
 use Rattle.markdown_options.specs.declared.configuration.Constructs.{Constructs}
+use Rattle.markdown_definition.specs.declared.beside.Kind.{Kind}
 use Rattle.markdown_definition.specs.declared.container.Container.TheVariants.{Quote, Item}
 use Rattle.markdown_definition.specs.Tree.{BlockLine, Block, Heading, Break, IndentedCode, FencedCode, Html, Definition, Holds, Items, Blocks, Nil, Cons, blocks}
 use Rattle.markdown_definition.specs.Lists.{grouped}
@@ -16,9 +17,9 @@ abbrev mutual
   has test Nil = false
   has test (Cons b bs) = block_has test b || has test bs
 
--- where this construct is off, no text has a block that passes this test
+-- where this construct is off, no text has a block that passes this test, whatever character stands before it
 abbrev pub Never : (Constructs → Bool) → (Block → Bool) → Type 0
-Never construct test = (on : Constructs) (text : List ℕ) → construct on ≡ false → has test (blocks on text) ≡ false
+Never construct test = (on : Constructs) (before : Kind) (text : List ℕ) → construct on ≡ false → has test (blocks on before text) ≡ false
 
 -- ---- tests
 
@@ -121,4 +122,6 @@ NoDeepHeadings = Never (λ on. on.heading_atx) is_deep_heading
 
 -- without list items the blocks of a text have nothing to put into lists (CommonMark 5.3)
 abbrev pub NoLists : Type 0
-NoLists = (on : Constructs) (text : List ℕ) → on.list_item ≡ false → grouped (blocks on text) ≡ blocks on text
+NoLists =
+    (on : Constructs) (before : Kind) (text : List ℕ) → on.list_item ≡ false
+    → let bs = blocks on before text in grouped bs ≡ bs

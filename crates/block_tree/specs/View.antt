@@ -1,7 +1,10 @@
 -- What a parser has read.
-use Rattle.std.specs.Prelude.{◌≡◌, ℕ, ◌<◌, true, false, List, [], length}
+use Rattle.std.specs.Prelude.{◌≡◌, ℕ, ◌<◌, true, false, List, [], ◌∷◌, length}
 use Rattle.markdown_options.specs.declared.configuration.Constructs.{Constructs}
 use Rattle.markdown_definition.specs.declared.beside.Beside.{Beside}
+use Rattle.markdown_definition.specs.declared.beside.Kind.{Kind}
+use Rattle.markdown_definition.specs.declared.beside.Kind.TheVariants.{Whitespace}
+use Rattle.markdown_definition.specs.Lines.{TextLine}
 use Rattle.markdown_definition.specs.Columns.{Rest}
 use Rattle.markdown_definition.specs.Tree.{Blocks, Nil, Text, Opening, Leaf, Inside, Tree, tree, nothing, open_text, new, leaf_line, grow}
 use Rattle.markdown_definition.specs.ParagraphLines.{AreLines}
@@ -14,6 +17,11 @@ use Rattle.block_tree.specs.Shows.{Shows}
 -- what was read so far is this
 abbrev pub HasRead : {A : Type 0} → Parser A → Spine → Type 0
 HasRead p s = Shows p.rows.rows.items p.rows.waiting.items p.rows.bare p.open.items (piece_lines p.pieces.items) (leaf_state p.leaf) s
+
+-- the kind of the character after these lines, where one of a kind stands before them
+abbrev pub kind_after_lines : Kind → List TextLine → Kind
+kind_after_lines before [] = before
+kind_after_lines before (line ∷ others) = Whitespace
 
 -- where no leaf is open, this is added in the innermost container
 abbrev pub Adds : {A : Type 0} → Parser A → Parser A → Tree → Type 0

@@ -65,13 +65,19 @@ impl<'a, A: Allocator> Parser<'a, A> {
     ghost use Rattle.std.specs.Prelude.{◌≤◌, ◌<◌, ◌+◌, ◌-◌, ◌∷◌, [], length, vec_len};
     ghost use Rattle.block_lines.specs.View.{rest_of};
 
-    /// Reads a line: the containers that go on, then the leaf that takes the rest, or what is new.
-    pub(crate) fn line(&mut self, on: &Constructs, line: Line<'a>) -> Result<(), AllocError>
-        ensures { OnOk result ((t : Tree) → AreLines (open_text t.now) → HasRead self.old (spine_of t) → HasRead self.new (spine_of (step on.now t (text_line line.entry.content.now line.entry.ending)))) }
+    /// Reads a line after a character of a kind: the containers that go on, then the leaf that takes
+    /// the rest, or what is new.
+    pub(crate) fn line(
+        &mut self,
+        on: &Constructs,
+        before: Kind,
+        line: Line<'a>,
+    ) -> Result<(), AllocError>
+        ensures { OnOk result ((t : Tree) → AreLines (open_text t.now) → HasRead self.old (spine_of t) → HasRead self.new (spine_of (step on.now before t (text_line line.entry.content.now line.entry.ending)))) }
     {
         self.rest = line.text;
         let beside = Beside {
-            before: Kind::Whitespace,
+            before,
             ending: line.ending,
         };
         let (depth, rest, beside) = self.descend(on, Cursor::new(line.content), beside);
@@ -335,14 +341,15 @@ pub(crate) fn piece<'a>(rest: Cursor<'a>, beside: Beside) -> Piece<'a>
     }
 }
 
-/// The blocks of a text without a byte order mark.
+/// The blocks of a text without a byte order mark, after a character of a kind.
 pub fn block_rows<'a, A: Allocator + Clone>(
     alloc: A,
+    before: Kind,
     text: &'a str,
     on: &Constructs,
 ) -> Result<BlockRows<'a, A>, AllocError>
     requires fits { length text.now < 2 ^ 61 }
-    ensures shown { IfOk result (λ r. shown r.rows.items (piece_lines r.pieces.items) ≡ shown_as (rows_of (blocks on.now text.entry.now)) []) }
+    ensures shown { IfOk result (λ r. shown r.rows.items (piece_lines r.pieces.items) ≡ shown_as (rows_of (blocks on.now before text.entry.now)) []) }
     ensures enough { IfOk result (λ r. all_taken r.rows.items ≤ length r.pieces.items) }
 {
     let rows = Rows::new(alloc.clone()?, alloc.clone()?);
@@ -356,8 +363,10 @@ pub fn block_rows<'a, A: Allocator + Clone>(
         rest: text,
         paragraph: text,
     };
+    let mut here = before;
     for line in Lines::new(text) {
-        parser.line(on, line)?;
+        parser.line(on, here, line)?;
+        here = Kind::Whitespace;
     }
     parser.close_to(on, 0)?;
     let Parser { rows, pieces, .. } = parser;

@@ -1,7 +1,7 @@
 -- What several reads and writes did together.
-use Rattle.std.proofs.Common.{◌≡◌, ℕ, ◌+◌, ◌<◌, List, [], Option, None, Some, IfSome, length, take, drop, refl, sym, ap, ◌∙◌, subst, arith, Bool, false, eqb, ◌||◌, ◌&&◌}
+use Rattle.std.proofs.Common.{◌≡◌, ℕ, ◌+◌, ◌<◌, List, [], Option, None, Some, IfSome, length, take, drop, refl, sym, ap, ◌∙◌, subst, arith, Bool, true, false, eqb, ◌||◌, ◌&&◌}
 use Rattle.std.proofs.lemmas.Bool.{or_from, and_left, ne_eqb}
-use Rattle.std.specs.Prelude.{Result, Ok, Err, OnErr, OnOk}
+use Rattle.std.specs.Prelude.{Result, Ok, Err, IfErr, OnErr, OnOk}
 use Rattle.std.specs.Io.{StartsWith, appended_bytes}
 use Rattle.std.specs.Io.KnownBytes.{Appends, Consumes, IsAtEnd, Keeps}
 use Rattle.std.proofs.KnownBytes.{Appends-nil, Appends-kept, Appends-trans, Consumes-trans, Consumes-whole, starts_with_rest}
@@ -41,6 +41,13 @@ pub page_of_text : (known old new : Option (List ℕ)) (bytes page : List ℕ) (
 page_of_text None old new bytes page options read made wrote = tt
 page_of_text (Some x) old new bytes page options read made wrote = subst (Appends old new) (made ∙ ap (λ t. html builtin_tables t options) read) wrote
 
+-- a beginning of it is one of the text's page
+pub begins_of_text : (known old new : Option (List ℕ)) (bytes page : List ℕ) (options : Options) → IfSome known (λ text. bytes ≡ text) → page ≡ html builtin_tables bytes options
+    → AppendsBeginning old new page → IfSome known (λ text. AppendsBeginning old new (html builtin_tables text options))
+begins_of_text None old new bytes page options read made wrote = tt
+begins_of_text (Some x) old new bytes page options read made wrote =
+    subst (AppendsBeginning old new) (made ∙ ap (λ t. html builtin_tables t options) read) wrote
+
 -- ---- a run and a flush
 
 -- nothing was written
@@ -66,6 +73,11 @@ begins_whole (Some x) a c options wrote =
 pub on_err_from : {T E P : Type 0} (r : Result T E) → P → OnErr r P
 on_err_from (Ok x) p = tt
 on_err_from (Err e) p = p
+
+-- also of one that passes a test
+pub if_err_from : {T E P : Type 0} (test : E → Bool) (r : Result T E) → P → IfErr r (λ e. test e ≡ true → P)
+if_err_from test (Ok x) p = tt
+if_err_from test (Err e) p = λ _. p
 
 -- what holds holds of an answer
 pub on_ok_from : {T E P : Type 0} (r : Result T E) → P → OnOk r P

@@ -11,6 +11,7 @@ use block_tree::block_rows;
 use builtin_tables::Builtin;
 use inline_text::Texts;
 use link_table::{definition_contents, document_definitions};
+use markdown_definition::Kind;
 use markdown_options::{LineEnding, Message, Options, Tables};
 use std::alloc::{AllocError, Allocator};
 use text_lines::{Lines, without_mark};
@@ -69,22 +70,24 @@ pub fn to_html_with_tables<T: Tables, A: Allocator + Clone>(
     ensures page { IfOk result (λ page. string_bytes page ≡ html (text_tables (T.reference_of tables.now) (T.punctuation_of tables.now)) value.now options.now) }
     ensures memory { IfErr result (λ message. IsOutOfMemory message) }
 {
-    let page = print(alloc, without_mark(value), options, tables)?;
+    let (before, text) = without_mark(value);
+    let page = print(alloc, before, text, options, tables)?;
     Ok(page)
 }
 
-/// The HTML of a text without a byte order mark.
+/// The HTML of a text without a byte order mark, after a character of a kind.
 fn print<T: Tables, A: Allocator + Clone>(
     alloc: A,
+    before: Kind,
     text: &str,
     options: &Options,
     tables: &T,
 ) -> Result<String<A>, AllocError>
     requires size { length text.now ≤ SIZE_MAX }
     requires built { is_built options.now.parse.constructs ≡ true }
-    ensures { IfOk result (λ page. string_bytes page ≡ marked_html (text_tables (T.reference_of tables.now) (T.punctuation_of tables.now)) text.now options.now) }
+    ensures { IfOk result (λ page. string_bytes page ≡ marked_html (text_tables (T.reference_of tables.now) (T.punctuation_of tables.now)) before text.now options.now) }
 {
-    let blocks = block_rows(alloc.clone()?, text, &options.parse.constructs)?;
+    let blocks = block_rows(alloc.clone()?, before, text, &options.parse.constructs)?;
     let ending = default_ending(text, options.compile.default_line_ending);
     let contents = definition_contents(alloc.clone()?, &blocks.rows, &blocks.pieces)?;
     let definitions = document_definitions(alloc.clone()?, &contents)?;

@@ -5,6 +5,7 @@ use Rattle.markdown_options.specs.declared.configuration.Options.{Options}
 use Rattle.markdown_options.specs.Defaults.{no_constructs, default_parse_options, default_compile_options, default_options}
 use Rattle.markdown_definition.specs.HtmlNames.{raw_names, block_names}
 use Rattle.markdown_definition.specs.TagFilter.{filtered_names}
+use Rattle.markdown_definition.specs.declared.beside.Kind.TheVariants.{Whitespace}
 use Rattle.markdown_definition.specs.Tree.{blocks}
 use Rattle.markdown_definition.specs.Definitions.{labels}
 use Rattle.markdown_definition.specs.Html.{html}
@@ -427,21 +428,21 @@ too_long_label = refl
 
 -- labels, as they are written
 
-labels_0 : labels (blocks on.parse.constructs (codes "[a]: b" ++ (10 ∷ []) ++ codes "> [A]: c" ++ (10 ∷ []) ++ (10 ∷ []) ++ codes "- [a]: d" ++ (10 ∷ []) ++ codes "  1. [e]: f" ++ (10 ∷ []) ++ (10 ∷ []) ++ codes "[a]" ++ (10 ∷ []))) ≡ (codes "a") ∷ (codes "A") ∷ (codes "a") ∷ (codes "e") ∷ []
+labels_0 : labels (blocks on.parse.constructs Whitespace (codes "[a]: b" ++ (10 ∷ []) ++ codes "> [A]: c" ++ (10 ∷ []) ++ (10 ∷ []) ++ codes "- [a]: d" ++ (10 ∷ []) ++ codes "  1. [e]: f" ++ (10 ∷ []) ++ (10 ∷ []) ++ codes "[a]" ++ (10 ∷ []))) ≡ (codes "a") ∷ (codes "A") ∷ (codes "a") ∷ (codes "e") ∷ []
 labels_0 = refl
 
-labels_1 : labels (blocks on.parse.constructs (codes "> [a" ++ (10 ∷ []) ++ codes "> b]: c")) ≡ (codes "a" ++ (10 ∷ []) ++ codes "b") ∷ []
+labels_1 : labels (blocks on.parse.constructs Whitespace (codes "> [a" ++ (10 ∷ []) ++ codes "> b]: c")) ≡ (codes "a" ++ (10 ∷ []) ++ codes "b") ∷ []
 labels_1 = refl
 
-labels_2 : labels (blocks on.parse.constructs (codes "> [a" ++ (10 ∷ []) ++ codes "b]: c" ++ (10 ∷ []) ++ codes "> [d]: e" ++ (10 ∷ []) ++ codes "f")) ≡ (codes "a" ++ (10 ∷ []) ++ codes "b") ∷ (codes "d") ∷ []
+labels_2 : labels (blocks on.parse.constructs Whitespace (codes "> [a" ++ (10 ∷ []) ++ codes "b]: c" ++ (10 ∷ []) ++ codes "> [d]: e" ++ (10 ∷ []) ++ codes "f")) ≡ (codes "a" ++ (10 ∷ []) ++ codes "b") ∷ (codes "d") ∷ []
 labels_2 = refl
 
-labels_3 : labels (blocks on.parse.constructs (codes "- [a" ++ (13 ∷ []) ++ (10 ∷ []) ++ (9 ∷ []) ++ codes "b]: c")) ≡ (codes "a" ++ (257 ∷ 256 ∷ 256 ∷ []) ++ codes "b") ∷ []
+labels_3 : labels (blocks on.parse.constructs Whitespace (codes "- [a" ++ (13 ∷ []) ++ (10 ∷ []) ++ (9 ∷ []) ++ codes "b]: c")) ≡ (codes "a" ++ (257 ∷ 256 ∷ 256 ∷ []) ++ codes "b") ∷ []
 labels_3 = refl
 
-labels_4 : labels (blocks on.parse.constructs (codes "[a]: b" ++ (10 ∷ []) ++ codes "[c]: d" ++ (10 ∷ []) ++ codes "---" ++ (10 ∷ []) ++ codes "[ e\\] ]: f" ++ (10 ∷ []) ++ codes "g" ++ (10 ∷ []) ++ codes "===" ++ (10 ∷ []) ++ codes "[h]: i 'j")) ≡ (codes "a") ∷ (codes "c") ∷ (codes " e\\] ") ∷ []
+labels_4 : labels (blocks on.parse.constructs Whitespace (codes "[a]: b" ++ (10 ∷ []) ++ codes "[c]: d" ++ (10 ∷ []) ++ codes "---" ++ (10 ∷ []) ++ codes "[ e\\] ]: f" ++ (10 ∷ []) ++ codes "g" ++ (10 ∷ []) ++ codes "===" ++ (10 ∷ []) ++ codes "[h]: i 'j")) ≡ (codes "a") ∷ (codes "c") ∷ (codes " e\\] ") ∷ []
 labels_4 = refl
 
-labels_5 : labels (blocks on.parse.constructs (codes "a" ++ (10 ∷ []) ++ codes "[b]: c" ++ (10 ∷ []) ++ (10 ∷ []) ++ codes "# [d]: e" ++ (10 ∷ []) ++ (10 ∷ []) ++ codes "    [f]: g" ++ (10 ∷ []) ++ (10 ∷ []) ++ codes "```" ++ (10 ∷ []) ++ codes "[h]: i" ++ (10 ∷ []) ++ codes "```" ++ (10 ∷ []) ++ codes "<p>" ++ (10 ∷ []) ++ codes "[j]: k")) ≡ []
+labels_5 : labels (blocks on.parse.constructs Whitespace (codes "a" ++ (10 ∷ []) ++ codes "[b]: c" ++ (10 ∷ []) ++ (10 ∷ []) ++ codes "# [d]: e" ++ (10 ∷ []) ++ (10 ∷ []) ++ codes "    [f]: g" ++ (10 ∷ []) ++ (10 ∷ []) ++ codes "```" ++ (10 ∷ []) ++ codes "[h]: i" ++ (10 ∷ []) ++ codes "```" ++ (10 ∷ []) ++ codes "<p>" ++ (10 ∷ []) ++ codes "[j]: k")) ≡ []
 unfolding raw_names block_names
 labels_5 = refl

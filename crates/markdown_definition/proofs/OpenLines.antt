@@ -1,6 +1,6 @@
 -- The open paragraph has the lines of a paragraph, after any lines of a text.
 use Rattle.std.proofs.Common.{◌≡◌, ℕ, ◌+◌, ◌<◌, suc, zero, Bool, true, false, not, ◌&&◌, ◌||◌, leb, min, List, [], ◌∷◌, ◌++◌, Option, None, Some, length, take, drop, replicate, get_or, eqb, refl, sym, subst, inl, inr, arith}
-use Rattle.std.specs.List.{fold, filter, prefix_len}
+use Rattle.std.specs.List.{filter, prefix_len}
 use Rattle.std.proofs.lemmas.Bool.{true≢false, both_ways, cond_both, and_cases, or_from, or_right, ne_eqb, not-false}
 use Rattle.std.proofs.lemmas.List.{length-append}
 use Rattle.markdown_options.specs.declared.line_ending.LineEnding.{LineEnding}
@@ -9,6 +9,8 @@ use Rattle.markdown_options.specs.declared.configuration.Constructs.{Constructs}
 use Rattle.markdown_definition.specs.declared.beside.Beside.{Beside}
 use Rattle.markdown_definition.specs.declared.container.Container.{Container}
 use Rattle.markdown_definition.specs.declared.container.Container.TheVariants.{Quote, Item}
+use Rattle.markdown_definition.specs.declared.beside.Kind.{Kind}
+use Rattle.markdown_definition.specs.declared.beside.Kind.TheVariants.{Whitespace}
 use Rattle.markdown_definition.specs.Lines.{TextLine, text_line, in_first_line, after_return, lines}
 use Rattle.markdown_definition.specs.Columns.{Rest, tab_column, columns_after_tab, codes_from, whole, is_white, is_blank, indent, bare, is_tab_column, is_byte, bytes_of, block_codes}
 use Rattle.markdown_definition.specs.Indents.{small_indent}
@@ -25,7 +27,7 @@ use Rattle.markdown_definition.specs.ThematicBreak.{is_break}
 use Rattle.markdown_definition.specs.Content.{is_eol}
 use Rattle.markdown_definition.specs.Definitions.{cut}
 use Rattle.markdown_definition.specs.ParagraphLines.{HaveNoEnding, AreLines}
-use Rattle.markdown_definition.specs.Tree.{BlockLine, Blocks, OpenLeaf, Text, Indented, Fenced, OpenHtml, Opening, Leaf, Inside, Tree, nothing, empty_tree, open_text, has_text, with_line, rest_line, takes, html_with, or_heading, or_fence, or_html, begins, text_line_of, break_or_text, text_here, heading_of, underlined, turns, begun, taken, leaf_line, start, new, began_blank, goes_on, grow, beside_in, beside_line, step}
+use Rattle.markdown_definition.specs.Tree.{BlockLine, Blocks, OpenLeaf, Text, Indented, Fenced, OpenHtml, Opening, Leaf, Inside, Tree, nothing, empty_tree, open_text, has_text, with_line, rest_line, takes, html_with, or_heading, or_fence, or_html, begins, text_line_of, break_or_text, text_here, heading_of, underlined, turns, begun, taken, leaf_line, start, new, began_blank, goes_on, grow, beside_in, beside_line, step, steps}
 
 -- ---- codes without a line ending
 
@@ -328,21 +330,22 @@ module _ (on : Constructs) (e : LineEnding) where
 -- ---- the lines of a text, one by one
 
 module _ (on : Constructs) where
-  pub open_step : (e : LineEnding) (t : Tree) (line : TextLine) → HaveNoEnding line.content → AreLinesTo (Some e) (open_text t.now)
-      → AreLinesTo line.ending (open_text (step on t line).now)
-  open_step e t line clear h = open_grow on e (beside_line line) t.now (whole line.content) (clear_codes 0 line.content clear) h
+  pub open_step : (before : Kind) (e : LineEnding) (t : Tree) (line : TextLine) → HaveNoEnding line.content → AreLinesTo (Some e) (open_text t.now)
+      → AreLinesTo line.ending (open_text (step on before t line).now)
+  open_step before e t line clear h = open_grow on e (beside_line before line) t.now (whole line.content) (clear_codes 0 line.content clear) h
 
-  open_steps : (e : LineEnding) (t : Tree) (read left : List TextLine) → AreTextLines (read ++ left) → AreLinesTo (Some e) (open_text t.now)
-      → AreLines (open_text (fold (step on) t read).now)
-  open_steps e t [] left p h = are_lines (Some e) (open_text t.now) h
-  open_steps e t (line ∷ []) left p h = are_lines line.ending (open_text (step on t line).now) (open_step e t line (first_clear line left p) h)
-  open_steps e t (line ∷ next ∷ others) left p h =
-      let more = step on t line in
-      open_steps p.1.0 more (next ∷ others) left p.2 (subst (λ o. AreLinesTo o (open_text more.now)) p.1.1 (open_step e t line p.0 h))
+  open_steps : (before : Kind) (e : LineEnding) (t : Tree) (read left : List TextLine) → AreTextLines (read ++ left) → AreLinesTo (Some e) (open_text t.now)
+      → AreLines (open_text (steps on before t read).now)
+  open_steps before e t [] left p h = are_lines (Some e) (open_text t.now) h
+  open_steps before e t (line ∷ []) left p h =
+      are_lines line.ending (open_text (step on before t line).now) (open_step before e t line (first_clear line left p) h)
+  open_steps before e t (line ∷ next ∷ others) left p h =
+      let more = step on before t line in
+      open_steps Whitespace p.1.0 more (next ∷ others) left p.2 (subst (λ o. AreLinesTo o (open_text more.now)) p.1.1 (open_step before e t line p.0 h))
 
 -- the open paragraph has the lines of a paragraph, after any lines of a text
-pub open_lines : (on : Constructs) (text : List ℕ) → ((k : ℕ) → get_or text k 0 < 256)
+pub open_lines : (on : Constructs) (before : Kind) (text : List ℕ) → ((k : ℕ) → get_or text k 0 < 256)
     → (read left : List TextLine) → read ++ left ≡ lines text
-    → AreLines (open_text (fold (step on) empty_tree read).now)
-open_lines on text bytes read left same =
-    open_steps on LineFeed empty_tree read left (subst AreTextLines (sym same) (lines_of_text text bytes)) tt
+    → AreLines (open_text (steps on before empty_tree read).now)
+open_lines on before text bytes read left same =
+    open_steps on before LineFeed empty_tree read left (subst AreTextLines (sym same) (lines_of_text text bytes)) tt

@@ -12,10 +12,12 @@ use Rattle.markdown_options.specs.declared.configuration.Options.{Options}
 use Rattle.markdown_options.specs.LineEndings.{ending_bytes}
 use Rattle.markdown_options.specs.Defaults.{no_constructs}
 use Rattle.markdown_definition.specs.declared.beside.Beside.{Beside}
-use Rattle.markdown_definition.specs.Lines.{TextLine, text_line, in_first_line, after_return, lines, ends_line, ending_text, without_mark}
+use Rattle.markdown_definition.specs.declared.beside.Kind.{Kind}
+use Rattle.markdown_definition.specs.declared.beside.Kind.TheVariants.{Whitespace}
+use Rattle.markdown_definition.specs.Lines.{TextLine, text_line, in_first_line, after_return, lines, ends_line, ending_text, has_mark, without_mark, kind_before_text}
 use Rattle.markdown_definition.specs.Columns.{Rest, codes_from, whole, is_white, is_blank, is_byte, is_tab_column, bytes_of, block_codes, trimmed, tab_column, columns_after_tab}
 use Rattle.markdown_definition.specs.Encode.{replacement_character, encoded_byte, encode}
-use Rattle.markdown_definition.specs.Tree.{beside_line, BlockLine, Block, Paragraph, Ending, Blank, Blocks, Nil, Cons, join, one, Text, Opening, Leaf, Tree, tree, empty_tree, own_lines, close_leaf, close, rest_line, grow, step, closed, blocks}
+use Rattle.markdown_definition.specs.Tree.{beside_line, BlockLine, Block, Paragraph, Ending, Blank, Blocks, Nil, Cons, join, one, Text, Opening, Leaf, Tree, tree, empty_tree, own_lines, close_leaf, close, rest_line, grow, step, steps, closed, blocks}
 use Rattle.markdown_definition.specs.Lists.{before, grouped_block, grouped}
 use Rattle.markdown_definition.specs.Pieces.{Piece, Bytes, Fresh, is_fresh, print, layout}
 use Rattle.markdown_definition.specs.Html.{silences, block_pieces, children_pieces, ends_blank, last_piece, document_pieces, default_ending, blocks_html, marked_html}
@@ -399,36 +401,36 @@ said_by_other : (line : TextLine) → is_blank (whole line.content) ≡ false �
 said_by_other line e = ap (flat_map said_by) (cond-true (is_not_blank line) (line ∷ []) [] (ap not e)) ∙ append-nil (said_by line)
 
 -- one more line
-plain_says : (e : LineEnding) (ls : List BlockLine) (line : TextLine) → AreTextTo (Some e) ls → AreInLine line.content
-    → TreeSays line.ending (plain_tree ls (whole line.content) (beside_line line)) (said_in_lines ls ++ all_said_by (line ∷ []))
-plain_says e ls line p q =
+plain_says : (before : Kind) (e : LineEnding) (ls : List BlockLine) (line : TextLine) → AreTextTo (Some e) ls → AreInLine line.content
+    → TreeSays line.ending (plain_tree ls (whole line.content) (beside_line before line)) (said_in_lines ls ++ all_said_by (line ∷ []))
+plain_says before e ls line p q =
     let rest = whole line.content in
     let blank = blank_tree ls line.ending in
-    let other = text_tree ls rest (beside_line line) in
+    let other = text_tree ls rest (beside_line before line) in
     let here = said_in_lines ls in
     let nothing = blank_says (Some e) ls line.ending p in
-    let more = line_says e ls rest (beside_line line) p (in_block line.content q) in
+    let more = line_says e ls rest (beside_line before line) p (in_block line.content q) in
     cond_both (is_blank rest) blank other (λ t. TreeSays line.ending t (here ++ all_said_by (line ∷ [])))
     (λ is. subst (TreeSays line.ending blank) (sym (ap (λ t. here ++ t) (said_by_blank line is) ∙ append-nil here)) nothing)
     (λ is. subst (TreeSays line.ending other) (sym (ap (λ t. here ++ t) (said_by_other line is))) more)
 
-grow_says : (e : LineEnding) (now : Opening) (line : TextLine) → OpenIsText (Some e) now → AreInLine line.content
-    → TreeSays line.ending (grow no_constructs (beside_line line) now (whole line.content)) (said_in_open now ++ all_said_by (line ∷ []))
-grow_says e now line p q =
+grow_says : (before : Kind) (e : LineEnding) (now : Opening) (line : TextLine) → OpenIsText (Some e) now → AreInLine line.content
+    → TreeSays line.ending (grow no_constructs (beside_line before line) now (whole line.content)) (said_in_open now ++ all_said_by (line ∷ []))
+grow_says before e now line p q =
     let rest = whole line.content in
     let new = all_said_by (line ∷ []) in
-    at_paragraph (Some e) (λ o. TreeSays line.ending (grow no_constructs (beside_line line) o rest) (said_in_open o ++ new)) now p
-    (λ ls r. subst (λ t. TreeSays line.ending t (said_in_lines ls ++ new)) (sym (plain_grow ls rest (beside_line line))) (plain_says e ls line r q))
+    at_paragraph (Some e) (λ o. TreeSays line.ending (grow no_constructs (beside_line before line) o rest) (said_in_open o ++ new)) now p
+    (λ ls r. subst (λ t. TreeSays line.ending t (said_in_lines ls ++ new)) (sym (plain_grow ls rest (beside_line before line))) (plain_says before e ls line r q))
 
-step_says : (e : LineEnding) (t : Tree) (said : List ℕ) (line : TextLine) → TreeSays (Some e) t said → AreInLine line.content
-    → TreeSays line.ending (step no_constructs t line) (said ++ all_said_by (line ∷ []))
-step_says e t said line p q =
-    let more = grow no_constructs (beside_line line) t.now (whole line.content) in
-    let before = said_in_blocks t.done in
+step_says : (before : Kind) (e : LineEnding) (t : Tree) (said : List ℕ) (line : TextLine) → TreeSays (Some e) t said → AreInLine line.content
+    → TreeSays line.ending (step no_constructs before t line) (said ++ all_said_by (line ∷ []))
+step_says before e t said line p q =
+    let more = grow no_constructs (beside_line before line) t.now (whole line.content) in
+    let done = said_in_blocks t.done in
     let here = said_in_open t.now in
     let new = all_said_by (line ∷ []) in
-    subst (TreeSays line.ending (step no_constructs t line)) (sym (append_assoc before here new) ∙ ap (λ s. s ++ new) p.says)
-    (after_done line.ending t.done more (here ++ new) p.done (grow_says e t.now line p.now q))
+    subst (TreeSays line.ending (step no_constructs before t line)) (sym (append_assoc done here new) ∙ ap (λ s. s ++ new) p.says)
+    (after_done line.ending t.done more (here ++ new) p.done (grow_says before e t.now line p.now q))
 
 -- the lines of a list that aren't blank, one by one
 said-cons : (line : TextLine) (ls : List TextLine) → all_said_by (line ∷ ls) ≡ all_said_by (line ∷ []) ++ all_said_by ls
@@ -444,17 +446,17 @@ said-cons line ls =
     ]
 
 -- all lines
-steps_say : (e : LineEnding) (ls : List TextLine) (t : Tree) (said : List ℕ) → TreeSays (Some e) t said → AreTextLines ls
-    → (last : Option LineEnding) × TreeSays last (fold (step no_constructs) t ls) (said ++ all_said_by ls)
-steps_say e [] t said p q = (Some e, subst (TreeSays (Some e) t) (sym (append-nil said)) p)
-steps_say e (line ∷ []) t said p q = (line.ending, step_says e t said line p q)
-steps_say e (line ∷ next ∷ others) t said p q =
+steps_say : (before : Kind) (e : LineEnding) (ls : List TextLine) (t : Tree) (said : List ℕ) → TreeSays (Some e) t said → AreTextLines ls
+    → (last : Option LineEnding) × TreeSays last (steps no_constructs before t ls) (said ++ all_said_by ls)
+steps_say before e [] t said p q = (Some e, subst (TreeSays (Some e) t) (sym (append-nil said)) p)
+steps_say before e (line ∷ []) t said p q = (line.ending, step_says before e t said line p q)
+steps_say before e (line ∷ next ∷ others) t said p q =
     let new = all_said_by (line ∷ []) in
-    let more = step no_constructs t line in
-    let here : TreeSays (Some q.1.0) more (said ++ new) = subst (λ o. TreeSays o more (said ++ new)) q.1.1 (step_says e t said line p q.0) in
-    let all = steps_say q.1.0 (next ∷ others) more (said ++ new) here q.2 in (
+    let more = step no_constructs before t line in
+    let here : TreeSays (Some q.1.0) more (said ++ new) = subst (λ o. TreeSays o more (said ++ new)) q.1.1 (step_says before e t said line p q.0) in
+    let all = steps_say Whitespace q.1.0 (next ∷ others) more (said ++ new) here q.2 in (
       all.0,
-      subst (TreeSays all.0 (fold (step no_constructs) more (next ∷ others))) (append_assoc said new (all_said_by (next ∷ others)) ∙ ap (λ s. said ++ s) (sym (said-cons line (next ∷ others)))) all.1,
+      subst (TreeSays all.0 (steps no_constructs Whitespace more (next ∷ others))) (append_assoc said new (all_said_by (next ∷ others)) ∙ ap (λ s. said ++ s) (sym (said-cons line (next ∷ others)))) all.1,
     )
 
 -- ---- the page
@@ -484,23 +486,23 @@ document_shows d off default bs nothing_shown p =
 shows_alone : (x t : List ℕ) → Shows x t → visible false x ≡ t
 shows_alone x t p = ap (visible false) (sym (append-nil x)) ∙ p [] ∙ append-nil t
 
-page_shows : (tables : TextTables) (options : Options) (text : List ℕ) (ending : LineEnding) → options.parse.constructs ≡ no_constructs → AreTextLines (lines text)
-    → visible false (blocks_html tables options ending (blocks no_constructs text)) ≡ all_said_by (lines text)
-page_shows tables options text ending off p =
-    let t = fold (step no_constructs) empty_tree (lines text) in
+page_shows : (tables : TextTables) (options : Options) (before : Kind) (text : List ℕ) (ending : LineEnding) → options.parse.constructs ≡ no_constructs → AreTextLines (lines text)
+    → visible false (blocks_html tables options ending (blocks no_constructs before text)) ≡ all_said_by (lines text)
+page_shows tables options before text ending off p =
+    let t = steps no_constructs before empty_tree (lines text) in
     let said = all_said_by (lines text) in
-    let all = steps_say LineFeed (lines text) empty_tree [] (record { done = tt; now = tt; says = refl }) p in
+    let all = steps_say before LineFeed (lines text) empty_tree [] (record { done = tt; now = tt; says = refl }) p in
     let bs = closed no_constructs t in
     let d = document options tables (document_definitions bs) in
     shows_alone (blocks_html tables options ending bs) (said_in_blocks bs)
     (document_shows d off (ending_bytes ending) bs (shows_ending ending) (text_at_end all.0 t said all.1))
     ∙ said_at_end all.0 t said all.1
 
-marked_page_shows : (tables : TextTables) (text : List ℕ) (options : Options) → AreTextLines (lines text) → options.parse.constructs ≡ no_constructs
-    → visible false (marked_html tables text options) ≡ all_said_by (lines text)
-marked_page_shows tables text options p off =
+marked_page_shows : (tables : TextTables) (before : Kind) (text : List ℕ) (options : Options) → AreTextLines (lines text) → options.parse.constructs ≡ no_constructs
+    → visible false (marked_html tables before text options) ≡ all_said_by (lines text)
+marked_page_shows tables before text options p off =
     let ending = default_ending options text in
-    ap (λ on. visible false (blocks_html tables options ending (blocks on text))) off ∙ page_shows tables options text ending off p
+    ap (λ on. visible false (blocks_html tables options ending (blocks on before text))) off ∙ page_shows tables options before text ending off p
 
 -- a text without a byte order mark has bytes, too
 bytes_left : (n : ℕ) (text : List ℕ) → All (λ b. b < 256) text → All (λ b. b < 256) (drop n text)
@@ -509,12 +511,8 @@ bytes_left (suc n) [] h = λ k d lt. h k d lt
 bytes_left (suc n) (b ∷ bs) h = bytes_left n bs (λ k d lt. h (suc k) d (omega (arith, lt)))
 
 unmarked_bytes : (text : List ℕ) → All (λ b. b < 256) text → All (λ b. b < 256) (without_mark text)
-unmarked_bytes [] h = h
-unmarked_bytes (a ∷ []) h = h
-unmarked_bytes (a ∷ b ∷ []) h = h
-unmarked_bytes (a ∷ b ∷ c ∷ others) h =
-    cond_both _ others (a ∷ b ∷ c ∷ others) (All (λ byte. byte < 256)) (λ _. bytes_left 3 (a ∷ b ∷ c ∷ others) h) (λ _. h)
+unmarked_bytes text h = cond_both (has_mark text) (drop 3 text) text (All (λ byte. byte < 256)) (λ _. bytes_left 3 text h) (λ _. h)
 
 pub visible_law : VisibleLaw
 visible_law tables text options bytes off =
-    marked_page_shows tables (without_mark text) options (lines_of_text (without_mark text) (λ k lt. unmarked_bytes text bytes k 0 lt)) off
+    marked_page_shows tables (kind_before_text text) (without_mark text) options (lines_of_text (without_mark text) (λ k lt. unmarked_bytes text bytes k 0 lt)) off

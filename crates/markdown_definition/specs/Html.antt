@@ -8,7 +8,8 @@ use Rattle.markdown_options.specs.declared.configuration.Options.{Options}
 use Rattle.markdown_options.specs.LineEndings.{ending_bytes}
 use Rattle.markdown_definition.specs.declared.container.Container.{Container}
 use Rattle.markdown_definition.specs.declared.container.Container.TheVariants.{Quote, Item}
-use Rattle.markdown_definition.specs.Lines.{ending_text, first_line, without_mark}
+use Rattle.markdown_definition.specs.declared.beside.Kind.{Kind}
+use Rattle.markdown_definition.specs.Lines.{ending_text, first_line, without_mark, kind_before_text}
 use Rattle.markdown_definition.specs.Columns.{code_byte, bytes_of}
 use Rattle.markdown_definition.specs.Encode.{encode}
 use Rattle.markdown_definition.specs.HtmlRaw.{raw_html}
@@ -152,10 +153,10 @@ default_ending options text = unwrap_or (first_line text).ending options.compile
 abbrev pub blocks_html : TextTables → Options → LineEnding → Blocks → List ℕ
 blocks_html tables options ending bs = layout (ending_bytes ending) (document_pieces (document options tables (document_definitions bs)) bs)
 
--- the HTML of a text without a byte order mark
-abbrev pub marked_html : TextTables → List ℕ → Options → List ℕ
-marked_html tables text options = blocks_html tables options (default_ending options text) (blocks options.parse.constructs text)
+-- the HTML of a text without a byte order mark, after a character of this kind
+abbrev pub marked_html : TextTables → Kind → List ℕ → Options → List ℕ
+marked_html tables before text options = blocks_html tables options (default_ending options text) (blocks options.parse.constructs before text)
 
 -- the HTML of a text: its blocks, laid out
 abbrev pub html : TextTables → List ℕ → Options → List ℕ
-html tables text options = marked_html tables (without_mark text) options
+html tables text options = marked_html tables (kind_before_text text) (without_mark text) options

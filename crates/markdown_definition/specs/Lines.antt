@@ -1,8 +1,10 @@
 -- The lines of a text: what each holds, and what ends it (CommonMark 2.1).
-use Rattle.std.specs.Prelude.{ℕ, Bool, if◌then◌else◌, ◌==◌, ◌&&◌, ◌||◌, List, [], ◌∷◌, ◌++◌, Option, None, Some, drop}
+use Rattle.std.specs.Prelude.{ℕ, Bool, false, if◌then◌else◌, ◌==◌, ◌&&◌, ◌||◌, List, [], ◌∷◌, ◌++◌, Option, None, Some, drop}
 use Rattle.markdown_options.specs.declared.line_ending.LineEnding.{LineEnding}
 use Rattle.markdown_options.specs.declared.line_ending.LineEnding.TheVariants.{CarriageReturnLineFeed, CarriageReturn, LineFeed}
 use Rattle.markdown_options.specs.LineEndings.{ending_bytes}
+use Rattle.markdown_definition.specs.declared.beside.Kind.{Kind}
+use Rattle.markdown_definition.specs.declared.beside.Kind.TheVariants.{Whitespace, Other}
 
 -- a line: the bytes before its ending, and the ending, which a text's last line may lack
 pub record TextLine : Type 0 where
@@ -44,11 +46,18 @@ ending_text (Some e) = ending_bytes e
 abbrev pub line_bytes : TextLine → List ℕ
 line_bytes line = line.content ++ ending_text line.ending
 
--- the bytes EF BB BF at the start of a text are a byte order mark, which is skipped
+-- the bytes EF BB BF at the start of a text are a byte order mark
+abbrev pub has_mark : List ℕ → Bool
+has_mark (a ∷ b ∷ c ∷ others) = (a == 239) && (b == 187) && (c == 191)
+has_mark bytes = false
+
+-- it is skipped
 abbrev pub without_mark : List ℕ → List ℕ
-without_mark (a ∷ b ∷ c ∷ others) =
-    if (a == 239) && (b == 187) && (c == 191) then others else a ∷ b ∷ c ∷ others
-without_mark bytes = bytes
+without_mark bytes = if has_mark bytes then drop 3 bytes else bytes
+
+-- but it is the character before the first line; the start of a text is whitespace there (CommonMark 6.2)
+abbrev pub kind_before_text : List ℕ → Kind
+kind_before_text bytes = if has_mark bytes then Other else Whitespace
 
 -- the first line of a text; of the empty text an empty one
 abbrev pub first_of : List TextLine → TextLine

@@ -1,6 +1,5 @@
 -- The block tree of a text, line by line (CommonMark 4, 5 and appendix, phase 1).
 use Rattle.std.specs.Prelude.{ℕ, suc, zero, Bool, true, false, if◌then◌else◌, ◌&&◌, not, List, [], ◌∷◌, ◌++◌, Option, None, Some, length}
-use Rattle.std.specs.List.{fold}
 use Rattle.markdown_options.specs.declared.line_ending.LineEnding.{LineEnding}
 use Rattle.markdown_options.specs.declared.configuration.Constructs.{Constructs}
 use Rattle.markdown_definition.specs.declared.beside.Beside.{Beside}
@@ -305,18 +304,23 @@ grow on beside (Leaf leaf) rest = taken (takes on leaf rest beside) (new (length
 grow on beside (Inside c kids inner) rest =
     goes_on (continues on c (began_blank kids inner) rest) on c kids inner beside rest (grow on (beside_in c rest beside) inner)
 
--- what stands beside a line of the text
-abbrev pub beside_line : TextLine → Beside
-beside_line line = record { before = Whitespace; ending = line.ending }
+-- what stands beside a line of the text, after a character of this kind
+abbrev pub beside_line : Kind → TextLine → Beside
+beside_line before line = record { before = before; ending = line.ending }
 
--- one more line
-abbrev pub step : Constructs → Tree → TextLine → Tree
-step on t line = let more = grow on (beside_line line) t.now (whole line.content) in tree (join t.done more.done) more.now
+-- one more line, after a character of this kind
+abbrev pub step : Constructs → Kind → Tree → TextLine → Tree
+step on before t line = let more = grow on (beside_line before line) t.now (whole line.content) in tree (join t.done more.done) more.now
+
+-- lines, the first after a character of this kind, the others after line endings
+abbrev pub steps : Constructs → Kind → Tree → List TextLine → Tree
+steps on before t [] = t
+steps on before t (line ∷ others) = steps on Whitespace (step on before t line) others
 
 -- the end of the text closes what is open
 abbrev pub closed : Constructs → Tree → Blocks
 closed on t = join t.done (close on t.now)
 
--- the children of the document, of a text without a byte order mark
-abbrev pub blocks : Constructs → List ℕ → Blocks
-blocks on text = closed on (fold (step on) empty_tree (lines text))
+-- the children of the document, of a text without a byte order mark, after a character of this kind
+abbrev pub blocks : Constructs → Kind → List ℕ → Blocks
+blocks on before text = closed on (steps on before empty_tree (lines text))

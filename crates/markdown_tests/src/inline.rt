@@ -146,3 +146,34 @@ const INLINE: [(&str, &str); 52] = [
 fn prints_inline_constructs(rt: HostRuntime) -> Result<(), Message> {
     prints(&rt, &INLINE, &Options::default())
 }
+
+/// A byte order mark is a character of kind other before the first line.
+const MARKED: [(&str, &str); 13] = [
+    ("\u{FEFF}_a_", "<p>_a_</p>"),
+    ("\u{FEFF}*a*", "<p><em>a</em></p>"),
+    ("\u{FEFF} _a_", "<p><em>a</em></p>"),
+    ("\u{FEFF}\n_a_", "<p><em>a</em></p>"),
+    ("\u{FEFF}\u{FEFF}_a_", "<p>\u{FEFF}_a_</p>"),
+    ("\u{FEFF}_a_ _b_\n_c_", "<p>_a_ <em>b</em>\n<em>c</em></p>"),
+    ("\u{FEFF}# _a_", "<h1><em>a</em></h1>"),
+    (
+        "\u{FEFF}> _a_",
+        "<blockquote>\n<p><em>a</em></p>\n</blockquote>",
+    ),
+    ("\u{FEFF}- _a_", "<ul>\n<li><em>a</em></li>\n</ul>"),
+    ("\u{FEFF}[a]: b\n_c_", "<p><em>c</em></p>"),
+    ("\u{FEFF}_a_\nb\n===", "<h1>_a_\nb</h1>"),
+    (
+        "\u{FEFF}_a_\nb\nc\nd\ne\nf\ng\nh\n_i_",
+        "<p>_a_\nb\nc\nd\ne\nf\ng\nh\n<em>i</em></p>",
+    ),
+    (
+        "_a_\nb\nc\nd\ne\nf\ng\nh\n_i_",
+        "<p><em>a</em>\nb\nc\nd\ne\nf\ng\nh\n<em>i</em></p>",
+    ),
+];
+
+#[test]
+fn a_mark_is_a_character(rt: HostRuntime) -> Result<(), Message> {
+    prints(&rt, &MARKED, &Options::default())
+}

@@ -4,6 +4,7 @@
 use block_tree::block_rows;
 use link_table::{definition_contents, document_definitions};
 use markdown::Constructs;
+use markdown_definition::Kind;
 use std::alloc::AllocError;
 
 const LABELS: [(&str, &str, Option<usize>); 16] = [
@@ -29,7 +30,7 @@ const LABELS: [(&str, &str, Option<usize>); 16] = [
 fn finds_labels(rt: HostRuntime) -> Result<(), AllocError> {
     let on = Constructs::default();
     for (text, label, place) in LABELS {
-        let blocks = block_rows(rt.alloc(), text, &on)?;
+        let blocks = block_rows(rt.alloc(), Kind::Whitespace, text, &on)?;
         let contents = definition_contents(rt.alloc(), &blocks.rows, &blocks.pieces)?;
         let found = document_definitions(rt.alloc(), &contents)?;
         assert_eq!(rt; found.labels.find(label.as_bytes())?, place, "at {text:?}");
@@ -56,7 +57,7 @@ const LINKS: [(&str, &str, Option<&str>); 12] = [
 fn leads_to_places(rt: HostRuntime) -> Result<(), AllocError> {
     let on = Constructs::default();
     for (text, destination, title) in LINKS {
-        let blocks = block_rows(rt.alloc(), text, &on)?;
+        let blocks = block_rows(rt.alloc(), Kind::Whitespace, text, &on)?;
         let contents = definition_contents(rt.alloc(), &blocks.rows, &blocks.pieces)?;
         let found = document_definitions(rt.alloc(), &contents)?;
         assert_eq!(rt; found.links.len(), 1, "at {text:?}");

@@ -1,9 +1,9 @@
 -- One more line in a quote.
-use Rattle.std.proofs.Common.{◌≡◌, ℕ, suc, ◌+◌, List, [], ◌∷◌, Option, None, Some, Bool, true, false, ◌&&◌, refl, sym, ap, ◌∙◌, length, drop, arith}
+use Rattle.std.proofs.Common.{◌≡◌, ℕ, suc, ◌+◌, List, [], ◌∷◌, None, Some, Bool, true, false, ◌&&◌, refl, sym, ap, ◌∙◌, length, drop, arith}
 use Rattle.std.specs.Prelude.{if◌then◌else◌, min, map}
-use Rattle.std.specs.List.{fold}
-use Rattle.markdown_options.specs.declared.line_ending.LineEnding.{LineEnding}
 use Rattle.markdown_options.specs.declared.configuration.Constructs.{Constructs}
+use Rattle.markdown_definition.specs.declared.beside.Kind.{Kind}
+use Rattle.markdown_definition.specs.declared.beside.Kind.TheVariants.{Whitespace}
 use Rattle.markdown_definition.specs.declared.container.Container.TheVariants.{Quote}
 use Rattle.markdown_definition.specs.Lines.{TextLine}
 use Rattle.markdown_definition.specs.Columns.{Rest, bare, indent, codes_from}
@@ -12,7 +12,7 @@ use Rattle.markdown_definition.specs.BlockQuote.{after_byte, after_mark, quote_p
 use Rattle.markdown_definition.specs.ListItem.{item_start}
 use Rattle.markdown_definition.specs.Containers.{quote_or}
 use Rattle.markdown_definition.specs.Definitions.{cut_into, cut_most}
-use Rattle.markdown_definition.specs.Tree.{beside_in, beside_line, Nil, join, Inside, Tree, tree, nothing, empty_tree, with_paragraph, after, leaf_line, start, new, goes_on, grow, step}
+use Rattle.markdown_definition.specs.Tree.{beside_in, beside_line, Nil, join, Inside, Tree, tree, nothing, empty_tree, with_paragraph, after, leaf_line, start, new, goes_on, grow, step, steps}
 use Rattle.quote_law.specs.Laws.{quoted_line}
 use Rattle.quote_law.proofs.Tabs.{Tabless, codes_from-Tabless, LinesTabless}
 use Rattle.quote_law.proofs.Starting.{new-suc}
@@ -45,34 +45,39 @@ after-nothing on t = ap (λ closed. tree (join closed t.done) t.now) (closed_not
 
 module _ (on : Constructs) (quotes : on.block_quote ≡ true) where
   -- a line goes on in the quote
-  step-in_quote : (t : Tree) (line : TextLine) → Tabless line.content → step on (in_quote t) (quoted_line line) ≡ in_quote (step on t line)
-  step-in_quote t line no_tab =
+  step-in_quote : (before : Kind) (t : Tree) (line : TextLine) → Tabless line.content
+      → step on before (in_quote t) (quoted_line line) ≡ in_quote (step on Whitespace t line)
+  step-in_quote before t line no_tab =
       let codes = codes_from 2 line.content in
-      ap (λ o. let more = goes_on o on Quote t.done t.now (beside_line line) (62 ∷ 32 ∷ codes) (grow on (beside_line line) t.now) in tree more.done more.now)
+      let beside = beside_line Whitespace line in
+      ap (λ o. let more = goes_on o on Quote t.done t.now (beside_line before line) (62 ∷ 32 ∷ codes) (grow on beside t.now) in tree more.done more.now)
       (quote_prefix-quoted on codes quotes)
-      ∙ ap (λ rest. let more = grow on (beside_line line) t.now rest in in_quote (tree (join t.done more.done) more.now))
+      ∙ ap (λ rest. let more = grow on beside t.now rest in in_quote (tree (join t.done more.done) more.now))
       (codes_from-Tabless 2 line.content no_tab ∙ sym (codes_from-Tabless 0 line.content no_tab))
 
-  pub fold-in_quote : (ls : List TextLine) (t : Tree) → LinesTabless ls → fold (step on) (in_quote t) (map quoted_line ls) ≡ in_quote (fold (step on) t ls)
-  fold-in_quote [] t no_tabs = refl
-  fold-in_quote (line ∷ ls) t no_tabs =
-      ap (λ u. fold (step on) u (map quoted_line ls)) (step-in_quote t line no_tabs.0) ∙ fold-in_quote ls (step on t line) no_tabs.1
+  pub steps-in_quote : (ls : List TextLine) (t : Tree) → LinesTabless ls
+      → steps on Whitespace (in_quote t) (map quoted_line ls) ≡ in_quote (steps on Whitespace t ls)
+  steps-in_quote [] t no_tabs = refl
+  steps-in_quote (line ∷ ls) t no_tabs =
+      ap (λ u. steps on Whitespace u (map quoted_line ls)) (step-in_quote Whitespace t line no_tabs.0)
+      ∙ steps-in_quote ls (step on Whitespace t line) no_tabs.1
 
   -- the first line starts the quote
-  new-quoted : (most : ℕ) (codes : Rest) (line : TextLine)
-      → new (suc most) on true nothing (beside_line line) (62 ∷ 32 ∷ codes) ≡ in_quote (new most on true nothing (beside_line line) codes)
-  new-quoted most codes line =
+  new-quoted : (before : Kind) (most : ℕ) (codes : Rest) (line : TextLine)
+      → new (suc most) on true nothing (beside_line before line) (62 ∷ 32 ∷ codes) ≡ in_quote (new most on true nothing (beside_line Whitespace line) codes)
+  new-quoted before most codes line =
       let rest = 62 ∷ 32 ∷ codes in
-      let beside = beside_line line in
+      let beside = beside_line before line in
       ap (λ o. start on (quote_or (item_start on false rest) o) nothing (leaf_line on nothing rest beside) (λ s. new most on true nothing (beside_in s.container rest beside) s.rest))
       (quote_prefix-quoted on codes quotes)
-      ∙ after-nothing on (in_quote (new most on true nothing beside codes))
+      ∙ after-nothing on (in_quote (new most on true nothing (beside_line Whitespace line) codes))
 
-  pub step-quoted : (line : TextLine) → Tabless line.content → step on empty_tree (quoted_line line) ≡ in_quote (step on empty_tree line)
-  step-quoted line no_tab =
+  pub step-quoted : (before : Kind) (line : TextLine) → Tabless line.content
+      → step on before empty_tree (quoted_line line) ≡ in_quote (step on Whitespace empty_tree line)
+  step-quoted before line no_tab =
       let codes = codes_from 2 line.content in
-      let beside = beside_line line in
-      new-quoted (suc (length codes)) codes line
+      let beside = beside_line Whitespace line in
+      new-quoted before (suc (length codes)) codes line
       ∙ ap in_quote (new-suc on beside (length codes) codes (omega arith))
       ∙ ap (λ rest. in_quote (new (length rest) on true nothing beside rest))
       (codes_from-Tabless 2 line.content no_tab ∙ sym (codes_from-Tabless 0 line.content no_tab))

@@ -1,13 +1,18 @@
 //! The byte order mark.
 ghost use Rattle.std.specs.Prelude.{◌≡◌};
-ghost use Rattle.markdown_definition.specs.Lines.{without_mark};
+ghost use Rattle.markdown_definition.specs.Lines.{kind_before_text, without_mark};
 
-/// A text without a byte order mark at its start.
-pub fn without_mark(value: &str) -> &str
-    ensures { result.now ≡ without_mark value.now }
+use markdown_definition::Kind;
+
+/// The kind of the character before the first line, and a text without a byte order mark at its
+/// start. The mark is a character of kind other; where there is none, the start of the text counts
+/// as whitespace.
+pub fn without_mark(value: &str) -> (Kind, &str)
+    ensures kind { result.0 ≡ kind_before_text value.now }
+    ensures text { result.1.now ≡ without_mark value.now }
 {
     match value.strip_prefix('\u{FEFF}') {
-        Some(rest) => rest,
-        None => value,
+        Some(rest) => (Kind::Other, rest),
+        None => (Kind::Whitespace, value),
     }
 }

@@ -2,10 +2,12 @@
 use Rattle.std.proofs.Common.{◌≡◌, ℕ, zero, suc, ◌-◌, ◌<◌, ◌≤◌, get_or, lit≤, List, [], ◌∷◌, ◌++◌, Option, None, Some, Bool, true, false, ◌&&◌, ◌==◌, not, leb, refl, sym, subst, ap, take, drop, length}
 use Rattle.std.specs.Prelude.{if◌then◌else◌}
 use Rattle.std.specs.Option.{IfSome}
-use Rattle.std.specs.List.{fold, list_all, prefix_len, suffix_len, position_or_len}
+use Rattle.std.specs.List.{list_all, prefix_len, suffix_len, position_or_len}
 use Rattle.std.proofs.lemmas.Bool.{and_parts, and_from, leb-true}
 use Rattle.markdown_options.specs.declared.configuration.Constructs.{Constructs}
 use Rattle.markdown_definition.specs.declared.beside.Beside.{Beside}
+use Rattle.markdown_definition.specs.declared.beside.Kind.{Kind}
+use Rattle.markdown_definition.specs.declared.beside.Kind.TheVariants.{Whitespace}
 use Rattle.markdown_definition.specs.declared.container.Container.{Container}
 use Rattle.markdown_definition.specs.declared.container.Container.TheVariants.{Quote, Item}
 use Rattle.markdown_definition.specs.Lines.{TextLine, lines}
@@ -27,7 +29,7 @@ use Rattle.markdown_definition.specs.ParagraphLines.{HaveNoEnding, AreLines}
 use Rattle.markdown_definition.proofs.OpenLines.{AreTextLines, AreLinesTo, SomeClear, StartedClear, clear-take, clear-drop, clear-filter, clear_codes, clear_bare, clear_start, clear_continue, lines_of_text, are_lines, open_step}
 use Rattle.markdown_options.specs.declared.line_ending.LineEnding.{LineEnding}
 use Rattle.markdown_options.specs.declared.line_ending.LineEnding.TheVariants.{LineFeed}
-use Rattle.markdown_definition.specs.Tree.{leaf_text, open_text, beside_in, beside_line, BlockLine, spaced_line, in_container, Block, Paragraph, Heading, Break, IndentedCode, FencedCode, Html, Definition, Holds, Items, Ending, Blank, Blocks, Nil, Cons, join, one, ended, own_lines, OpenLeaf, Text, Indented, Fenced, OpenHtml, Opening, Leaf, Inside, Tree, tree, nothing, empty_tree, paragraph_of, close_leaf, close, blanks, is_ending, all_endings, front, trailing, without_last, last_of, holds, has_text, with_line, rest_line, html_with, takes, taken, or_heading, or_fence, or_html, begins, text_here, heading_of, underlined, turns, after, text_line_of, break_or_text, begun, leaf_line, start, new, began_blank, goes_on, grow, step, closed, blocks}
+use Rattle.markdown_definition.specs.Tree.{leaf_text, open_text, beside_in, beside_line, BlockLine, spaced_line, in_container, Block, Paragraph, Heading, Break, IndentedCode, FencedCode, Html, Definition, Holds, Items, Ending, Blank, Blocks, Nil, Cons, join, one, ended, own_lines, OpenLeaf, Text, Indented, Fenced, OpenHtml, Opening, Leaf, Inside, Tree, tree, nothing, empty_tree, paragraph_of, close_leaf, close, blanks, is_ending, all_endings, front, trailing, without_last, last_of, holds, has_text, with_line, rest_line, html_with, takes, taken, or_heading, or_fence, or_html, begins, text_here, heading_of, underlined, turns, after, text_line_of, break_or_text, begun, leaf_line, start, new, began_blank, goes_on, grow, step, steps, closed, blocks}
 use Rattle.markdown_definition.specs.Rows.{Shown, shown, shown_as, rows_of}
 use Rattle.markdown_definition.specs.declared.row.Row.{Row}
 use Rattle.tree_html.specs.Printable.{IsPrintableContainer, IsPrintable, ArePrintable, CanBePrinted}
@@ -392,32 +394,34 @@ grow_fits on e (Inside c kids inner) r clear h =
 
 -- ---- the whole
 
-step_fits : (on : Constructs) (t : Tree) (line : TextLine) → HaveNoEnding line.content → AreLines (open_text t.now) → TreeFits t → TreeFits (step on t line)
-step_fits on t line clear clean h =
-    let more = grow_fits on (beside_line line) t.now (whole line.content) (clear_codes 0 line.content clear) record { fits = h.now; lines = clean } in
-    record { done = joined t.done (grow on (beside_line line) t.now (whole line.content)).done h.done more.done; now = more.now }
+step_fits : (on : Constructs) (before : Kind) (t : Tree) (line : TextLine) → HaveNoEnding line.content → AreLines (open_text t.now) → TreeFits t
+    → TreeFits (step on before t line)
+step_fits on before t line clear clean h =
+    let beside = beside_line before line in
+    let more = grow_fits on beside t.now (whole line.content) (clear_codes 0 line.content clear) record { fits = h.now; lines = clean } in
+    record { done = joined t.done (grow on beside t.now (whole line.content)).done h.done more.done; now = more.now }
 
 closed_printable : (on : Constructs) (t : Tree) → TreeFits t → AreLines (open_text t.now) → CanBePrinted (closed on t)
 closed_printable on t h clean = joined t.done (close on t.now) h.done (close_printable on t.now h.now clean)
 
 -- after a line that ended with `e`
-steps_printable : (on : Constructs) (e : LineEnding) (t : Tree) (ls : List TextLine) → AreTextLines ls → AreLinesTo (Some e) (open_text t.now) → TreeFits t
-    → CanBePrinted (closed on (fold (step on) t ls))
-steps_printable on e t [] p k h = closed_printable on t h (are_lines (Some e) (open_text t.now) k)
-steps_printable on e t (line ∷ []) p k h =
-    let more = step on t line in
-    closed_printable on more (step_fits on t line p (are_lines (Some e) (open_text t.now) k) h)
-    (are_lines line.ending (open_text more.now) (open_step on e t line p k))
-steps_printable on e t (line ∷ next ∷ others) p k h =
-    let more = step on t line in
-    steps_printable on p.1.0 more (next ∷ others) p.2 (subst (λ o. AreLinesTo o (open_text more.now)) p.1.1 (open_step on e t line p.0 k))
-    (step_fits on t line p.0 (are_lines (Some e) (open_text t.now) k) h)
+steps_printable : (on : Constructs) (before : Kind) (e : LineEnding) (t : Tree) (ls : List TextLine) → AreTextLines ls → AreLinesTo (Some e) (open_text t.now)
+    → TreeFits t → CanBePrinted (closed on (steps on before t ls))
+steps_printable on before e t [] p k h = closed_printable on t h (are_lines (Some e) (open_text t.now) k)
+steps_printable on before e t (line ∷ []) p k h =
+    let more = step on before t line in
+    closed_printable on more (step_fits on before t line p (are_lines (Some e) (open_text t.now) k) h)
+    (are_lines line.ending (open_text more.now) (open_step on before e t line p k))
+steps_printable on before e t (line ∷ next ∷ others) p k h =
+    let more = step on before t line in
+    steps_printable on Whitespace p.1.0 more (next ∷ others) p.2 (subst (λ o. AreLinesTo o (open_text more.now)) p.1.1 (open_step on before e t line p.0 k))
+    (step_fits on before t line p.0 (are_lines (Some e) (open_text t.now) k) h)
 
-pub blocks_printable : (on : Constructs) (text : List ℕ) → ((k : ℕ) → get_or text k 0 < 256) → CanBePrinted (blocks on text)
-blocks_printable on text bytes = steps_printable on LineFeed empty_tree (lines text) (lines_of_text text bytes) tt (fits empty_tree tt tt)
+pub blocks_printable : (on : Constructs) (before : Kind) (text : List ℕ) → ((k : ℕ) → get_or text k 0 < 256) → CanBePrinted (blocks on before text)
+blocks_printable on before text bytes = steps_printable on before LineFeed empty_tree (lines text) (lines_of_text text bytes) tt (fits empty_tree tt tt)
 
 -- rows that stand for the blocks of a text
-pub shown_printable : (on : Constructs) (text : List ℕ) (rows : List Row) (ls left : List BlockLine) → ((k : ℕ) → get_or text k 0 < 256)
-    → shown rows ls ≡ shown_as (rows_of (blocks on text)) left → ArePrintable (shown rows ls).rows
-shown_printable on text rows ls left bytes h =
-    subst ArePrintable (sym (ap (λ (s : Shown). s.rows) h)) (printable_rows_of (blocks on text) (blocks_printable on text bytes))
+pub shown_printable : (on : Constructs) (before : Kind) (text : List ℕ) (rows : List Row) (ls left : List BlockLine) → ((k : ℕ) → get_or text k 0 < 256)
+    → shown rows ls ≡ shown_as (rows_of (blocks on before text)) left → ArePrintable (shown rows ls).rows
+shown_printable on before text rows ls left bytes h =
+    subst ArePrintable (sym (ap (λ (s : Shown). s.rows) h)) (printable_rows_of (blocks on before text) (blocks_printable on before text bytes))

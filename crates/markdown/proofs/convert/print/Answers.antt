@@ -22,22 +22,24 @@ use Rattle.markdown.proofs.convert.print.Goals as goal
 pub print_rows-requires-clause-printable : goal.print_rows-requires-clause-printable
 print_rows-requires-clause-printable g c =
     let on = c.args.options.now.parse.constructs in
+    let before = c.args.before in
     let text = c.args.text.now in
     let bytes : (k : ℕ) → get_or text k 0 < 256 = λ k. omega (arith, c.type_inv.text k) in
     let rows = ap (λ (s : Shown). s.rows) (
     ap (λ (rs : List Row). shown rs (piece_lines c.deref-5.result.now)) c.deref-4.ensures.value
     ∙ ap (λ (ps : List Piece). shown c.in_ok-blocks.blocks.rows.items (piece_lines ps)) c.deref-5.ensures.value
     ∙ c.in_ok-blocks.ensures.shown) in
-    subst ArePrintable (sym rows) (printable_rows_of (blocks on text) (blocks_printable on text bytes))
+    subst ArePrintable (sym rows) (printable_rows_of (blocks on before text) (blocks_printable on before text bytes))
 
 pub returns : goal.returns
 returns g c =
     let options = c.args.options.now in
     let on = options.parse.constructs in
+    let before = c.args.before in
     let text = c.args.text.now in
     let bytes : (k : ℕ) → get_or text k 0 < 256 = λ k. omega (arith, c.type_inv.text k) in
     let tables = text_tables (g.T.Tables.reference_of c.args.tables.now) (g.T.Tables.punctuation_of c.args.tables.now) in
-    let bs = blocks on text in
+    let bs = blocks on before text in
     let ds = document_definitions bs in
     let ending = c.default_ending-ending.ensures options refl in
     let read = ap (λ (s : Shown). s.rows) (
@@ -55,4 +57,4 @@ returns g c =
     } in
     IfOk-weaker c.print_rows.result _ _
     (λ page printed. printed ∙ ap (λ (e : LineEnding). layout (ending_bytes e) (document_pieces (document options tables ds) bs)) ending)
-    (c.print_rows.ensures ds has bs rows (blocks_printable on text bytes))
+    (c.print_rows.ensures ds has bs rows (blocks_printable on before text bytes))

@@ -2,7 +2,8 @@ use Rattle.std.proofs.Common.{◌∙◌, ap}
 use Rattle.std.proofs.lemmas.Result.{on_ok_weaker}
 use Rattle.markdown_definition.specs.Html.{html}
 use Rattle.builtin_tables.specs.Builtin.{builtin_tables}
-use Rattle.markdown.proofs.Transfers.{page_of_text}
+use Rattle.markdown.specs.Faults.{is_write_error}
+use Rattle.markdown.proofs.Transfers.{begins_of_text, if_err_from, page_of_text}
 use Rattle.markdown.proofs.run.run_with_options.Goals as goal
 
 pub returns-clause-ok : goal.returns-clause-ok
@@ -11,3 +12,10 @@ returns-clause-ok g c =
     (λ wrote. page_of_text _ _ _ c.in_ok-bytes.bytes.items c.as_bytes.result.now c.args.options.now c.in_ok-bytes.ensures.ok
     (c.as_bytes.ensures.value ∙ c.in_ok-page.ensures.ok ∙ ap (λ b. html builtin_tables b c.args.options.now) c.deref.ensures.value) wrote)
     c.write_all.ensures.ok
+
+pub returns-clause-beginning : goal.returns-clause-beginning
+returns-clause-beginning g c =
+    if_err_from is_write_error c.write_all.result
+    (begins_of_text _ _ _ c.in_ok-bytes.bytes.items c.as_bytes.result.now c.args.options.now c.in_ok-bytes.ensures.ok
+    (c.as_bytes.ensures.value ∙ c.in_ok-page.ensures.ok ∙ ap (λ b. html builtin_tables b c.args.options.now) c.deref.ensures.value)
+    c.write_all.ensures.beginning)
