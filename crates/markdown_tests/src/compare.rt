@@ -31,7 +31,7 @@ pub(crate) fn prints(
     for (text, want) in rows {
         assert!(rt; fits(text));
         let page = to_html_with_options(rt.alloc(), text, options)?;
-        assert_eq!(rt; page.as_str(), want, "at {text:?}");
+        assert_eq!(rt; page.as_str(), *want, "at {text:?}");
     }
     Ok(())
 }
