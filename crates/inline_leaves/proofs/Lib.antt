@@ -5,5 +5,6 @@ pub mod Codes
 pub mod Endings
 pub mod Fronts
 pub mod HtmlTexts
+pub mod LastRuns
 pub mod References
 pub mod Searching

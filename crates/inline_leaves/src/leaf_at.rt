@@ -1,5 +1,5 @@
 //! What a content begins with (CommonMark 6).
-ghost use Rattle.std.specs.Prelude.{◌≡◌, IfSome};
+ghost use Rattle.std.specs.Prelude.{◌≡◌, IfOk, IfSome};
 ghost use Rattle.markdown_definition.specs.Content.{content_codes};
 ghost use Rattle.link_parts.specs.Codes.{IsRest};
 ghost use Rattle.inline_leaves.specs.Leaves.{found_leaf, IsAfter};
@@ -13,40 +13,41 @@ use crate::line_break::{escaped_break_at, line_end_at, line_spaces_at};
 use crate::reference::reference_at;
 use crate::searches::Searches;
 use markdown_options::{Constructs, Tables};
+use std::alloc::{AllocError, Allocator};
 
 /// The construct that a rest of a content begins with, if it holds no other (CommonMark 6). What is
 /// searched for in vain is kept for later rests.
-pub fn leaf_at<'a, T: Tables>(
+pub fn leaf_at<'a, T: Tables, A: Allocator + Clone>(
     on: &Constructs,
     tables: &'a T,
-    searches: &mut Searches<'a>,
+    searches: &mut Searches<'a, A>,
     rest: &'a str,
-) -> Option<Leaf<'a>>
+) -> Result<Option<Leaf<'a>>, AllocError>
     requires { IsRest searches.old.content.now rest.now }
     ensures content { searches.new.content ≡ searches.old.content }
-    ensures read { found_leaf rest.now result ≡ leaf_in on.now (T.reference_of tables.now) (content_codes rest.now) }
-    ensures place { IfSome result (λ found. IsAfter rest.now found.after.now) }
+    ensures read { IfOk result (λ found. found_leaf rest.now found ≡ leaf_in on.now (T.reference_of tables.now) (content_codes rest.now)) }
+    ensures place { IfOk result (λ found. IfSome found (λ leaf. IsAfter rest.now leaf.after.now)) }
 {
     if let Some(found) = escape_at(on, rest) {
-        return Some(found);
+        return Ok(Some(found));
     }
     if let Some(found) = escaped_break_at(on, rest) {
-        return Some(found);
+        return Ok(Some(found));
     }
     if let Some(found) = reference_at(on, tables, rest) {
-        return Some(found);
+        return Ok(Some(found));
     }
-    if let Some(found) = code_text_at(on, rest) {
-        return Some(found);
+    if let Some(found) = code_text_at(on, searches, rest)? {
+        return Ok(Some(found));
     }
     if let Some(found) = autolink_at(on, rest) {
-        return Some(found);
+        return Ok(Some(found));
     }
     if let Some(found) = searches.html_text_at(on, rest) {
-        return Some(found);
+        return Ok(Some(found));
     }
     if let Some(found) = line_end_at(rest) {
-        return Some(found);
+        return Ok(Some(found));
     }
-    line_spaces_at(on, rest)
+    Ok(line_spaces_at(on, rest))
 }
