@@ -1,12 +1,11 @@
 -- The last run of backticks of each size.
 use Rattle.std.proofs.Common.{◌≡◌, ℕ, zero, suc, ◌+◌, ◌-◌, ◌<◌, ◌≤◌, List, [], ◌∷◌, ◌++◌, set, true, false, cond, eqb, nat_lt, refl, sym, ap, ◌∙◌, get_or, length, drop, take, arith, inl, inr}
 use Rattle.std.proofs.lemmas.Bool.{cases_Bool, cases_order, cond-false, cond-true, ne_eqb, eq-eqb, lt-ltb, le-ltb, ltb-true, ltb-false}
-use Rattle.std.proofs.lemmas.List.{drop_all}
 use Rattle.std.proofs.lemmas.List.Sums.{prefix_len-le-length}
 use Rattle.std.specs.List.{prefix_len}
 use Rattle.markdown_definition.specs.Runs.{run}
 use Rattle.markdown_definition.specs.CodeText.{run_of}
-use Rattle.inline_leaves.specs.LastRuns.{last_end, AreLastRuns}
+use Rattle.inline_leaves.specs.LastRuns.{last_end}
 use Rattle.inline_leaves.specs.Leaves.{IsRun}
 use Rattle.inline_leaves.specs.declared.backticks.LastRun.{LastRun}
 use Rattle.inline_leaves.proofs.CodeSpans.{past_here, run_there}
@@ -169,8 +168,3 @@ past_kept xs old new at r positive within count here kept known size p some le o
         let earlier : last_end old size ≤ p = omega (arith, kept size, cond-false (eqb r size) (at + r) (last_end old size) (ne_eqb r size other)) in
         let next : at + r ≡ at + cond (eqb r 0) 1 r = ap (λ k. at + k) (sym (cond-false (eqb r 0) 1 r (ne_eqb r 0 (λ e. omega arith)))) in
         known size p some early outside earlier ∙ past_here xs size at r (at + r) some count other next
-
--- all runs of a content
-pub all_kept : (xs : List ℕ) (rs : List LastRun) (at : ℕ) → length xs ≤ at → AreLastBefore xs rs at → AreLastRuns xs rs
-all_kept xs rs at le known size p some within outside last =
-    known size p some (omega arith) outside last ∙ ap (run_of 96 size false) (drop_all at xs le)

@@ -15,14 +15,14 @@ use std::alloc::{AllocError, Allocator};
 
 /// The last run of backticks of its size.
 #[derive(Clone, Copy)]
-pub struct LastRun {
+pub(crate) struct LastRun {
     size: usize,
     // Where it ends.
     end: usize,
 }
 
 /// How many backticks bytes begin with.
-pub fn run_size(bytes: &[u8]) -> usize
+pub(crate) fn run_size(bytes: &[u8]) -> usize
     ensures size { result ≡ run 96 bytes.now }
     ensures run { IsRun bytes.now 0 result }
 {
@@ -35,7 +35,7 @@ pub fn run_size(bytes: &[u8]) -> usize
 }
 
 /// Where the first run of exactly so many backticks begins.
-pub fn closing_run(bytes: &[u8], size: usize) -> Option<usize>
+pub(crate) fn closing_run(bytes: &[u8], size: usize) -> Option<usize>
     requires { 0 < size }
     ensures read { option_map (λ end. drop end bytes.now) result ≡ run_of 96 size false bytes.now }
     ensures run { IfSome result (λ end. IsRun bytes.now end size) }
@@ -53,7 +53,10 @@ pub fn closing_run(bytes: &[u8], size: usize) -> Option<usize>
 
 /// The last run of each size in a content, ascending by size. A content of n bytes has runs of fewer
 /// sizes than the root of 2n.
-pub fn last_runs<A: Allocator>(alloc: A, content: &[u8]) -> Result<Vec<LastRun, A>, AllocError>
+pub(crate) fn last_runs<A: Allocator>(
+    alloc: A,
+    content: &[u8],
+) -> Result<Vec<LastRun, A>, AllocError>
     ensures { IfOk result (λ runs. AreLastRuns content.now runs.items) }
 {
     let mut runs = Vec::new(alloc);
@@ -72,7 +75,7 @@ pub fn last_runs<A: Allocator>(alloc: A, content: &[u8]) -> Result<Vec<LastRun, 
 
 /// Where the last run of a size ends, or 0 if there is none. In an ascending list it looks at no more
 /// runs than the size.
-pub fn last_end(runs: &[LastRun], size: usize) -> usize
+pub(crate) fn last_end(runs: &[LastRun], size: usize) -> usize
     ensures { result ≡ last_end runs.now size }
 {
     match runs.get(smaller(runs, size)) {

@@ -61,7 +61,11 @@ impl<'a, A: Allocator + Clone> Searches<'a, A> {
 
     /// Where the first run of exactly so many backticks begins in a rest of the content that doesn't
     /// begin with one (CommonMark 6.1).
-    pub fn closing_run(&mut self, rest: &[u8], size: usize) -> Result<Option<usize>, AllocError>
+    pub(crate) fn closing_run(
+        &mut self,
+        rest: &[u8],
+        size: usize,
+    ) -> Result<Option<usize>, AllocError>
         requires rest { IsRest self.old.content.now rest.now }
         requires some { 0 < size }
         requires outside { run 96 rest.now ≡ 0 }
