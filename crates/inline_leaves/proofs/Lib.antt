@@ -3,6 +3,7 @@ pub mod Breaks
 pub mod CodeSpans
 pub mod Codes
 pub mod Endings
+pub mod FirstBytes
 pub mod Fronts
 pub mod HtmlTexts
 pub mod LastRuns
