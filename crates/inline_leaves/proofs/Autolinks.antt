@@ -5,14 +5,30 @@ use Rattle.std.specs.List.{prefix_len, take_while}
 use Rattle.std.specs.Option.{option_map}
 use Rattle.std.proofs.lemmas.Bool.{cases_Bool, cond-false, cond-true, eqb-true, eqb-false, and_left, and_right, and_from, cases_lt, le-leb}
 use Rattle.std.proofs.lemmas.List.{drop-drop, length-drop, length-take-le, get_or-drop}
+use Rattle.std.proofs.lemmas.List.Sums.{prefix_len-le-length}
 use Rattle.markdown_options.specs.declared.configuration.Constructs.{Constructs}
 use Rattle.markdown_definition.specs.Content.{before, content_codes}
 use Rattle.markdown_definition.specs.Letters.{after_all, begins_with, begins_with_letter}
 use Rattle.markdown_definition.specs.Inline.{leaf, Autolink}
 use Rattle.markdown_definition.specs.Autolink.{is_scheme_byte, is_uri_byte, begins_with_scheme, after_uri, uri_end, is_email_byte, is_domain_byte, is_domain, domain_end, email_end, closed_autolink, autolink_after, autolink_at}
-use Rattle.inline_leaves.specs.Leaves.{IsAddress, IsEnd, IsPlain, size_before}
-use Rattle.inline_leaves.proofs.Codes.{at_return, plain_code, plain_take, plain_size, size_plain, prefix_codes, after_codes, while_codes, end_after}
+use Rattle.inline_leaves.specs.Leaves.{IsAddress, IsEnd, IsPlain, is_of, size_before}
+use Rattle.inline_leaves.specs.declared.byte_class.ByteClass.{ByteClass}
+use Rattle.inline_leaves.specs.declared.byte_class.ByteClass.TheVariants.{Scheme, Uri, Email, Domain}
+use Rattle.inline_leaves.proofs.Codes.{at_return, plain_code, plain_take, plain_size, size_plain, prefix_codes, prefix_plain, after_codes, while_codes, end_after}
 use Rattle.inline_leaves.proofs.Fronts.{begun}
+
+-- no class has CR
+class_return : (class : ByteClass) → is_of class 13 ≡ false
+class_return Scheme = refl
+class_return Uri = refl
+class_return Email = refl
+class_return Domain = refl
+
+pub class_plain : (class : ByteClass) (xs : List ℕ) (n : ℕ) → n ≡ prefix_len (is_of class) xs → IsPlain xs n
+class_plain class xs n e = record {
+  within = omega (arith, prefix_len-le-length (is_of class) xs);
+  plain = prefix_plain (is_of class) (class_return class) xs n (omega arith);
+}
 
 -- one byte that comes first
 pub one_code : (c : ℕ) (xs : List ℕ) → eqb c 13 ≡ false → eqb c 257 ≡ false → begins_with (c ∷ []) (content_codes xs) ≡ begins_with (c ∷ []) xs

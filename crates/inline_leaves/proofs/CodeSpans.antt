@@ -52,6 +52,14 @@ past_run n (c ∷ cs) some run_some other = elim (cases_Bool (eqb c 96)) [
   | inr h ↦ let size : run 96 (c ∷ cs) ≡ 0 = cond-false (eqb c 96) _ _ h in absurd (omega arith)
 ]
 
+-- after a run there is no backtick
+pub after_it : (xs : List ℕ) → run 96 (drop (run 96 xs) xs) ≡ 0
+after_it [] = refl
+after_it (c ∷ cs) = elim (cases_Bool (eqb c 96)) [
+  | inl h ↦ let size : run 96 (c ∷ cs) ≡ suc (run 96 cs) = cond-true (eqb c 96) _ _ h ∙ omega arith in ap (λ k. run 96 (drop k (c ∷ cs))) size ∙ after_it cs
+  | inr h ↦ let size : run 96 (c ∷ cs) ≡ 0 = cond-false (eqb c 96) _ _ h in ap (λ k. run 96 (drop k (c ∷ cs))) size ∙ size
+]
+
 -- past a byte that is no backtick
 pub past_other : (n : ℕ) (xs : List ℕ) → 0 < n → run 96 xs ≡ 0 → run_of 96 n false xs ≡ run_of 96 n false (drop 1 xs)
 past_other n [] some none = refl

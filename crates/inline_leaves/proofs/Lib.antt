@@ -3,7 +3,9 @@ pub mod Breaks
 pub mod CodeSpans
 pub mod Codes
 pub mod Endings
+pub mod FirstBytes
 pub mod Fronts
 pub mod HtmlTexts
+pub mod LastRuns
 pub mod References
 pub mod Searching

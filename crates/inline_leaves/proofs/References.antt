@@ -1,8 +1,10 @@
 -- Character references in codes and in bytes.
-use Rattle.std.proofs.Common.{◌≡◌, ℕ, ◌+◌, ◌-◌, ◌≤◌, List, [], ◌∷◌, Bool, true, false, cond, ◌&&◌, ◌||◌, eqb, leb, Option, None, Some, refl, sym, ap, ◌∙◌, get_or, length, drop, take, arith, inl, inr}
-use Rattle.std.proofs.lemmas.Bool.{cases_Bool, cond-false, cond-true, eqb-true, eqb-false}
+use Rattle.std.proofs.Common.{◌≡◌, ℕ, ◌+◌, ◌-◌, List, [], ◌∷◌, Bool, true, false, cond, ◌&&◌, ◌||◌, eqb, leb, Option, None, Some, refl, sym, ap, ◌∙◌, get_or, length, drop, take, arith, inl, inr}
+use Rattle.std.proofs.lemmas.Bool.{cases_Bool, cond-true, eqb-true, eqb-false}
+use Rattle.std.proofs.lemmas.Str.{IsCharBoundary-before_ascii}
+use Rattle.std.specs.Str.{IsCharBoundary}
 use Rattle.std.proofs.lemmas.List.Sums.{prefix_len-le-length}
-use Rattle.std.proofs.lemmas.List.{length-drop, get_or-drop}
+use Rattle.std.proofs.lemmas.List.{drop-drop, length-drop, length-take-le, get_or-drop}
 use Rattle.std.specs.Char.{is_ascii_digit, is_ascii_hexdigit, is_ascii_alphanumeric}
 use Rattle.std.specs.List.{prefix_len}
 use Rattle.std.specs.Option.{option_map}
@@ -11,11 +13,14 @@ use Rattle.markdown_definition.specs.Content.{Part, part, content_codes}
 use Rattle.markdown_definition.specs.Letters.{begins_with}
 use Rattle.inline_leaves.proofs.Fronts.{begun}
 use Rattle.markdown_definition.specs.CharacterReference.{CharacterReference, character_reference, before_semicolon, terminated, numbered, named, number_reference, reference_after, reference_form, reference_text, reference_leaf, reference_of, reference_at}
-use Rattle.inline_leaves.specs.declared.byte_class.ByteClass.{ByteClass}
-use Rattle.inline_leaves.specs.declared.byte_class.ByteClass.TheVariants.{Scheme, Uri, Email, Domain, Name, Digit, Hexadecimal}
+use Rattle.markdown_definition.specs.References as values
+use Rattle.markdown_definition.specs.References.{value_text}
+use Rattle.markdown_definition.proofs.ReferenceForms.{name_in, span_of, same_form, same_meaning}
+use Rattle.references.specs.Places.{IsPlaced, reference_of as seen_reference}
+use Rattle.references.specs.declared.reference.Reference.{Reference}
 use Rattle.std.proofs.lemmas.Option.{none-some, same_Some}
 use Rattle.markdown_definition.specs.Inline.{Inline, leaf}
-use Rattle.inline_leaves.specs.Leaves.{IsEnd, IsPlain, IsValue, character_parts, is_of, size_before}
+use Rattle.inline_leaves.specs.Leaves.{IsEnd, character_parts, size_before}
 use Rattle.inline_leaves.proofs.Codes.{at_return, plain_code, prefix_codes, prefix_plain, plain_take, plain_drop, end_after}
 
 -- a part and a reference, with what follows in codes
@@ -117,40 +122,59 @@ form_codes (c ∷ cs) = elim (cases_Bool (eqb c 13)) [
     by_case true e = e
     by_case false e = refl
 
-pub reference_off : (on : Constructs) (names : List ℕ → Option (List ℕ)) (xs : List ℕ) → on.character_reference ≡ false → reference_at on names xs ≡ None
-reference_off on names xs off = cond-false _ _ _ off
+-- ---- by places
 
-pub reference_none : (on : Constructs) (names : List ℕ → Option (List ℕ)) (xs : List ℕ) → on.character_reference ≡ true → None ≡ reference_form xs → reference_at on names (content_codes xs) ≡ None
-reference_none on names xs is_on none =
-    cond-true _ _ _ is_on ∙ ap (reference_of names (content_codes xs)) (form_codes xs ∙ ap (option_map coded_reference) (sym none))
+-- after an `&`
+ampersand_form : (xs : List ℕ) → begins_with (38 ∷ []) xs ≡ true → reference_form xs ≡ option_map (span_of (drop 1 xs)) (values.reference_at (drop 1 xs))
+ampersand_form xs there = ap reference_form (begun (38 ∷ []) xs there) ∙ same_form (drop 1 xs)
 
-pub reference_some : (on : Constructs) (names : List ℕ → Option (List ℕ)) (xs : List ℕ) (found : CharacterReference) → on.character_reference ≡ true → Some found ≡ reference_form xs
-    → reference_at on names (content_codes xs) ≡ reference_leaf (size_before xs found.rest) (reference_text names found.name)
-reference_some on names xs found is_on there =
-    cond-true _ _ _ is_on ∙ ap (reference_of names (content_codes xs)) (form_codes xs ∙ ap (option_map coded_reference) (sym there))
+pub reference_none : (on : Constructs) (names : List ℕ → Option (List ℕ)) (xs : List ℕ) → on.character_reference ≡ true → begins_with (38 ∷ []) xs ≡ true
+    → None ≡ values.reference_at (drop 1 xs) → reference_at on names (content_codes xs) ≡ None
+reference_none on names xs is_on there none =
+    let form : reference_form xs ≡ None = ampersand_form xs there ∙ ap (option_map (span_of (drop 1 xs))) (sym none) in
+    cond-true _ _ _ is_on ∙ ap (reference_of names (content_codes xs)) (form_codes xs ∙ ap (option_map coded_reference) form)
+
+pub reference_some : (on : Constructs) (names : List ℕ → Option (List ℕ)) (xs : List ℕ) (r : Reference) → on.character_reference ≡ true → begins_with (38 ∷ []) xs ≡ true
+    → IsPlaced (drop 1 xs) r → Some (seen_reference (drop 1 xs) r) ≡ values.reference_at (drop 1 xs)
+    → reference_at on names (content_codes xs) ≡ reference_leaf (size_before xs (drop (r.end + 2) xs)) (value_text names r.marker (take (r.end - r.start) (drop (r.start + 1) xs)))
+reference_some on names xs r is_on there placed found =
+    let after = drop 1 xs in
+    let seen = seen_reference after r in
+    let form : reference_form xs ≡ Some (span_of after seen) = ampersand_form xs there ∙ ap (option_map (span_of after)) (sym found) in
+    let value : length seen.value ≡ r.end - r.start = length-take-le (r.end - r.start) (drop r.start after) (omega (arith, placed.within, placed.nonempty, length-drop r.start after)) in
+    let size : values.reference_size seen ≡ r.end + 1 = omega (arith, value, placed.start, placed.nonempty) in
+    let rest : drop (values.reference_size seen) after ≡ drop (r.end + 2) xs =
+    ap (λ k. drop k after) size ∙ drop-drop (r.end + 1) 1 xs ∙ ap (λ k. drop k xs) (three r.end) in
+    let start : drop r.start after ≡ drop (r.start + 1) xs = drop-drop r.start 1 xs ∙ ap (λ k. drop k xs) (two r.start) in
+    cond-true _ _ _ is_on ∙ ap (reference_of names (content_codes xs)) (form_codes xs ∙ ap (option_map coded_reference) form)
+    ∙ ap (λ ys. reference_leaf (size_before xs ys) (reference_text names (name_in seen))) rest
+    ∙ ap (reference_leaf (size_before xs (drop (r.end + 2) xs))) (same_meaning names seen ∙ ap (λ ys. value_text names r.marker (take (r.end - r.start) ys)) start)
+  where
+    three : (k : ℕ) → 1 + (k + 1) ≡ k + 2
+    three k = omega arith
+
+    two : (k : ℕ) → 1 + k ≡ k + 1
+    two k = omega arith
 
 -- ---- where a value stands
 
-pub class_return : (class : ByteClass) → is_of class 13 ≡ false
-class_return Scheme = refl
-class_return Uri = refl
-class_return Email = refl
-class_return Domain = refl
-class_return Name = refl
-class_return Digit = refl
-class_return Hexadecimal = refl
+pub value_start : (xs : List ℕ) (r : Reference) → IsPlaced (drop 1 xs) r → IsCharBoundary xs (r.start + 1)
+value_start xs r placed =
+    let place : 1 + r.start ≡ r.start + 1 = omega arith in
+    let first : get_or (drop 1 xs) r.start 0 ≡ get_or xs (r.start + 1) 0 = get_or-drop 1 xs r.start 0 ∙ ap (λ k. get_or xs k 0) place in
+    IsCharBoundary-before_ascii xs (r.start + 1) (omega (arith, placed.nonempty, placed.within, length-drop 1 xs)) (omega (arith, placed.first, first))
 
-pub value_end : (xs : List ℕ) (start size : ℕ) → IsValue (drop start xs) size → start ≤ length xs → IsEnd xs (start + size + 1)
-value_end xs start size there le =
-    let place : start + size ≡ start + size + 1 - 1 = omega arith in
-    let last : get_or xs (start + size + 1 - 1) 0 ≡ 59 = ap (λ k. get_or xs k 0) (sym place) ∙ sym (get_or-drop start xs size 0) ∙ there.semicolon in
-    end_after xs (start + size + 1) (omega arith) (omega (arith, there.within, length-drop start xs)) (omega arith) (λ e. omega arith)
+pub value_stop : (xs : List ℕ) (r : Reference) → IsPlaced (drop 1 xs) r → IsCharBoundary xs (r.end + 1)
+value_stop xs r placed =
+    let place : 1 + r.end ≡ r.end + 1 = omega arith in
+    let next : get_or (drop 1 xs) r.end 0 ≡ get_or xs (r.end + 1) 0 = get_or-drop 1 xs r.end 0 ∙ ap (λ k. get_or xs k 0) place in
+    IsCharBoundary-before_ascii xs (r.end + 1) (omega (arith, placed.within, length-drop 1 xs)) (omega (arith, placed.semicolon, next))
 
-pub hexadecimal_form : (x : ℕ) (xs : List ℕ) → (eqb x 120 || eqb x 88) ≡ true → begins_with (38 ∷ 35 ∷ x ∷ []) xs ≡ true
-    → reference_form xs ≡ numbered 16 (terminated is_ascii_hexdigit 6 (drop 3 xs))
-hexadecimal_form x xs h there =
-    let e : xs ≡ 38 ∷ 35 ∷ x ∷ drop 3 xs = begun (38 ∷ 35 ∷ x ∷ []) xs there in
-    ap reference_form e ∙ cond-true (eqb x 120 || eqb x 88) _ _ h
+pub value_end : (xs : List ℕ) (r : Reference) → IsPlaced (drop 1 xs) r → IsEnd xs (r.end + 2)
+value_end xs r placed =
+    let place : 1 + r.end ≡ r.end + 2 - 1 = omega arith in
+    let last : get_or xs (r.end + 2 - 1) 0 ≡ 59 = ap (λ k. get_or xs k 0) (sym place) ∙ sym (get_or-drop 1 xs r.end 0) ∙ placed.semicolon in
+    end_after xs (r.end + 2) (omega arith) (omega (arith, placed.within, length-drop 1 xs)) (omega arith) (λ e. omega arith)
 
 -- a reference whose text is known or not
 pub unknown_leaf : (size : ℕ) (text : Option (List ℕ)) → None ≡ option_map character_parts text → reference_leaf size text ≡ None
@@ -160,9 +184,3 @@ unknown_leaf size (Some text) h = absurd (none-some _ h)
 pub known_leaf : (size : ℕ) (text : Option (List ℕ)) (parts : List Inline) → Some parts ≡ option_map character_parts text → reference_leaf size text ≡ Some (leaf parts size)
 known_leaf size None parts h = absurd (none-some _ (sym h))
 known_leaf size (Some text) parts h = ap (λ p. Some (leaf p size)) (sym (same_Some _ _ h))
-
-pub class_plain : (class : ByteClass) (xs : List ℕ) (n : ℕ) → n ≡ prefix_len (is_of class) xs → IsPlain xs n
-class_plain class xs n e = record {
-  within = omega (arith, prefix_len-le-length (is_of class) xs);
-  plain = prefix_plain (is_of class) (class_return class) xs n (omega arith);
-}

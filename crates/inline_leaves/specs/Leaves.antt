@@ -1,7 +1,6 @@
 -- What the answers on a content stand for.
-use Rattle.std.specs.Char.{is_ascii_digit, is_ascii_hexdigit, is_ascii_alphanumeric}
 use Rattle.inline_leaves.specs.declared.byte_class.ByteClass.{ByteClass}
-use Rattle.inline_leaves.specs.declared.byte_class.ByteClass.TheVariants.{Scheme, Uri, Email, Domain, Name, Digit, Hexadecimal}
+use Rattle.inline_leaves.specs.declared.byte_class.ByteClass.TheVariants.{Scheme, Uri, Email, Domain}
 use Rattle.markdown_definition.specs.Autolink.{is_scheme_byte, is_uri_byte, is_email_byte, is_domain_byte}
 use Rattle.std.specs.Prelude.{Bool, if◌then◌else◌, ◌&&◌, ◌≡◌, ◌<◌, ◌≤◌, ◌+◌, ◌-◌, ℕ, true, List, [], ◌∷◌, Option, None, Some, drop, length, map, slice_index, take}
 use Rattle.markdown_options.specs.declared.configuration.Constructs.{Constructs}
@@ -9,11 +8,8 @@ use Rattle.markdown_definition.specs.HardBreak.{is_trailing_break}
 use Rattle.markdown_definition.specs.Columns.{is_white}
 use Rattle.markdown_definition.specs.Columns as columns
 use Rattle.markdown_definition.specs.Content.{content_codes, line_ending_code}
-use Rattle.markdown_definition.specs.CharacterReference.{CharacterName, Named, Numbered, CharacterReference, character_reference, number_of, numbered_text}
+use Rattle.markdown_definition.specs.CharacterReference.{number_of, numbered_text}
 use Rattle.inline_leaves.specs.declared.autolink.Address.{Address}
-use Rattle.inline_leaves.specs.declared.reference.Form.{Form}
-use Rattle.inline_leaves.specs.declared.reference.FormKind.{FormKind}
-use Rattle.inline_leaves.specs.declared.reference.FormKind.TheVariants as form
 use Rattle.markdown_definition.specs.CodeText.{code_text}
 use Rattle.markdown_definition.specs.Inline as inline
 use Rattle.markdown_definition.specs.Inline.{Inline}
@@ -104,35 +100,6 @@ is_of Scheme b = is_scheme_byte b
 is_of Uri b = is_uri_byte b
 is_of Email b = is_email_byte b
 is_of Domain b = is_domain_byte b
-is_of Name b = is_ascii_alphanumeric b
-is_of Digit b = is_ascii_digit b
-is_of Hexadecimal b = is_ascii_hexdigit b
-
--- bytes of which none is CR, before a `;`
-pub record IsValue (bytes : List ℕ) (size : ℕ) : Type 0 where
-  pub within : size < length bytes
-  pub plain : (k : ℕ) → k < size → slice_index bytes k ≡ 13 → ⊥
-  pub semicolon : slice_index bytes size ≡ 59
-
--- the name or the number that a reference's text is
-abbrev pub name_of : FormKind → List ℕ → CharacterName
-name_of form.Name text = Named text
-name_of form.Decimal digits = Numbered (number_of 10 digits)
-name_of form.Hexadecimal digits = Numbered (number_of 16 digits)
-
--- a reference by its form
-abbrev pub found_form : List ℕ → Option Form → Option CharacterReference
-found_form bytes None = None
-found_form bytes (Some found) =
-    Some (character_reference (name_of found.kind (take found.size (drop found.start bytes))) (drop (found.start + found.size + 1) bytes))
-
--- where a form stands
-pub record IsForm (bytes : List ℕ) (found : Form) : Type 0 where
-  pub start : found.start < length bytes
-  pub ascii : (k : ℕ) → k < found.start → slice_index bytes k < 128
-  pub plain : (k : ℕ) → k < found.start → slice_index bytes k ≡ 13 → ⊥
-  pub some : 0 < found.start
-  pub value : IsValue (drop found.start bytes) found.size
 
 -- the parts that a character makes
 abbrev pub character_parts : List ℕ → List Inline

@@ -15,12 +15,6 @@ pub enum ByteClass {
     Email,
     /// Of a domain: a letter, a digit, `-`, or `.` between its labels (CommonMark 6.5).
     Domain,
-    /// Of a character's name: a letter or a digit (CommonMark 2.5).
-    Name,
-    /// A decimal digit.
-    Digit,
-    /// A hexadecimal digit.
-    Hexadecimal,
 }
 
 /// Whether a byte is of a class.
@@ -36,9 +30,6 @@ pub fn is_of(class: ByteClass, byte: u8) -> bool
             byte.is_ascii_alphanumeric() || b".!#$%&'*+/=?^_`{|}~-".contains(&byte)
         }
         ByteClass::Domain => byte.is_ascii_alphanumeric() || byte == b'-' || byte == b'.',
-        ByteClass::Name => byte.is_ascii_alphanumeric(),
-        ByteClass::Digit => byte.is_ascii_digit(),
-        ByteClass::Hexadecimal => byte.is_ascii_hexdigit(),
     }
 }
 

@@ -1,5 +1,5 @@
 //! What a content begins with (CommonMark 6).
-ghost use Rattle.std.specs.Prelude.{◌≡◌, IfSome};
+ghost use Rattle.std.specs.Prelude.{◌≡◌, IfOk, IfSome};
 ghost use Rattle.markdown_definition.specs.Content.{content_codes};
 ghost use Rattle.link_parts.specs.Codes.{IsRest};
 ghost use Rattle.inline_leaves.specs.Leaves.{found_leaf, IsAfter};
@@ -13,40 +13,37 @@ use crate::line_break::{escaped_break_at, line_end_at, line_spaces_at};
 use crate::reference::reference_at;
 use crate::searches::Searches;
 use markdown_options::{Constructs, Tables};
+use std::alloc::{AllocError, Allocator};
 
-/// The construct that a rest of a content begins with, if it holds no other (CommonMark 6). What is
-/// searched for in vain is kept for later rests.
-pub fn leaf_at<'a, T: Tables>(
+/// The construct that a rest of a content begins with, if it holds no other (CommonMark 6): its first
+/// byte says which it may be. What is searched for in vain is kept for later rests.
+pub fn leaf_at<'a, T: Tables, A: Allocator + Clone>(
     on: &Constructs,
     tables: &'a T,
-    searches: &mut Searches<'a>,
+    searches: &mut Searches<'a, A>,
     rest: &'a str,
-) -> Option<Leaf<'a>>
+) -> Result<Option<Leaf<'a>>, AllocError>
     requires { IsRest searches.old.content.now rest.now }
     ensures content { searches.new.content ≡ searches.old.content }
-    ensures read { found_leaf rest.now result ≡ leaf_in on.now (T.reference_of tables.now) (content_codes rest.now) }
-    ensures place { IfSome result (λ found. IsAfter rest.now found.after.now) }
+    ensures read { IfOk result (λ found. found_leaf rest.now found ≡ leaf_in on.now (T.reference_of tables.now) (content_codes rest.now)) }
+    ensures place { IfOk result (λ found. IfSome found (λ leaf. IsAfter rest.now leaf.after.now)) }
 {
-    if let Some(found) = escape_at(on, rest) {
-        return Some(found);
+    if rest.is_empty() {
+        return Ok(None);
     }
-    if let Some(found) = escaped_break_at(on, rest) {
-        return Some(found);
+    match rest.as_bytes()[0] {
+        b'\\' => match escape_at(on, rest) {
+            Some(found) => Ok(Some(found)),
+            None => Ok(escaped_break_at(on, rest)),
+        },
+        b'&' => Ok(reference_at(on, tables, rest)),
+        b'`' => code_text_at(on, searches, rest),
+        b'<' => match autolink_at(on, rest) {
+            Some(found) => Ok(Some(found)),
+            None => Ok(searches.html_text_at(on, rest)),
+        },
+        b'\n' | b'\r' => Ok(line_end_at(rest)),
+        b' ' | b'\t' => Ok(line_spaces_at(on, rest)),
+        _ => Ok(None),
     }
-    if let Some(found) = reference_at(on, tables, rest) {
-        return Some(found);
-    }
-    if let Some(found) = code_text_at(on, rest) {
-        return Some(found);
-    }
-    if let Some(found) = autolink_at(on, rest) {
-        return Some(found);
-    }
-    if let Some(found) = searches.html_text_at(on, rest) {
-        return Some(found);
-    }
-    if let Some(found) = line_end_at(rest) {
-        return Some(found);
-    }
-    line_spaces_at(on, rest)
 }

@@ -2,6 +2,7 @@
 #![tactic(auto)]
 
 pub mod autolink;
+pub mod backticks;
 pub mod byte_class;
 pub mod code_text;
 pub mod cut;

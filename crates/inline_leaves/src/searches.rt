@@ -1,20 +1,28 @@
 //! Searches to the end of a content that found nothing, so that none is made twice.
 ghost use Rattle.std.specs.Prelude.{◌≡◌, ◌≤◌, ◌-◌, [], ◌∷◌, None, drop, length, true};
+ghost use Rattle.std.specs.Option.{ForSome};
 ghost use Rattle.markdown_definition.specs.HtmlText.{after_first};
 ghost use Rattle.link_parts.specs.Codes.{IsRest};
 ghost use Rattle.inline_leaves.specs.Html.{html_after, ClosesText};
+ghost use Rattle.inline_leaves.specs.LastRuns.{AreLastRuns};
 ghost use Rattle.inline_leaves.specs.Searched.{Lacks};
 
+use crate::backticks::{LastRun, closing_run, last_end, last_runs};
 use crate::byte_class::begins_with_letter;
 use crate::html_text::{html_text_at, text_end};
 use crate::leaf::Leaf;
 use link_parts::part::from;
 use markdown_options::Constructs;
+use std::alloc::{AllocError, Allocator};
 
-/// How much of a content's end is known to lack what closes raw HTML (CommonMark 6.6).
-#[derive(Clone, Copy)]
-pub struct Searches<'a> {
+/// How much of a content's end is known to lack what closes raw HTML (CommonMark 6.6), and where
+/// the last runs of backticks are (CommonMark 6.1).
+#[derive(Drop)]
+pub struct Searches<'a, A: Allocator> {
     content: &'a str,
+    alloc: A,
+    // They are looked for where nothing closes a run for the first time.
+    last_runs: Option<Vec<LastRun, A>>,
     // How many bytes at the content's end are known to hold no `-->`, no `?>`, no `>` and no `]]>`.
     comment: usize,
     instruction: usize,
@@ -24,24 +32,68 @@ pub struct Searches<'a> {
     ghost no_instruction: { after_first (63 ∷ 62 ∷ []) (drop (length content.now - instruction) content.now) ≡ None },
     ghost no_declaration: { after_first (62 ∷ []) (drop (length content.now - declaration) content.now) ≡ None },
     ghost no_cdata: { after_first (93 ∷ 93 ∷ 62 ∷ []) (drop (length content.now - cdata) content.now) ≡ None },
+    ghost are_last: { ForSome last_runs (λ runs. AreLastRuns content.now runs.items) },
 }
 
-impl<'a> Searches<'a> {
-    ghost use Rattle.std.specs.Prelude.{IfSome};
+impl<'a, A: Allocator + Clone> Searches<'a, A> {
+    ghost use Rattle.std.specs.Prelude.{◌<◌, IfOk, IfSome, false};
+    ghost use Rattle.std.specs.Option.{option_map};
+    ghost use Rattle.markdown_definition.specs.CodeText.{run_of};
+    ghost use Rattle.markdown_definition.specs.Runs.{run};
     ghost use Rattle.markdown_definition.specs.HtmlText.{html_text_at};
     ghost use Rattle.markdown_definition.specs.Content.{content_codes};
-    ghost use Rattle.inline_leaves.specs.Leaves.{found_leaf, IsAfter};
+    ghost use Rattle.inline_leaves.specs.Leaves.{found_leaf, IsAfter, IsRun};
 
     /// Before any search in a content.
-    pub fn new(content: &'a str) -> Searches<'a>
+    pub fn new(alloc: A, content: &'a str) -> Searches<'a, A>
         ensures { result.content ≡ content.entry }
     {
         Searches {
             content,
+            alloc,
+            last_runs: None,
             comment: 0,
             instruction: 0,
             declaration: 0,
             cdata: 0,
+        }
+    }
+
+    /// Where the first run of exactly so many backticks begins in a rest of the content that doesn't
+    /// begin with one (CommonMark 6.1).
+    pub(crate) fn closing_run(
+        &mut self,
+        rest: &[u8],
+        size: usize,
+    ) -> Result<Option<usize>, AllocError>
+        requires rest { IsRest self.old.content.now rest.now }
+        requires some { 0 < size }
+        requires outside { run 96 rest.now ≡ 0 }
+        ensures content { self.new.content ≡ self.old.content }
+        ensures read { IfOk result (λ found. option_map (λ end. drop end rest.now) found ≡ run_of 96 size false rest.now) }
+        ensures run { IfOk result (λ found. IfSome found (λ end. IsRun rest.now end size)) }
+    {
+        if self.lacks_run(rest, size) {
+            return Ok(None);
+        }
+        let found = closing_run(rest, size);
+        if found.is_none() && self.last_runs.is_none() {
+            let runs = last_runs(self.alloc.clone()?, self.content.as_bytes())?;
+            self.last_runs = Some(runs);
+        }
+        Ok(found)
+    }
+
+    /// Whether a rest of the content is known to have no run of exactly so many backticks.
+    fn lacks_run(&self, rest: &[u8], size: usize) -> bool
+        requires rest { IsRest self.now.content.now rest.now }
+        requires some { 0 < size }
+        requires outside { run 96 rest.now ≡ 0 }
+        ensures { result ≡ true → run_of 96 size false rest.now ≡ None }
+    {
+        match &self.last_runs {
+            Some(runs) => last_end(runs, size) <= self.content.len() - rest.len(),
+            None => false,
         }
     }
 

@@ -58,7 +58,7 @@ pub(crate) struct Source<'a, T, A: Allocator + Clone> {
 /// A content that is being read.
 #[derive(Drop)]
 pub(crate) struct Scanner<'a, A: Allocator> {
-    pub(crate) searches: Searches<'a>,
+    pub(crate) searches: Searches<'a, A>,
     /// What is left of it.
     pub(crate) rest: &'a str,
     pub(crate) reading: Reading<'a, A>,
@@ -81,7 +81,7 @@ pub fn inline_rows<'a, T: Tables, A: Allocator + Clone>(
         content,
     };
     let mut scanner = Scanner {
-        searches: Searches::new(content.text()),
+        searches: Searches::new(alloc.clone()?, content.text()),
         rest: after_white(content.text()),
         reading: Reading::new(alloc)?,
     };
@@ -134,7 +134,7 @@ impl<'a, A: Allocator + Clone> Scanner<'a, A> {
         if size > 0 {
             return self.text(size);
         }
-        match leaf_at(source.on, source.tables, &mut self.searches, self.rest) {
+        match leaf_at(source.on, source.tables, &mut self.searches, self.rest)? {
             Some(leaf) => self.leaf(leaf),
             None => self.run_or_label(source),
         }

@@ -3,7 +3,7 @@ use crate::compare::prints;
 use markdown::{Message, Options};
 
 /// Texts of CommonMark 6, most of them its examples.
-const INLINE: [(&str, &str); 52] = [
+const INLINE: [(&str, &str); 54] = [
     (
         "\\*not emphasized*\n\\# not a heading",
         "<p>*not emphasized*\n# not a heading</p>",
@@ -38,6 +38,14 @@ const INLINE: [(&str, &str); 52] = [
         "<p>[not a <code>link](/foo</code>)</p>",
     ),
     ("```foo``", "<p>```foo``</p>"),
+    (
+        "```a`b``c````d``e\\``f`",
+        "<p>```a<code>b``c````d``e\\``f</code></p>",
+    ),
+    (
+        "a ```b`c``d````e``f\\``g",
+        "<p>a ```b`c<code>d````e</code>f``g</p>",
+    ),
     ("a * foo bar*", "<p>a * foo bar*</p>"),
     ("a*\"foo\"*", "<p>a*&quot;foo&quot;*</p>"),
     ("*\u{A0}a\u{A0}*", "<p>*\u{A0}a\u{A0}*</p>"),

@@ -1,4 +1,4 @@
-use Rattle.std.proofs.Common.{◌≡◌, ℕ, ◌<◌, true, false, map, sym, ap, ◌∙◌, length, arith, subst, take, drop, get_or}
+use Rattle.std.proofs.Common.{IfSome, ◌≡◌, ℕ, ◌<◌, true, false, map, sym, ap, ◌∙◌, length, arith, subst, take, drop, get_or}
 use Rattle.std.specs.Str.{IsUtf8}
 use Rattle.markdown_definition.specs.Content.{content_codes}
 use Rattle.markdown_definition.specs.Inline.{Data}
@@ -60,7 +60,7 @@ run_or_label-requires-clause-first g c =
     (subst (λ bs. n < length bs → is_text_at (drop n (content_codes bs)) ≡ false) c.as_bytes.ensures.value c.text_size-size.ensures.stops) in
     follow.single_of rest (subst IsUtf8 c.as_bytes.ensures.value c.as_bytes.ensures.utf8) c.requires.some
     (texts.special_byte source.on.now (g.T.Tables.reference_of source.tables.now) rest c.requires.some none
-    (sym c.leaf_at.ensures.read ∙ ap (found_leaf rest) c.in-None.is))
+    (sym c.in_ok-leaf.ensures.read ∙ ap (found_leaf rest) c.in-None.is))
 
 pub returns-in-Some-clause-read : goal.returns-in-Some-clause-read
 returns-in-Some-clause-read g c ds final has f =
@@ -81,5 +81,6 @@ returns-in-Some-clause-read g c ds final has f =
       same =
           ap (λ r. scan.scan (context_by on names ds) 0 (read_tokens (map (λ i. Item i) (parts_of found.part)) f.now) (view_at p source.content r)) left
           ∙ follow.leaf_follows on names p ds source.content rest found.after.now (parts_of found.part) f.now final place
-          (ap (found_leaf rest) (sym c.in-Some.is) ∙ c.leaf_at.ensures.read) c.in-Some.ensures.place f.same;
+          (ap (found_leaf rest) (sym c.in-Some.is) ∙ c.in_ok-leaf.ensures.read)
+          (subst (λ o. IfSome o (λ leaf. IsAfter rest leaf.after.now)) c.in-Some.is c.in_ok-leaf.ensures.place) f.same;
     })

@@ -3,8 +3,8 @@ use Rattle.std.proofs.lemmas.Bool.{cond-true, cond-false, eq-eqb, ne_eqb}
 use Rattle.markdown_definition.specs.Runs.{run}
 use Rattle.inline_leaves.specs.Leaves.{IsRun}
 use Rattle.inline_leaves.proofs.CodeSpans.{past_here}
-use Rattle.inline_leaves.proofs.code_text.closing_run.Goals as goal
-use Rattle.inline_leaves.proofs.code_text.closing_run.Goals.{then-run-eq0, else-run-eq0}
+use Rattle.inline_leaves.proofs.backticks.closing_run.Goals as goal
+use Rattle.inline_leaves.proofs.backticks.closing_run.Goals.{then-run-eq0, else-run-eq0}
 
 pub loop-at-preserved : goal.loop-at-preserved
 loop-at-preserved c =

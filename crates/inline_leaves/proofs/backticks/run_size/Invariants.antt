@@ -1,5 +1,5 @@
 use Rattle.std.proofs.Common.{◌≡◌, ℕ, ◌<◌, get_or}
-use Rattle.inline_leaves.proofs.code_text.run_size.Given as goal
+use Rattle.inline_leaves.proofs.backticks.run_size.Given as goal
 
 -- the bytes so far are backticks
 abbrev pub invariant-loop-i : goal.invariant-loop-i

@@ -1,6 +1,6 @@
 use Rattle.std.proofs.Common.{arith, length}
 use Rattle.inline_leaves.proofs.CodeSpans.{run_is}
-use Rattle.inline_leaves.proofs.code_text.run_size.Goals as goal
+use Rattle.inline_leaves.proofs.backticks.run_size.Goals as goal
 
 pub returns-then-b-ne96-clause-size : goal.returns-then-b-ne96-clause-size
 returns-then-b-ne96-clause-size c = run_is c.args.bytes.now c.loop-i.i (omega arith) c.loop-i.invariant (λ _. c.if-b-ne96.true)
