@@ -1,7 +1,7 @@
 //! Texts in bytes.
 ghost use Rattle.std.specs.Prelude.{◌≡◌};
 ghost use Rattle.std.specs.List.{list_all};
-ghost use Rattle.markdown_definition.specs.Letters.{is_space_or_tab, same_caselessly, holds};
+ghost use Rattle.markdown_definition.specs.Letters.{is_space_or_tab, same_caselessly, holds, without_slash};
 
 pub fn is_space_or_tab(byte: u8) -> bool
     ensures { result ≡ is_space_or_tab byte }
@@ -21,6 +21,17 @@ pub fn same_caselessly(one: &[u8], other: &[u8]) -> bool
     ensures { result ≡ same_caselessly one.now other.now }
 {
     one.eq_ignore_ascii_case(other)
+}
+
+/// Bytes without the slash that they may begin with.
+pub fn without_slash(bytes: &[u8]) -> &[u8]
+    ensures { result.now ≡ without_slash bytes.now }
+{
+    if bytes.starts_with(b"/") {
+        &bytes[1..]
+    } else {
+        bytes
+    }
 }
 
 /// Whether a text stands in bytes.

@@ -5,7 +5,7 @@ ghost use Rattle.markdown_definition.specs.Letters.{begins_with_letter, without_
 ghost use Rattle.markdown_definition.specs.HtmlFlow.{element_name, after_element_name, ends_name, starts_raw, starts_declaration, begins_with_block_name, starts_basic, stands_alone, starts_complete, html_kind, begins_with_raw_end, html_ends};
 ghost use Rattle.html_lines.specs.Views.{rest_of, number_of, kind_number};
 
-use crate::bytes::{holds, is_blank, is_space_or_tab};
+use crate::bytes::{holds, is_blank, is_space_or_tab, without_slash};
 use crate::names::{is_block_name, is_raw_name};
 use crate::tags::{closing_tag, open_tag, tag_name};
 
@@ -110,16 +110,6 @@ fn starts_basic(line: &[u8]) -> bool
     ensures { result ≡ starts_basic line.now }
 {
     line.starts_with(b"<") && begins_with_block_name(without_slash(&line[1..]))
-}
-
-fn without_slash(bytes: &[u8]) -> &[u8]
-    ensures { result.now ≡ without_slash bytes.now }
-{
-    if bytes.starts_with(b"/") {
-        &bytes[1..]
-    } else {
-        bytes
-    }
 }
 
 fn begins_with_block_name(bytes: &[u8]) -> bool

@@ -1,4 +1,4 @@
-//! The names of elements that begin HTML blocks (CommonMark 4.6).
+//! Names of elements, and those that begin HTML blocks (CommonMark 4.6).
 ghost use Rattle.std.specs.Prelude.{◌≡◌};
 ghost use Rattle.std.specs.List.{list_any};
 ghost use Rattle.markdown_definition.specs.Letters.{same_caselessly};
@@ -21,7 +21,8 @@ pub fn is_block_name(name: &[u8]) -> bool
     is_one_of(&HTML_BLOCK_NAMES, name)
 }
 
-fn is_one_of(names: &[&str], name: &[u8]) -> bool
+/// Whether a name is one of these, in whatever case.
+pub fn is_one_of(names: &[&str], name: &[u8]) -> bool
     ensures { result ≡ list_any (λ n. same_caselessly n.now name.now) names.now }
 {
     names.iter().any(|n| same_caselessly(n.as_bytes(), name))

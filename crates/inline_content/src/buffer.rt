@@ -1,5 +1,5 @@
 //! The content of lines that are put together (CommonMark 4.8).
-ghost use Rattle.std.specs.Prelude.{◌≡◌, ◌≤◌, ◌++◌, ℕ, Bool, OnOk, string_bytes, length};
+ghost use Rattle.std.specs.Prelude.{◌≡◌, ◌≤◌, ◌++◌, [], ℕ, Bool, IfOk, OnOk, string_bytes, length};
 ghost use Rattle.std.specs.List.{All};
 ghost use Rattle.std.specs.List.Sorted.{IsNonDecreasingBy};
 ghost use Rattle.inline_content.specs.Marks.{mark_place};
@@ -20,8 +20,12 @@ pub struct ContentBuffer<A: Allocator> {
 }
 
 impl<A: Allocator + Clone> ContentBuffer<A> {
+    ghost use Rattle.inline_content.specs.Buffers.{buffer_view};
+
     /// The content of no lines.
-    pub fn new(alloc: A) -> Result<ContentBuffer<A>, AllocError> {
+    pub fn new(alloc: A) -> Result<ContentBuffer<A>, AllocError>
+        ensures { (is_punctuation : ℕ → Bool) → IfOk result (λ buffer. buffer_view is_punctuation buffer ≡ []) }
+    {
         Ok(ContentBuffer {
             text: String::new(alloc.clone()?),
             marks: Vec::new(alloc),

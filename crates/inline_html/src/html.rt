@@ -4,7 +4,6 @@
 ghost use Rattle.std.specs.Prelude.{◌≡◌, ◌++◌, ◌<◌, ◌≤◌, IfOk, OnOk, drop, length, string_bytes};
 ghost use Rattle.markdown_definition.specs.Content.{content_codes};
 ghost use Rattle.markdown_definition.specs.Columns.{bare};
-ghost use Rattle.markdown_definition.specs.HtmlRaw.{raw_html};
 ghost use Rattle.markdown_definition.specs.InlineHtml.{html_lines, html_text_bytes};
 ghost use Rattle.inline_html.specs.HtmlBytes.{first_bytes, PrintsEnding};
 
@@ -13,7 +12,7 @@ use inline_leaves::cut::{cut_after, text_before};
 use inline_leaves::space::{ending_at, white_size};
 use markdown_options::CompileOptions;
 use std::alloc::{AllocError, Allocator};
-use text_tools::{push_encoded, push_raw};
+use text_tools::push_html;
 
 /// Prints raw HTML in a text (CommonMark 6.6).
 pub(crate) fn push_html_text<A: Allocator>(
@@ -65,19 +64,4 @@ fn push_ending<'a, A: Allocator>(out: &mut String<A>, text: &'a str) -> Result<&
     };
     out.push_str(found.ending.as_str())?;
     Ok(cut_after(text, found.size))
-}
-
-/// Prints HTML: as it is, where that is allowed, and otherwise as text.
-fn push_html<A: Allocator>(
-    out: &mut String<A>,
-    compile: &CompileOptions,
-    html: &str,
-) -> Result<(), AllocError>
-    ensures { OnOk result (string_bytes out.new ≡ string_bytes out.old ++ raw_html compile.now html.now) }
-{
-    if compile.allow_dangerous_html {
-        push_raw(out, html, compile.gfm_tagfilter)
-    } else {
-        push_encoded(out, html)
-    }
 }

@@ -5,6 +5,7 @@ use Rattle.std.specs.List.{list_all, flat_map, prefix_len}
 use Rattle.std.specs.Char.{is_ascii_punctuation}
 use Rattle.std.proofs.lemmas.Bool.{cases_Bool, cond-true, cond-false, cond_both, both_ways, and_parts, or_parts, or_from, eqb-true, not-true}
 use Rattle.std.proofs.lemmas.Grind.{common_steps}
+use Rattle.markdown_options.specs.declared.configuration.Constructs.{Constructs}
 use Rattle.markdown_definition.specs.Columns.{is_white, indent, bare}
 use Rattle.markdown_definition.specs.Letters.{begins_with}
 use Rattle.markdown_definition.specs.Runs.{run}
@@ -54,26 +55,27 @@ line_byte b h =
 no_column : (b : ℕ) → is_line_byte b ≡ true → (b == 256) ≡ false
 no_column b h = grind (arith, common_steps)
 
-or_none : (a b : Option Leaf) → a ≡ None → b ≡ None → or_else a b ≡ None
+pub or_none : (a b : Option Leaf) → a ≡ None → b ≡ None → or_else a b ≡ None
 or_none a b e f = ap (λ x. or_else x b) e ∙ f
 
-or_first : (a b : Option Leaf) (l : Leaf) → a ≡ Some l → or_else a b ≡ Some l
+pub or_first : (a b : Option Leaf) (l : Leaf) → a ≡ Some l → or_else a b ≡ Some l
 or_first a b l e = ap (λ x. or_else x b) e
 
-module _ (context : InlineContext) (b : ℕ) (off : is_ascii_punctuation b ≡ false) (line : is_line_byte b ≡ true) where
-  no_escape : (rest : List ℕ) → escape_at context.on (b ∷ rest) ≡ None
+module _ (on : Constructs) (b : ℕ) (off : is_ascii_punctuation b ≡ false) where
+  pub no_escape : (rest : List ℕ) → escape_at on (b ∷ rest) ≡ None
   no_escape [] = refl
   no_escape (next ∷ rest) =
-      cond-false _ _ _ (and_no context.on.character_escape _ (no_and (b == 92) (is_ascii_punctuation next) (other b 92 off refl)))
+      cond-false _ _ _ (and_no on.character_escape _ (no_and (b == 92) (is_ascii_punctuation next) (other b 92 off refl)))
 
+  pub no_reference : (names : List ℕ → Option (List ℕ)) (rest : List ℕ) → reference_at on names (b ∷ rest) ≡ None
+  no_reference names rest =
+      let none : reference_form (b ∷ rest) ≡ None = cond-false (b == 38) (reference_after rest) None (other b 38 off refl) in
+      ap (λ o. cond on.character_reference (reference_of names (b ∷ rest) o) None) none
+      ∙ cond_both on.character_reference None None (λ o. o ≡ None) (λ _. refl) (λ _. refl)
+
+module _ (context : InlineContext) (b : ℕ) (off : is_ascii_punctuation b ≡ false) (line : is_line_byte b ≡ true) where
   no_break : (rest : List ℕ) → escaped_break_at context.on (b ∷ rest) ≡ None
   no_break rest = cond-false _ _ _ (and_no context.on.hard_break_escape _ (no_and (b == 92) (ends_inner_line rest) (other b 92 off refl)))
-
-  no_reference : (rest : List ℕ) → reference_at context.on context.names (b ∷ rest) ≡ None
-  no_reference rest =
-      let none : reference_form (b ∷ rest) ≡ None = cond-false (b == 38) (reference_after rest) None (other b 38 off refl) in
-      ap (λ o. cond context.on.character_reference (reference_of context.names (b ∷ rest) o) None) none
-      ∙ cond_both context.on.character_reference None None (λ o. o ≡ None) (λ _. refl) (λ _. refl)
 
   no_code : (rest : List ℕ) → code_text_at context.on (b ∷ rest) ≡ None
   no_code rest =
@@ -103,9 +105,9 @@ module _ (context : InlineContext) (b : ℕ) (off : is_ascii_punctuation b ≡ f
 
   no_leaf : (rest : List ℕ) → (is_white b ≡ true → ends_here (bare (b ∷ rest)) ≡ false) → leaf_at context (b ∷ rest) ≡ None
   no_leaf rest goes_on =
-      or_none (escape_at context.on (b ∷ rest)) _ (no_escape rest)
+      or_none (escape_at context.on (b ∷ rest)) _ (no_escape context.on b off rest)
       (or_none (escaped_break_at context.on (b ∷ rest)) _ (no_break rest)
-      (or_none (reference_at context.on context.names (b ∷ rest)) _ (no_reference rest)
+      (or_none (reference_at context.on context.names (b ∷ rest)) _ (no_reference context.on b off context.names rest)
       (or_none (code_text_at context.on (b ∷ rest)) _ (no_code rest)
       (or_none (autolink_at context.on (b ∷ rest)) _ (no_autolink rest)
       (or_none (html_text_at context.on (b ∷ rest)) _ (no_html rest)
@@ -125,10 +127,10 @@ module _ (context : InlineContext) (b : ℕ) (off : is_ascii_punctuation b ≡ f
 
 -- ---- spaces in an escaped line
 
-escaped_punctuation : (b : ℕ) (bs : List ℕ) → is_ascii_punctuation b ≡ true → escaped (b ∷ bs) ≡ 92 ∷ b ∷ escaped bs
+pub escaped_punctuation : (b : ℕ) (bs : List ℕ) → is_ascii_punctuation b ≡ true → escaped (b ∷ bs) ≡ 92 ∷ b ∷ escaped bs
 escaped_punctuation b bs on = ap (λ xs. xs ++ escaped bs) (cond-true (is_ascii_punctuation b) (92 ∷ b ∷ []) (b ∷ []) on)
 
-escaped_other : (b : ℕ) (bs : List ℕ) → is_ascii_punctuation b ≡ false → escaped (b ∷ bs) ≡ b ∷ escaped bs
+pub escaped_other : (b : ℕ) (bs : List ℕ) → is_ascii_punctuation b ≡ false → escaped (b ∷ bs) ≡ b ∷ escaped bs
 escaped_other b bs off = ap (λ xs. xs ++ escaped bs) (cond-false (is_ascii_punctuation b) (92 ∷ b ∷ []) (b ∷ []) off)
 
 white_is_space : (b : ℕ) → is_line_byte b ≡ true → is_white b ≡ true → (b == 32) ≡ true

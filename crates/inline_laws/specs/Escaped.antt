@@ -1,12 +1,15 @@
 -- Texts in which everything that might mean something is escaped (CommonMark 2.4).
-use Rattle.std.specs.Prelude.{◌≡◌, ℕ, Bool, true, false, not, if◌then◌else◌, ◌==◌, ◌&&◌, ◌||◌, nat_lt, List, [], ◌∷◌}
+use Rattle.std.specs.Prelude.{◌≡◌, ℕ, Bool, true, false, not, if◌then◌else◌, ◌==◌, ◌&&◌, ◌||◌, nat_lt, List, [], ◌∷◌, Option}
 use Rattle.std.specs.List.{flat_map, list_all}
 use Rattle.std.specs.Char.{is_ascii_punctuation}
-use Rattle.markdown_definition.specs.Content.{is_eol}
+use Rattle.markdown_options.specs.declared.configuration.Constructs.{Constructs}
+use Rattle.markdown_definition.specs.Columns.{is_white}
+use Rattle.markdown_definition.specs.Content.{content_codes, is_eol}
 use Rattle.markdown_definition.specs.Encode.{encode}
 use Rattle.markdown_definition.specs.InlineCode.{InlineCode, codes_of}
 use Rattle.markdown_definition.specs.Scan.{InlineContext, inlines}
 use Rattle.markdown_definition.specs.InlineHtml.{InlineMeaning, inline_html}
+use Rattle.markdown_definition.specs.Strings.{begins_with_eol, string_text}
 
 -- a byte, with a backslash before ASCII punctuation
 abbrev pub escaped_byte : ℕ → List ℕ
@@ -37,3 +40,23 @@ EscapeLaw =
     (context : InlineContext) (meaning : InlineMeaning) (content : List InlineCode) (text : List ℕ) → context.on.character_escape ≡ true
     → list_all is_line_byte text ≡ true → begins_with_space text ≡ false → ends_with_space text ≡ false → codes_of content ≡ escaped text
     → inline_html meaning (inlines context content) ≡ encode text
+
+-- a byte
+abbrev pub is_octet : ℕ → Bool
+is_octet b = nat_lt b 256
+
+-- a space or a tab comes first
+abbrev pub begins_with_white : List ℕ → Bool
+begins_with_white [] = false
+begins_with_white (b ∷ bs) = is_white b
+
+-- no space or tab stands beside a line ending
+abbrev pub has_bare_endings : List ℕ → Bool
+has_bare_endings [] = true
+has_bare_endings (b ∷ bs) = not (is_white b && begins_with_eol bs) && (not (is_eol b && begins_with_white bs) && has_bare_endings bs)
+
+-- a text in which no space or tab stands beside a line ending, escaped, gives itself back as a string, whatever is on besides escapes
+abbrev pub StringEscapeLaw : Type 0
+StringEscapeLaw =
+    (on : Constructs) (names : List ℕ → Option (List ℕ)) (text : List ℕ) → on.character_escape ≡ true → list_all is_octet text ≡ true
+    → has_bare_endings text ≡ true → string_text on names (content_codes (escaped text)) ≡ text

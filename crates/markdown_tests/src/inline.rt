@@ -1,6 +1,8 @@
 //! Inline constructs: texts and their HTML.
 use crate::compare::prints;
-use markdown::{Message, Options};
+use markdown::{Message, Options, fits, to_html};
+use std::io;
+use std::process::Abort;
 
 /// Texts of CommonMark 6, most of them its examples.
 const INLINE: [(&str, &str); 54] = [
@@ -150,6 +152,98 @@ const INLINE: [(&str, &str); 54] = [
     ),
 ];
 
+/// References whose definitions stand before and after them, and what they lead to.
+const REFERENCES: [(&str, &str); 18] = [
+    ("[a]\n\n[a]: b", "<p><a href=\"b\">a</a></p>\n"),
+    (
+        "> [a\n> b]\n\n[A B]: c",
+        "<blockquote>\n<p><a href=\"c\">a\nb</a></p>\n</blockquote>\n",
+    ),
+    (
+        "> [A\n> B]: c\n\n[a b]",
+        "<blockquote>\n</blockquote>\n<p><a href=\"c\">a b</a></p>",
+    ),
+    (
+        "- [a]: b\n\n[a] [c]\n\n> [c]: d",
+        "<ul>\n<li></li>\n</ul>\n<p><a href=\"b\">a</a> <a href=\"d\">c</a></p>\n<blockquote>\n</blockquote>",
+    ),
+    (
+        "[a b]: x\n\n> [a\n> b]",
+        "<blockquote>\n<p><a href=\"x\">a\nb</a></p>\n</blockquote>",
+    ),
+    ("[a]: x\n[a]: y\n\n[a]", "<p><a href=\"x\">a</a></p>"),
+    (
+        "[a][b]\n\n[b]: <x y> 't'",
+        "<p><a href=\"x%20y\" title=\"t\">a</a></p>\n",
+    ),
+    ("[a](javascript&#58;x)", "<p><a href=\"\">a</a></p>"),
+    (
+        "[a]: javascript:x\n\n![a]",
+        "<p><img src=\"\" alt=\"a\" /></p>",
+    ),
+    ("![a](javascript:b)", "<p><img src=\"\" alt=\"a\" /></p>"),
+    (
+        "![a](ftp:b)\n[a](ftp:b)",
+        "<p><img src=\"\" alt=\"a\" />\n<a href=\"\">a</a></p>",
+    ),
+    ("[a](JAVASCRIPT:b)", "<p><a href=\"\">a</a></p>"),
+    ("<javascript:a>", "<p><a href=\"\">javascript:a</a></p>"),
+    (
+        "[a](mailto:b) ![a](mailto:b)",
+        "<p><a href=\"mailto:b\">a</a> <img src=\"\" alt=\"a\" /></p>",
+    ),
+    (
+        "<https://a\u{1F44D}b%>",
+        "<p><a href=\"https://a%F0%9F%91%8Db%25\">https://a\u{1F44D}b%</a></p>",
+    ),
+    (
+        "[a]((((((((((((((((((((((((((((((((()))))))))))))))))))))))))))))))))",
+        "<p><a href=\"(((((((((((((((((((((((((((((((())))))))))))))))))))))))))))))))\">a</a></p>",
+    ),
+    (
+        "[a](((((((((((((((((((((((((((((((((())))))))))))))))))))))))))))))))))",
+        "<p>[a](((((((((((((((((((((((((((((((((())))))))))))))))))))))))))))))))))</p>",
+    ),
+    (
+        "a [b [c](#) d](#) e",
+        "<p>a [b <a href=\"#\">c</a> d](#) e</p>",
+    ),
+];
+
+/// Inline constructs beside each other and in blocks.
+const BESIDE: [(&str, &str); 15] = [
+    (
+        "## Hi, *Saturn*! \u{1FA90}",
+        "<h2>Hi, <em>Saturn</em>! \u{1FA90}</h2>",
+    ),
+    (
+        "> *a\n>*.",
+        "<blockquote>\n<p><em>a\n</em>.</p>\n</blockquote>",
+    ),
+    ("<div>\n*a*\n\n*b*", "&lt;div&gt;\n*a*\n<p><em>b</em></p>"),
+    ("a  \nb", "<p>a<br />\nb</p>"),
+    ("&ngE;&#0;", "<p>\u{2267}\u{338}\u{FFFD}</p>"),
+    ("<a@b.c>", "<p><a href=\"mailto:a@b.c\">a@b.c</a></p>"),
+    ("a <b>", "<p>a &lt;b&gt;</p>"),
+    ("`a\r\nb`", "<p><code>a b</code></p>"),
+    ("***a** b*", "<p><em><strong>a</strong> b</em></p>"),
+    ("*a `*` b*", "<p><em>a <code>*</code> b</em></p>"),
+    ("a_b_ _c_", "<p>a_b_ <em>c</em></p>"),
+    (
+        "[a *b* c](#)\n\n![a *b* c](#)",
+        "<p><a href=\"#\">a <em>b</em> c</a></p>\n<p><img src=\"#\" alt=\"a b c\" /></p>",
+    ),
+    ("a\\*b\\<c", "<p>a*b&lt;c</p>"),
+    (
+        "\\*a\\* \\& \\<b\\> \\[c\\]",
+        "<p>*a* &amp; &lt;b&gt; [c]</p>",
+    ),
+    (
+        "\\!\\\"\\#\\$\\%\\&\\'\\(\\)\\*\\+\\,\\-\\.\\/\\:\\;\\<\\=\\>\\?\\@\\[\\\\\\]\\^\\_\\`\\{\\|\\}\\~",
+        "<p>!&quot;#$%&amp;'()*+,-./:;&lt;=&gt;?@[\\]^_`{|}~</p>",
+    ),
+];
+
 #[test]
 fn prints_inline_constructs(rt: HostRuntime) -> Result<(), Message> {
     prints(&rt, &INLINE, &Options::default())
@@ -184,4 +278,49 @@ const MARKED: [(&str, &str); 13] = [
 #[test]
 fn a_mark_is_a_character(rt: HostRuntime) -> Result<(), Message> {
     prints(&rt, &MARKED, &Options::default())
+}
+
+#[test]
+fn prints_references(rt: HostRuntime) -> Result<(), Message> {
+    prints(&rt, &REFERENCES, &Options::default())
+}
+
+#[test]
+fn prints_inline_constructs_beside_others(rt: HostRuntime) -> Result<(), Message> {
+    prints(&rt, &BESIDE, &Options::default())
+}
+
+#[test]
+fn prints_many_starts(rt: HostRuntime) -> io::Result<()> {
+    let brackets = "[".repeat(rt.alloc(), 1000)?;
+    let stars = "*a ".repeat(rt.alloc(), 1000)?;
+    prints_itself(&rt, brackets.as_str())?;
+    prints_itself(&rt, stars.trim_end())
+}
+
+#[test]
+fn reads_labels_of_999_characters(rt: HostRuntime) -> io::Result<()> {
+    let label = "a".repeat(rt.alloc(), 999)?;
+    let text = format!(in rt.alloc(); "[{label}]: x\n\n[{label}]")?;
+    let page = format!(in rt.alloc(); "<p><a href=\"x\">{label}</a></p>")?;
+    prints_page(&rt, text.as_str(), page.as_str())?;
+    let text = format!(in rt.alloc(); "[a{label}]: x\n\n[a{label}]")?;
+    let page = format!(in rt.alloc(); "<p>[a{label}]: x</p>\n<p>[a{label}]</p>")?;
+    prints_page(&rt, text.as_str(), page.as_str())
+}
+
+/// The text is one paragraph that is printed as it is.
+fn prints_itself(rt: &(impl AllocGlobal + Abort), text: &str) -> io::Result<()> {
+    let page = format!(in rt.alloc(); "<p>{text}</p>")?;
+    prints_page(rt, text, page.as_str())
+}
+
+/// The text has this page.
+fn prints_page(rt: &(impl AllocGlobal + Abort), text: &str, want: &str) -> io::Result<()> {
+    assert!(rt; fits(text));
+    match to_html(rt.alloc(), text) {
+        Ok(page) => assert_eq!(rt; page.as_str(), want),
+        Err(_) => panic!(rt; "there was memory"),
+    }
+    Ok(())
 }

@@ -4,15 +4,16 @@
 //!     name         ::= one of GFM_HTML_TAGFILTER_NAMES, in whatever case, and no letter after it
 //!     end          ::= tab | line feed | form feed | return | space | '/' | '>' | end of the text
 ghost use Rattle.std.specs.Prelude.{◌≡◌, ◌++◌, IfOk, IfErr, OnOk, string_bytes};
-ghost use Rattle.std.specs.List.{list_any, take_while};
+ghost use Rattle.std.specs.List.{take_while};
 ghost use Rattle.markdown_options.specs.Messages.{IsOutOfMemory};
 ghost use Rattle.markdown_definition.specs.Encode.{plain};
 ghost use Rattle.markdown_definition.specs.HtmlNames.{is_one_of};
-ghost use Rattle.markdown_definition.specs.Letters.{is_letter, after_all, same_caselessly, without_slash};
+ghost use Rattle.markdown_definition.specs.Letters.{is_letter, after_all};
 ghost use Rattle.markdown_definition.specs.TagFilter.{begins_with_filtered_name, ends_filtered_name, filtered_names, is_filtered, tags_filtered};
 ghost use Rattle.text_tools.specs.Tools.{filtered_if};
 
 use crate::replaced::{Replacement, push_replaced};
+use html_lines::{is_one_of, without_slash};
 use markdown_options::Message;
 use markdown_options::constants::GFM_HTML_TAGFILTER_NAMES;
 use std::alloc::{AllocError, Allocator};
@@ -91,16 +92,6 @@ fn is_filtered(after: &[u8]) -> bool
     begins_with_filtered_name(without_slash(after))
 }
 
-fn without_slash(bytes: &[u8]) -> &[u8]
-    ensures { result.now ≡ without_slash bytes.now }
-{
-    if bytes.starts_with(b"/") {
-        &bytes[1..]
-    } else {
-        bytes
-    }
-}
-
 /// A filtered name, and what ends it.
 fn begins_with_filtered_name(bytes: &[u8]) -> bool
     ensures { result ≡ begins_with_filtered_name bytes.now }
@@ -127,14 +118,6 @@ fn is_filtered_name(name: &[u8]) -> bool
     ensures { result ≡ is_one_of filtered_names name.now }
 {
     is_one_of(&GFM_HTML_TAGFILTER_NAMES, name)
-}
-
-fn is_one_of(names: &[&str], name: &[u8]) -> bool
-    ensures { result ≡ list_any (λ n. same_caselessly n.now name.now) names.now }
-{
-    names
-        .iter()
-        .any(|n| n.as_bytes().eq_ignore_ascii_case(name))
 }
 
 /// Whether bytes begin with what ends a filtered name.

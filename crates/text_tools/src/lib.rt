@@ -5,6 +5,7 @@
 
 pub mod encode;
 pub mod filter;
+pub mod html;
 pub mod laws;
 mod replaced;
 #[cfg(test)]
@@ -13,6 +14,7 @@ pub mod url;
 
 pub use encode::push_encoded;
 pub use filter::{gfm_tagfilter, push_filtered, push_raw};
+pub use html::push_html;
 pub use url::{
     is_permitted, push_sanitized, push_sanitized_with_protocols, sanitize, sanitize_with_protocols,
 };

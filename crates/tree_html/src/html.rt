@@ -15,7 +15,7 @@ use crate::page::Page;
 use markdown_definition::Piece;
 use markdown_options::CompileOptions;
 use std::alloc::{AllocError, Allocator};
-use text_tools::{push_encoded, push_raw};
+use text_tools::push_html;
 
 impl<A: Allocator + Clone> Page<A> {
     /// Prints an HTML block (CommonMark 4.6).
@@ -55,20 +55,5 @@ impl<A: Allocator + Clone> Page<A> {
         ensures printed { (owed : ℕ) → OnOk result (string_bytes self.new.html ≡ string_bytes self.old.html ++ raw_html options.now (bytes_of (replicate owed tab_column ++ text.now))) }
     {
         push_html(&mut self.html, options, text)
-    }
-}
-
-/// Prints a line of HTML: as it is, where that is allowed, and otherwise as text.
-pub fn push_html<A: Allocator>(
-    out: &mut String<A>,
-    options: &CompileOptions,
-    html: &str,
-) -> Result<(), AllocError>
-    ensures { OnOk result (string_bytes out.new ≡ string_bytes out.old ++ raw_html options.now html.now) }
-{
-    if options.allow_dangerous_html {
-        push_raw(out, html, options.gfm_tagfilter)
-    } else {
-        push_encoded(out, html)
     }
 }

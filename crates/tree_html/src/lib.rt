@@ -11,5 +11,4 @@ pub mod loose;
 pub mod page;
 pub mod printer;
 
-pub use html::push_html;
 pub use printer::print_rows;

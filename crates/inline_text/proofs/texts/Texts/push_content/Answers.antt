@@ -1,4 +1,4 @@
-use Rattle.std.proofs.Common.{◌≡◌, ap, ◌∙◌}
+use Rattle.std.proofs.Common.{ap, ◌∙◌}
 use Rattle.markdown_definition.specs.Document.{context_of, document}
 use Rattle.markdown_definition.specs.Scan.{inlines}
 use Rattle.markdown_definition.specs.Targets.{linked_at, linked_by}
