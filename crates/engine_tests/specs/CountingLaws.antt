@@ -42,7 +42,7 @@ pub count_keeps : Keeps counts count_step
 unfolding count_step
 count_keeps = record {
   fed = λ size c stack n p v fed h. h;
-  moved = λ c stack s p forward h. moved_at s c stack p h;
+  moved = λ size c stack s p forward h. moved_at s c stack p h;
   called = λ c stack n h. called_at c.current c stack n h;
   ok = λ c stack a h. absurd (never stack a h);
   nok = λ c stack a h. absurd (never stack a h);
@@ -55,7 +55,7 @@ lower_at (Some b) size c stack n h = rw h (omega arith)
 
 fed_at : (size : ℕ) (c : Config Count) (stack : List Attempt) (n : Name) (p : Point) (v : Option VirtualByte) → IsFed size c.point p v → count_rank size (handed c p v) stack (states.Retry n) ≤ count_rank size c stack (states.Next n)
 fed_at size c stack n p None fed = omega arith
-fed_at size c stack n p (Some w) fed = let f = (fed.read w refl).falls in let g = fed.forward size in omega arith
+fed_at size c stack n p (Some w) fed = let f = (fed.read w refl).falls in let g = fed.forward in omega arith
 
 pub count_falls : Falls counts count_step count_rank
 unfolding count_step

@@ -1,4 +1,2 @@
-pub mod Brackets
-pub mod BracketsLaws
 pub mod Counting
 pub mod CountingLaws

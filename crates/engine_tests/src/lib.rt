@@ -1,7 +1,6 @@
 //! Machines that show the tokenizer at work, lawful by proof.
 #![tactic(auto)]
 
-pub mod brackets;
 pub mod count;
 #[cfg(test)]
 mod tests;

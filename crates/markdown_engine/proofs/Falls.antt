@@ -6,54 +6,49 @@ use Rattle.engine_events.specs.declared.place.Point.{Point}
 use Rattle.engine_events.specs.Columns.{tab_size}
 use Rattle.markdown_engine.specs.declared.virtual_text.VirtualByte.{VirtualByte}
 use Rattle.markdown_engine.specs.VirtualText.{virtual_byte, byte_before, place_in, Skips, is_before, given, tab_column, in_line, in_tab, next_line, as_byte, feeds}
-use Rattle.markdown_engine.specs.Laws.{remaining, IsFrom, IsRead, IsFed}
-use Rattle.markdown_engine.proofs.Starts.{start_from}
+use Rattle.markdown_engine.specs.Laws.{remaining, IsRead, IsFed}
+use Rattle.markdown_engine.proofs.Starts.{start_less}
 
-by_test : (P : VirtualByte → Type 0) (t : Bool) (v w : VirtualByte) → (t ≡ true → P v) → (t ≡ false → P w) → P (if t then v else w)
-by_test P true v w h k = h refl
-by_test P false v w h k = k refl
+module _ (size : ℕ) (p : Point) (low : p.index < size) where
+  Less : VirtualByte → Type 0
+  Less v = remaining size v.next < remaining size p
 
-in_reach : (t u : Bool) → t || u ≡ false → u ≡ false
-in_reach true u e = absurd (let f : true ≡ false = e in cc)
-in_reach false u e = e
+  by_test : (t : Bool) (v w : VirtualByte) → (t ≡ true → Less v) → (t ≡ false → Less w) → Less (if t then v else w)
+  by_test true v w h k = h refl
+  by_test false v w h k = k refl
 
--- what holds of the place after a byte of a line, a column of a tab, and a line ending, holds of what a byte gives
-module _ (p : Point) (P : VirtualByte → Type 0) (line : (b : ℕ) → P (as_byte b (in_line p))) (tab : (b : ℕ) → p.vs < 3 → P (as_byte b (in_tab p))) (feed : (n : ℕ) → P (as_byte 10 (next_line (n + 1) p))) where
+  tab_less : (b : ℕ) (t : Bool) → (t ≡ false → p.vs < 3) → Less (as_byte b (if t then in_line p else in_tab p))
+  unfolding Less
+  tab_less b true h = omega arith
+  tab_less b false h = let l = h refl in omega arith
+
+  feed_less : (t : Bool) → Less (as_byte 10 (next_line (if t then 2 else 1) p))
+  unfolding Less
+  feed_less true = omega arith
+  feed_less false = omega arith
+
+  line_less : (b : ℕ) → Less (as_byte b (in_line p))
+  unfolding Less
+  line_less b = omega arith
+
+  in_reach : (t u : Bool) → t || u ≡ false → u ≡ false
+  in_reach true u e = absurd (let f : true ≡ false = e in cc)
+  in_reach false u e = e
+
   below_three : nat_le 3 p.vs ≡ false → p.vs < 3
   below_three e = grind (arith, nat_tests, e)
 
-  tab_has : (b : ℕ) (t : Bool) → (t ≡ false → p.vs < 3) → P (as_byte b (if t then in_line p else in_tab p))
-  tab_has b true h = line b
-  tab_has b false h = tab b (h refl)
+  given_less : (bytes : List ℕ) (b : ℕ) → Less (given bytes p b)
+  given_less bytes b =
+      by_test (b == 9) (tab_column p) (if b == 10 then as_byte 10 (next_line 1 p) else if b == 13 then as_byte 10 (next_line (if feeds bytes (p.index + 1) then 2 else 1) p) else as_byte b (in_line p))
+      (λ _. tab_less (if p.vs == 0 then 9 else 32) ((tab_size p.column == 1) || nat_le 3 p.vs) (λ e. below_three (in_reach (tab_size p.column == 1) (nat_le 3 p.vs) e)))
+      (λ _. by_test (b == 10) (as_byte 10 (next_line 1 p)) (if b == 13 then as_byte 10 (next_line (if feeds bytes (p.index + 1) then 2 else 1) p) else as_byte b (in_line p))
+      (λ _. feed_less false)
+      (λ _. by_test (b == 13) (as_byte 10 (next_line (if feeds bytes (p.index + 1) then 2 else 1) p)) (as_byte b (in_line p)) (λ _. feed_less (feeds bytes (p.index + 1))) (λ _. line_less b)))
 
-  feed_has : (t : Bool) → P (as_byte 10 (next_line (if t then 2 else 1) p))
-  feed_has true = feed 1
-  feed_has false = feed 0
-
-  given_has : (bytes : List ℕ) (b : ℕ) → P (given bytes p b)
-  given_has bytes b =
-      by_test P (b == 9) (tab_column p) (if b == 10 then as_byte 10 (next_line 1 p) else if b == 13 then as_byte 10 (next_line (if feeds bytes (p.index + 1) then 2 else 1) p) else as_byte b (in_line p))
-      (λ _. tab_has (if p.vs == 0 then 9 else 32) ((tab_size p.column == 1) || nat_le 3 p.vs) (λ e. below_three (in_reach (tab_size p.column == 1) (nat_le 3 p.vs) e)))
-      (λ _. by_test P (b == 10) (as_byte 10 (next_line 1 p)) (if b == 13 then as_byte 10 (next_line (if feeds bytes (p.index + 1) then 2 else 1) p) else as_byte b (in_line p))
-      (λ _. feed_has false)
-      (λ _. by_test P (b == 13) (as_byte 10 (next_line (if feeds bytes (p.index + 1) then 2 else 1) p)) (as_byte b (in_line p)) (λ _. feed_has (feeds bytes (p.index + 1))) (λ _. line b)))
-
-given_falls : (size : ℕ) (p : Point) → p.index < size → (bytes : List ℕ) (b : ℕ) → remaining size (given bytes p b).next < remaining size p
-given_falls size p low bytes b =
-    given_has p (λ v. remaining size v.next < remaining size p)
-    (λ b. omega arith)
-    (λ b h. omega arith)
-    (λ n. omega arith)
-    bytes b
-
--- what a byte gives is at or after its place
-pub given_forward : (p : Point) (bytes : List ℕ) (b : ℕ) → IsFrom p (given bytes p b).next
-given_forward p bytes b =
-    given_has p (λ v. IsFrom p v.next)
-    (λ b size. omega arith)
-    (λ b h size. omega arith)
-    (λ n size. omega arith)
-    bytes b
+  pub given_falls : (bytes : List ℕ) (b : ℕ) → remaining size (given bytes p b).next < remaining size p
+  unfolding Less
+  given_falls bytes b = given_less bytes b
 
 by_tests : (t u v : Bool) → t || (u && v) ≡ true → (t ≡ true) ⊎ ((u ≡ true) × (v ≡ true))
 by_tests true u v e = inl refl
@@ -88,23 +83,15 @@ is_read bytes to p v w h k e s = pick (is_before to p) refl
         let low = within (length bytes) to p h k q in
         let f : Some (virtual_byte bytes p) ≡ Some w = sym (rw q at e) ∙ s in
         let same = some_same f in
-        record {
-          within = low;
-          falls = subst (λ (z : VirtualByte). remaining (length bytes) z.next < remaining (length bytes) p) same (given_falls (length bytes) p low bytes (slice_index bytes p.index));
-          forward = subst (λ (z : VirtualByte). IsFrom p z.next) same (given_forward p bytes (slice_index bytes p.index));
-        }
+        record { within = low; falls = subst (λ (z : VirtualByte). remaining (length bytes) z.next < remaining (length bytes) p) same (given_falls (length bytes) p low bytes (slice_index bytes p.index)) }
     pick false q = absurd (let f : None ≡ Some w = sym (rw q at e) ∙ s in cc)
 
 -- what is handed in was read
 pub is_fed : (bytes : List ℕ) (skips : Skips) (to : ℕ × ℕ) (c p : Point) (v : Option VirtualByte) → to.0 ≤ length bytes → (to.0 ≡ length bytes → to.1 ≡ 0) → p ≡ place_in skips c → v ≡ byte_before bytes to p → IsFed (length bytes) c p v
 is_fed bytes skips to c p v h k ep ev = record {
-  forward = subst (λ (z : Point). IsFrom c z) (sym ep) (start_from skips c);
+  forward = subst (λ (z : Point). remaining (length bytes) z ≤ remaining (length bytes) c) (sym ep) (start_less (length bytes) skips c);
   read = λ w s. is_read bytes to p v w h k ev s;
 }
-
--- the place after a byte is at or after its place
-pub step_from : (bytes : List ℕ) (p : Point) → IsFrom p (virtual_byte bytes p).next
-step_from bytes p = given_forward p bytes (slice_index bytes p.index)
 
 -- over a byte
 pub step_less : (bytes : List ℕ) (to : ℕ × ℕ) (p : Point) → to.0 ≤ length bytes → (to.0 ≡ length bytes → to.1 ≡ 0) → is_before to p ≡ true → remaining (length bytes) (virtual_byte bytes p).next < remaining (length bytes) p

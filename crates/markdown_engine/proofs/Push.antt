@@ -264,7 +264,7 @@ same_stack valid step to end f t u s x ec es eb k = (
 pub opened_valid : {M A : Type 0} (valid : Holds M) (step : Steps M) (keeps : Keeps valid step) (from : ℕ × ℕ) (f t : Tokenizer M A) (s : State) → Opened from f t → Refused s ⊎ valid (config f) f.attempts.items s → Refused s ⊎ valid (config t) t.attempts.items s
 opened_valid valid step keeps from f t s o (inl r) = inl r
 opened_valid valid step keeps from f t s o (inr v) =
-    inr (at_valid valid (moved o.point (config f)) (config t) f.attempts.items t.attempts.items s s (sym o.config) (sym o.attempts) refl (keeps.moved (config f) f.attempts.items s o.point o.forward v))
+    inr (at_valid valid (moved o.point (config f)) (config t) f.attempts.items t.attempts.items s s (sym o.config) (sym o.attempts) refl (keeps.moved (length f.bytes.now) (config f) f.attempts.items s o.point o.forward v))
 
 unless_refused : {P : Type 0} (s : State) → (Refused s → ⊥) → Refused s ⊎ P → P
 unless_refused s h (inl r) = absurd (h r)

@@ -6,7 +6,7 @@ use Rattle.std.specs.BTreeMap.{is_at, insert_entry}
 use Rattle.std.specs.Map.{lookup}
 use Rattle.engine_events.specs.declared.place.Point.{Point}
 use Rattle.markdown_engine.specs.VirtualText.{Skips, is_before, place_in, start_of_line}
-use Rattle.markdown_engine.specs.Laws.{remaining, IsFrom}
+use Rattle.markdown_engine.specs.Laws.{remaining}
 
 by_tests : (t u v : Bool) → t || (u && v) ≡ true → (t ≡ true) ⊎ ((u ≡ true) × (v ≡ true))
 by_tests true u v e = inl refl
@@ -74,17 +74,17 @@ forward_before to p q (inr h) e = is_before_as to p (before_before to p q h.1 (b
 pub before_start : (skips : Skips) (to : ℕ × ℕ) (p : Point) → is_before to (place_in skips p) ≡ true → is_before to p ≡ true
 before_start skips to p e = forward_before to p (place_in skips p) (place_forward skips p) e
 
-later_from : (size : ℕ) (p q : Point) → p.vs ≡ 0 → Before (q.index, q.vs) p → remaining size q ≤ remaining size p
-later_from size p q h (inl k) = omega (arith, h, k)
-later_from size p q h (inr k) = let e = k.0 in let l = k.1 in omega arith
+later_less : (size : ℕ) (p q : Point) → p.vs ≡ 0 → Before (q.index, q.vs) p → remaining size q ≤ remaining size p
+later_less size p q h (inl k) = omega arith
+later_less size p q h (inr k) = let e = k.0 in let l = k.1 in omega arith
 
-forward_from : (p q : Point) → Forward p q → IsFrom p q
-forward_from p q (inl h) size = subst (λ (z : Point). remaining size z ≤ remaining size p) (sym h) (omega arith)
-forward_from p q (inr h) size = later_from size p q h.0 h.1
+forward_less : (size : ℕ) (p q : Point) → Forward p q → remaining size q ≤ remaining size p
+forward_less size p q (inl h) = subst (λ (z : Point). remaining size z ≤ remaining size p) (sym h) (omega arith)
+forward_less size p q (inr h) = later_less size p q h.0 h.1
 
 -- what is skipped leaves no more
-pub start_from : (skips : Skips) (p : Point) → IsFrom p (place_in skips p)
-start_from skips p = forward_from p (place_in skips p) (place_forward skips p)
+pub start_less : (size : ℕ) (skips : Skips) (p : Point) → remaining size (place_in skips p) ≤ remaining size p
+start_less size skips p = forward_less size p (place_in skips p) (place_forward skips p)
 
 other_place : (n k : ℕ) → n < k → is_at (nat_cmp n) k ≡ false
 other_place n k h = unsigned_tied n k ∙ ne_eqb n k (λ e. omega arith)

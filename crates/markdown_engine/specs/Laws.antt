@@ -1,5 +1,5 @@
 -- What a machine's steps keep.
-use Rattle.std.specs.Prelude.{◌≡◌, ℕ, ◌-◌, ◌*◌, ◌<◌, ◌≤◌, min, true, false, List, [], ◌∷◌, ◌++◌, map, Option, Some}
+use Rattle.std.specs.Prelude.{◌≡◌, ℕ, ◌+◌, ◌-◌, ◌*◌, ◌<◌, ◌≤◌, true, false, List, [], ◌∷◌, ◌++◌, map, Option, Some}
 use Rattle.markdown_options.specs.declared.message.Message.{Message}
 use Rattle.engine_events.specs.declared.event.Event.{Event}
 use Rattle.engine_events.specs.declared.place.Point.{Point}
@@ -25,21 +25,16 @@ OnlyAdds {M} step = (c : Config M) (n : Name) → let e = step c n in Nested c.e
 
 -- how many bytes of the virtual text are left at most, in a text of so many bytes
 abbrev pub remaining : ℕ → Point → ℕ
-remaining size p = 4 * (size - p.index) - min p.vs 3
-
--- from a place on: there is no more left, whatever the size of the text
-abbrev pub IsFrom : Point → Point → Type 0
-IsFrom from p = (size : ℕ) → remaining size p ≤ remaining size from
+remaining size p = 4 * (size - p.index) + (3 - p.vs)
 
 -- a byte of the text was read: the place after it leaves less
 pub record IsRead (size : ℕ) (p : Point) (v : VirtualByte) : Type 0 where
   pub within : p.index < size
   pub falls : remaining size v.next < remaining size p
-  pub forward : IsFrom p v.next
 
 -- reading went on to a place, and the byte there, or the end, was read
 pub record IsFed (size : ℕ) (from p : Point) (v : Option VirtualByte) : Type 0 where
-  pub forward : IsFrom from p
+  pub forward : remaining size p ≤ remaining size from
   pub read : (w : VirtualByte) → v ≡ Some w → IsRead size p w
 
 -- what holds of a configuration, its stack and its next state
@@ -50,7 +45,7 @@ Holds M = Config M → List Attempt → State → Type 0
 pub record Keeps {M : Type 0} (valid : Holds M) (step : Steps M) : Type 0 where
   pub fed : (size : ℕ) (c : Config M) (stack : List Attempt) (n : Name) (p : Point) (v : Option VirtualByte) → IsFed size c.point p v → valid c stack (states.Next n) → valid (handed c p v) stack (states.Retry n)
   -- a range may begin at a later place
-  pub moved : (c : Config M) (stack : List Attempt) (s : State) (p : Point) → IsFrom c.point p → valid c stack s → valid (moved p c) stack s
+  pub moved : (size : ℕ) (c : Config M) (stack : List Attempt) (s : State) (p : Point) → remaining size p ≤ remaining size c.point → valid c stack s → valid (moved p c) stack s
   pub called : (c : Config M) (stack : List Attempt) (n : Name) → valid c stack (states.Retry n) → let e = step c n in valid e.config (stack ++ map mark e.pushed) e.state
   pub ok : (c : Config M) (stack : List Attempt) (a : Attempt) → valid c (stack ++ a ∷ []) states.Ok → valid (resumed a c true) stack a.ok
   pub nok : (c : Config M) (stack : List Attempt) (a : Attempt) → valid c (stack ++ a ∷ []) states.Nok → valid (resumed a c false) stack a.nok

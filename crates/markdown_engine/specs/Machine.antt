@@ -11,7 +11,7 @@ use Rattle.markdown_engine.specs.declared.tokenizer.Tokenizer.{Tokenizer}
 use Rattle.markdown_engine.specs.Reading.{Config, Effect, Frame, Steps, Outcome, Runs, ended, mark, moved}
 use Rattle.markdown_engine.specs.VirtualText.{Source, Text, Walks, is_before, is_feed, place_in, text_to}
 use Rattle.engine_events.specs.declared.place.Point.{Point}
-use Rattle.markdown_engine.specs.Laws.{Holds, IsFrom}
+use Rattle.markdown_engine.specs.Laws.{Holds, remaining}
 
 module _ {M A : Type 0} where
   abbrev pub config : Tokenizer M A → Config M
@@ -75,7 +75,7 @@ module _ {M A : Type 0} where
   pub record Opened (from : ℕ × ℕ) (old new : Tokenizer M A) : Type 0 where
     pub point : Point
     pub begins : Begins (source old) from old.point point
-    pub forward : IsFrom old.point point
+    pub forward : remaining (length old.bytes.now) point ≤ remaining (length old.bytes.now) old.point
     pub config : config new ≡ moved point (config old)
     pub attempts : new.attempts.items ≡ old.attempts.items
     pub same : Around old new

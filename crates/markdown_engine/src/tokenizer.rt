@@ -197,7 +197,6 @@ impl<'a, M, A: Allocator> Tokenizer<'a, M, A> {
     pub fn attempt(&mut self, ok: State, nok: State) -> Result<(), Message>
         ensures same { config self.new ≡ config self.old }
         ensures bytes { self.new.bytes ≡ self.old.bytes }
-        ensures skips { self.new.skips ≡ self.old.skips }
         ensures pushed { OnOk result (self.new.attempts.items ≡ self.old.attempts.items ++ mark (begun false ok nok (config self.old)) ∷ []) }
         ensures memory { IfErr result (λ message. IsOutOfMemory message) }
     {
@@ -222,7 +221,6 @@ impl<'a, M, A: Allocator> Tokenizer<'a, M, A> {
     pub fn check(&mut self, ok: State, nok: State) -> Result<(), Message>
         ensures same { config self.new ≡ config self.old }
         ensures bytes { self.new.bytes ≡ self.old.bytes }
-        ensures skips { self.new.skips ≡ self.old.skips }
         ensures pushed { OnOk result (self.new.attempts.items ≡ self.old.attempts.items ++ mark (begun true ok nok (config self.old)) ∷ []) }
         ensures memory { IfErr result (λ message. IsOutOfMemory message) }
     {

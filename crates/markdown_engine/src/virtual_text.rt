@@ -4,7 +4,7 @@
 //! each give one line feed (CommonMark 2.1). A line may be read from a later place than its start.
 ghost use Rattle.std.specs.Prelude.{◌≡◌, ◌<◌, ◌≤◌, ◌+◌, ◌-◌, ◌^◌, length};
 ghost use Rattle.markdown_engine.specs.VirtualText.{virtual_byte, tab_column, is_before, feeds, in_line, next_line, ends_before, line_start, start_of_line, Walks};
-ghost use Rattle.markdown_engine.specs.Laws.{IsFrom};
+ghost use Rattle.markdown_engine.specs.Laws.{remaining};
 
 use engine_events::Point;
 use engine_events::place::tab_size;
@@ -102,7 +102,7 @@ pub fn place_over(bytes: &[u8], point: Point, to: (usize, usize)) -> Point
     requires within { to.0 ≤ length bytes.now }
     requires column { to.0 ≡ length bytes.now → to.1 ≡ 0 }
     ensures walks { Walks bytes.now to point result }
-    ensures forward { IsFrom point result }
+    ensures forward { remaining (length bytes.now) result ≤ remaining (length bytes.now) point }
 {
     let mut place = point;
     while is_before(place, to) {

@@ -2,17 +2,17 @@ use Rattle.std.proofs.Common.{◌≡◌, ◌∙◌, ◌<◌, sym, subst, true, l
 use Rattle.markdown_engine.specs.VirtualText.{there, over, is_before}
 use Rattle.markdown_engine.specs.declared.virtual_text.VirtualByte.{VirtualByte}
 use Rattle.markdown_engine.specs.Laws.{remaining}
-use Rattle.markdown_engine.proofs.Falls.{step_less, step_from}
+use Rattle.markdown_engine.proofs.Falls.{step_less}
 use Rattle.markdown_engine.proofs.virtual_text.place_over.Invariants.{Walking}
 use Rattle.markdown_engine.proofs.virtual_text.place_over.Goals as goal
 
 pub loop-to-preserved : goal.loop-to-preserved
 loop-to-preserved c =
     let e : is_before c.args.to c.loop-to.place ≡ true = sym c.is_before.ensures ∙ c.loop-to-test.true in
-    let on = step_from c.args.bytes.now c.loop-to.place in
+    let less = step_less c.args.bytes.now c.args.to c.loop-to.place c.requires.within c.requires.column e in
     let far = c.loop-to.invariant.forward in
     subst (λ (v : VirtualByte). Walking c.args.bytes.now c.args.to c.args.point v.next) (sym c.virtual_byte.ensures)
-    (record { rest = λ q w. c.loop-to.invariant.rest q (over e w); forward = λ size. (let a = on size in let b = far size in omega (arith, a, b)) })
+    (record { rest = λ q w. c.loop-to.invariant.rest q (over e w); forward = omega (arith, less, far) })
 
 pub loop-to-smaller : goal.loop-to-smaller
 loop-to-smaller c =

@@ -1,8 +1,8 @@
-use Rattle.std.proofs.Common.{◌≡◌, ◌∙◌, refl, sym, subst, true, false, inl, inr, arith}
+use Rattle.std.proofs.Common.{◌≡◌, ◌∙◌, ◌≤◌, refl, sym, subst, true, false, inl, inr, length, arith}
 use Rattle.engine_events.specs.declared.place.Point.{Point}
 use Rattle.markdown_engine.specs.VirtualText.{Walks, is_before, place_in}
-use Rattle.markdown_engine.specs.Laws.{IsFrom}
-use Rattle.markdown_engine.proofs.Starts.{start_from}
+use Rattle.markdown_engine.specs.Laws.{remaining}
+use Rattle.markdown_engine.proofs.Starts.{start_less}
 use Rattle.markdown_engine.proofs.tokenizer.Tokenizer.move_to.Goals as goal
 
 pub returns-else-is_before : goal.returns-else-is_before
@@ -10,7 +10,7 @@ returns-else-is_before g c =
     record {
       point = c.args.self.now.point;
       begins = inl (subst (λ (z : Point). is_before c.args.from z ≡ false) c.place-place.ensures (sym c.is_before.ensures ∙ c.if-is_before.false), refl);
-      forward = λ size. omega arith;
+      forward = omega arith;
       config = refl;
       attempts = refl;
       same = record { bytes = refl; skips = refl };
@@ -19,14 +19,15 @@ returns-else-is_before g c =
 pub returns-then-is_before : goal.returns-then-is_before
 returns-then-is_before g c =
     let old = c.args.self.now in
-    let first : IsFrom (place_in old.skips.entries old.point) c.place_over-self.result = subst (λ (z : Point). IsFrom z c.place_over-self.result) c.place-place.ensures c.place_over-self.ensures.forward in
+    let less = start_less (length old.bytes.now) old.skips.entries old.point in
+    let first : remaining (length old.bytes.now) c.place_over-self.result ≤ remaining (length old.bytes.now) (place_in old.skips.entries old.point) = subst (λ (z : Point). remaining (length old.bytes.now) c.place_over-self.result ≤ remaining (length old.bytes.now) z) c.place-place.ensures c.place_over-self.ensures.forward in
     record {
       point = c.place_over-self.result;
       begins = inr (
         subst (λ (z : Point). is_before c.args.from z ≡ true) c.place-place.ensures (sym c.is_before.ensures ∙ c.if-is_before.true),
         subst (λ (z : Point). Walks old.bytes.now c.args.from z c.place_over-self.result) c.place-place.ensures c.place_over-self.ensures.walks,
       );
-      forward = λ size. (let a = start_from old.skips.entries old.point size in let b = first size in omega (arith, a, b));
+      forward = omega (arith, less, first);
       config = refl;
       attempts = refl;
       same = record { bytes = refl; skips = refl };
