@@ -1,2 +1,4 @@
 pub mod Counting
 pub mod CountingLaws
+pub mod Letters
+pub mod LettersLaws

@@ -2,5 +2,6 @@
 #![tactic(auto)]
 
 pub mod count;
+pub mod letters;
 #[cfg(test)]
 mod tests;

@@ -2,11 +2,13 @@
 use Rattle.std.specs.Prelude.{◌≡◌, ℕ, ◌+◌, ◌≤◌, Bool, true, false, if◌then◌else◌, length, [], ◌∷◌, ◌++◌, map, Option, None, ◌⊎◌}
 use Rattle.markdown_options.specs.Messages.{IsOutOfMemory}
 use Rattle.engine_events.specs.declared.event.Name.{Name}
+use Rattle.engine_events.specs.declared.event.Name.TheVariants.{Data}
 use Rattle.engine_events.specs.declared.event.Kind.TheVariants.{Enter, Exit}
 use Rattle.engine_events.specs.declared.state.State.{State}
 use Rattle.engine_events.specs.declared.state.State.TheVariants as states
 use Rattle.engine_events.specs.declared.event.Link.{Link}
 use Rattle.engine_events.specs.Events.{event}
+use Rattle.markdown_engine.specs.declared.tokenize_state.TokenizeState.{TokenizeState}
 use Rattle.markdown_engine.specs.declared.tokenizer.Tokenizer.{Tokenizer}
 use Rattle.markdown_engine.specs.Reading.{Config, Effect, Frame, Steps, Outcome, Runs, ended, mark, moved}
 use Rattle.markdown_engine.specs.VirtualText.{Source, Text, Walks, is_before, is_feed, place_in, text_to}
@@ -130,7 +132,15 @@ weight (states.Retry n) r = r + 1
 weight states.Ok r = r + 1
 weight states.Nok r = r + 1
 
+-- nothing kept
+abbrev pub nothing_kept : TokenizeState
+nothing_kept = record { marker = 0; marker_b = 0; size = 0; size_b = 0; size_c = 0; start = 0; end = 0; seen = false; token_1 = Data; token_2 = Data; token_3 = Data; token_4 = Data; token_5 = Data }
+
 module _ {M : Type 0} where
+  -- nothing was read
+  abbrev pub fresh : Point → M → Config M
+  fresh p machine = record { events = []; point = p; next = p; line_start = p; previous = None; current = None; tokenize_state = nothing_kept; machine = machine }
+
   abbrev pub entered : Name → Option Link → Config M → Config M
   entered name link c = record c { events = c.events ++ event Enter name c.point link ∷ [] }
 

@@ -76,7 +76,7 @@ impl<'a, M, A: Allocator + Clone> Tokenizer<'a, M, A> {
     ghost use Rattle.std.specs.Prelude.{◌≡◌, [], None, IfOk, IfErr, OnOk, OnErr, length, ◌≤◌};
     ghost use Rattle.std.specs.Ordering.{nat_cmp};
     ghost use Rattle.std.specs.BTreeMap.{insert_entry};
-    ghost use Rattle.markdown_engine.specs.Machine.{config};
+    ghost use Rattle.markdown_engine.specs.Machine.{config, fresh};
     ghost use Rattle.markdown_engine.specs.VirtualText.{line_start};
     ghost use Rattle.markdown_options.specs.Messages.{IsOutOfMemory};
 
@@ -89,12 +89,9 @@ impl<'a, M, A: Allocator + Clone> Tokenizer<'a, M, A> {
     ) -> Result<Tokenizer<'a, M, A>, Message>
     where
         M: Drop,
-        ensures events { IfOk result (λ tokenizer. tokenizer.events.items ≡ []) }
+        ensures config { IfOk result (λ tokenizer. config tokenizer ≡ fresh point machine) }
         ensures attempts { IfOk result (λ tokenizer. tokenizer.attempts.items ≡ []) }
         ensures bytes { IfOk result (λ tokenizer. tokenizer.bytes.now ≡ bytes.now) }
-        ensures point { IfOk result (λ tokenizer. tokenizer.point ≡ point) }
-        ensures current { IfOk result (λ tokenizer. tokenizer.current ≡ None) }
-        ensures machine { IfOk result (λ tokenizer. tokenizer.machine ≡ machine) }
         ensures skips { IfOk result (λ tokenizer. tokenizer.skips.entries ≡ []) }
         ensures memory { IfErr result (λ message. IsOutOfMemory message) }
     {
