@@ -41,11 +41,11 @@ moved_at (states.Retry n) c stack p h = h
 moved_at states.Ok c stack p h = h
 moved_at states.Nok c stack p h = h
 
-pub letter_keeps : Keeps reads_letters letter_step
+pub letter_keeps : Keeps (λ size. reads_letters) letter_step
 unfolding letter_step
-letter_keeps = record {
-  fed = λ size c stack n p v fed h. h;
-  moved = λ size c stack s p forward h. moved_at s c stack p h;
+letter_keeps size = record {
+  fed = λ c stack n p v fed h. h;
+  moved = λ c stack s p forward h. moved_at s c stack p h;
   called = λ c stack n h. called_at c.current c stack n h;
   ok = λ c stack a h. absurd (never stack a h);
   nok = λ c stack a h. absurd (never stack a h);
@@ -60,11 +60,11 @@ fed_at : (size : ℕ) (c : Config Letters) (stack : List Attempt) (n : Name) (p 
 fed_at size c stack n p None fed = omega arith
 fed_at size c stack n p (Some w) fed = let f = (fed.read w refl).falls in let g = fed.forward in omega arith
 
-pub letter_falls : Falls reads_letters letter_step letter_rank
+pub letter_falls : Falls (λ size. reads_letters) letter_step letter_rank
 unfolding letter_step
-letter_falls = record {
-  fed = λ size c stack n p v h fed. fed_at size c stack n p v fed;
-  called = λ size c stack n h. lower_at c.current size c stack n refl;
-  ok = λ size c stack a h. absurd (never stack a h);
-  nok = λ size c stack a h. absurd (never stack a h);
+letter_falls size = record {
+  fed = λ c stack n p v h fed. fed_at size c stack n p v fed;
+  called = λ c stack n h. lower_at c.current size c stack n refl;
+  ok = λ c stack a h. absurd (never stack a h);
+  nok = λ c stack a h. absurd (never stack a h);
 }

@@ -20,7 +20,7 @@ pub struct Letters;
 impl Machine for Letters {
     ghost step = { letter_step };
 
-    ghost valid = { reads_letters };
+    ghost valid = { λ size. reads_letters };
 
     ghost rank = { letter_rank };
 

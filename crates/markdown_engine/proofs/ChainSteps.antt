@@ -13,7 +13,7 @@ use Rattle.engine_chunks.specs.Chunks.{chunks, part_size}
 use Rattle.engine_chunks.specs.Parts.{counts, divided, divided_at, places_of}
 use Rattle.markdown_engine.specs.declared.tokenizer.Tokenizer.{Tokenizer}
 use Rattle.markdown_engine.specs.Chains.{Chain, chain_content, chains_from, with_chain, chunks_of, AreApart, IsPlace, ArePlaces, place_at, after_chunk, unskipped, with_chunks, end_of, chain_text, first_state, Divides, ReadsChain, MayBegin, is_empty}
-use Rattle.markdown_engine.specs.Laws.{Holds}
+use Rattle.markdown_engine.specs.Laws.{HoldsAt}
 use Rattle.markdown_engine.specs.Machine.{config, fresh, source, Flushed, Refused}
 use Rattle.markdown_engine.specs.Reading.{Config, Outcome, Steps}
 use Rattle.markdown_engine.specs.VirtualText.{Source, Text, text_to}
@@ -150,7 +150,7 @@ module _ {M A : Type 0} (events : List Event) where
   skipping_place end ks rest k t first all old e h = apart_first h.from k rest (length events) (subst (λ (z : List ℕ). AreApart h.from z (length events)) e h.apart)
 
 -- what the walk over the chains keeps
-pub record Dividing {M : Type 0} (valid : Holds M) (step : Steps M) (bytes : List ℕ) (machine : M) (events : List Event) (cs : List Chain) (acc : ℕ × ℕ) (edits : List Placed) (done : Bool) (all : List Chain) (old : List Placed) : Type 0 where
+pub record Dividing {M : Type 0} (valid : HoldsAt M) (step : Steps M) (bytes : List ℕ) (machine : M) (events : List Event) (cs : List Chain) (acc : ℕ × ℕ) (edits : List Placed) (done : Bool) (all : List Chain) (old : List Placed) : Type 0 where
   pub divides : (final : List Placed) → Divides step bytes machine events cs acc edits final → Divides step bytes machine events all (0, 0) old final
   pub left : is_empty all ≡ done && is_empty cs
   pub from : ℕ
@@ -161,7 +161,7 @@ pub record Dividing {M : Type 0} (valid : Holds M) (step : Steps M) (bytes : Lis
 pub chains_at : (filter : Option Content) (at : ℕ) (events rest : List Event) (e : Event) (b : Option Content) → events ≡ e ∷ rest → chain_content filter e ≡ b → chains_from filter at events ≡ with_chain at b (chains_from filter (at + 1) rest)
 chains_at filter at events rest e b h k = ap (λ (z : List Event). chains_from filter at z) h ∙ ap (λ (z : Option Content). with_chain at z (chains_from filter (at + 1) rest)) k
 
-module _ {M : Type 0} (valid : Holds M) (step : Steps M) (bytes : List ℕ) (machine : M) (events : List Event) where
+module _ {M : Type 0} (valid : HoldsAt M) (step : Steps M) (bytes : List ℕ) (machine : M) (events : List Event) where
   pub dividing_on : (cs rest : List Chain) (c : Chain) (children : List Event) (acc acc' : ℕ × ℕ) (edits edits' : List Placed) (done : Bool) (all : List Chain) (old : List Placed) → cs ≡ c ∷ rest → ReadsChain step bytes machine events c children
       → acc' ≡ counts events (chunks events c.0) children 0 acc.0 acc.1 → edits' ≡ divided events c.0 children acc edits
       → Dividing valid step bytes machine events cs acc edits done all old → Dividing valid step bytes machine events rest acc' edits' false all old

@@ -17,7 +17,7 @@ use Rattle.engine_edits.specs.Edits.{Placed}
 use Rattle.engine_edits.specs.Replacement.{edited}
 use Rattle.engine_chunks.specs.Chunks.{chunks}
 use Rattle.engine_chunks.specs.Parts.{counts, divided}
-use Rattle.markdown_engine.specs.Laws.{Holds}
+use Rattle.markdown_engine.specs.Laws.{HoldsAt}
 use Rattle.markdown_engine.specs.Machine.{fresh}
 use Rattle.markdown_engine.specs.Reading.{Config, Steps, Runs}
 use Rattle.markdown_engine.specs.VirtualText.{Source, Text, line_start, text_to, with_skip}
@@ -133,7 +133,7 @@ pub record Subtokenized {M : Type 0} (step : Steps M) (bytes : List ℕ) (machin
   pub edited : new ≡ edited edits old
 
 -- the machine may begin each of these chains
-abbrev pub MayBegin : {M : Type 0} → Holds M → M → List Event → List Chain → Type 0
+abbrev pub MayBegin : {M : Type 0} → HoldsAt M → M → List Event → List Chain → Type 0
 MayBegin valid machine events [] = Unit {0}
 MayBegin valid machine events (c ∷ cs) = valid (fresh (place_at events c.0) machine) [] (states.Next (first_state c.1)) × MayBegin valid machine events cs
 

@@ -13,7 +13,7 @@ use Rattle.markdown_engine.specs.declared.tokenizer.Tokenizer.{Tokenizer}
 use Rattle.markdown_engine.specs.Reading.{Config, Effect, Frame, Steps, Outcome, Runs, ended, mark, moved}
 use Rattle.markdown_engine.specs.VirtualText.{Source, Text, Walks, is_before, is_feed, place_in, text_to}
 use Rattle.engine_events.specs.declared.place.Point.{Point}
-use Rattle.markdown_engine.specs.Laws.{Holds, remaining}
+use Rattle.markdown_engine.specs.Laws.{HoldsAt, remaining}
 
 module _ {M A : Type 0} where
   abbrev pub config : Tokenizer M A → Config M
@@ -104,7 +104,7 @@ module _ {M A : Type 0} where
     pub runs : Runs (text_to from (length from.bytes, 0)) step (config old) [] given (config new) well
 
   -- what the loop of `push` keeps
-  pub record Turn (valid : Holds M) (step : Steps M) (to : ℕ × ℕ) (end : Bool) (first : Tokenizer M A) (given : State) (t : Tokenizer M A) (s : State) : Type 0 where
+  pub record Turn (valid : HoldsAt M) (step : Steps M) (to : ℕ × ℕ) (end : Bool) (first : Tokenizer M A) (given : State) (t : Tokenizer M A) (s : State) : Type 0 where
     pub same : source t ≡ source first
     pub holds : Refused s ⊎ valid (config t) t.attempts.items s
     pub reads : Refused s ⊎ GoesAll step (source first) to end given first t s

@@ -121,7 +121,7 @@ fn read_chain<M: Machine + Copy, A: Allocator + Clone>(
     requires first { first < length events.now }
     requires apart { AreApart 0 (chunks events.now first) (length events.now) }
     requires places { ArePlaces bytes.now events.now }
-    requires begins { M.valid (fresh (place_at events.now first) machine) [] (states.Next (first_state content)) }
+    requires begins { M.valid (length bytes.now) (fresh (place_at events.now first) machine) [] (states.Next (first_state content)) }
     ensures reads { IfOk result (λ children. ReadsChain M.step bytes.now machine events.now (first, content) children.items) }
     ensures memory { IfErr result (λ message. IsOutOfMemory message) }
 {
@@ -148,7 +148,7 @@ fn divide_chains<M: Machine + Copy, A: Allocator + Clone>(
 ) -> Result<bool, Message>
     requires apart { AreApart 0 (chunks_of events.now (chains filter events.now)) (length events.now) }
     requires places { ArePlaces bytes.now events.now }
-    requires begins { MayBegin M.valid machine events.now (chains filter events.now) }
+    requires begins { MayBegin (M.valid (length bytes.now)) machine events.now (chains filter events.now) }
     ensures divides { OnOk result (Divides M.step bytes.now machine events.now (chains filter events.now) (0, 0) (edits_of map.old) (edits_of map.new)) }
     ensures done { IfOk result (λ done. done ≡ is_empty (chains filter events.now)) }
     ensures memory { IfErr result (λ message. IsOutOfMemory message) }
@@ -178,7 +178,7 @@ pub fn subtokenize<M: Machine + Copy, A: Allocator + Clone>(
 ) -> Result<Subresult<A>, Message>
     requires apart { AreApart 0 (chunks_of events.old.items (chains (option_copied filter) events.old.items)) (length events.old.items) }
     requires places { ArePlaces bytes.now events.old.items }
-    requires begins { MayBegin M.valid machine events.old.items (chains (option_copied filter) events.old.items) }
+    requires begins { MayBegin (M.valid (length bytes.now)) machine events.old.items (chains (option_copied filter) events.old.items) }
     ensures read { OnOk result (Subtokenized M.step bytes.now machine (option_copied filter.entry) events.old.items events.new.items) }
     ensures done { IfOk result (λ result. result.done ≡ is_empty (chains (option_copied filter.entry) events.old.items)) }
     ensures definitions { IfOk result (λ result. result.definitions.items ≡ []) }

@@ -34,7 +34,7 @@ pub trait Machine {
 
     /// Calls a state.
     fn call<'a, A: Allocator>(tokenizer: &mut Tokenizer<'a, Self, A>, name: Name) -> State
-        requires { valid (config tokenizer.old) tokenizer.old.attempts.items (states.Retry name) }
+        requires { valid (length tokenizer.old.bytes.now) (config tokenizer.old) tokenizer.old.attempts.items (states.Retry name) }
         ensures { Answers (step (config tokenizer.old) name) tokenizer.old tokenizer.new result };
 
     // A state only adds events.
@@ -315,8 +315,8 @@ impl<'a, M: Machine, A: Allocator> Tokenizer<'a, M, A> {
     fn read(&mut self, to: (usize, usize), end: bool, state: State) -> State
         requires within { to.0 ≤ length self.old.bytes.now }
         requires column { to.0 ≡ length self.old.bytes.now → to.1 ≡ 0 }
-        requires valid { Refused state ⊎ M.valid (config self.old) self.old.attempts.items state }
-        ensures valid { Refused result ⊎ M.valid (config self.new) self.new.attempts.items result }
+        requires valid { Refused state ⊎ M.valid (length self.old.bytes.now) (config self.old) self.old.attempts.items state }
+        ensures valid { Refused result ⊎ M.valid (length self.old.bytes.now) (config self.new) self.new.attempts.items result }
         ensures reads { Pushed M.step to end state self.old self.new result }
         ensures reached { Reached to self.new result }
         ensures ends { end ≡ true → Refused result ⊎ Ended self.new result }
@@ -375,8 +375,8 @@ impl<'a, M: Machine, A: Allocator> Tokenizer<'a, M, A> {
         requires from_column { from.0 ≡ length self.old.bytes.now → from.1 ≡ 0 }
         requires within { to.0 ≤ length self.old.bytes.now }
         requires column { to.0 ≡ length self.old.bytes.now → to.1 ≡ 0 }
-        requires valid { Refused state ⊎ M.valid (config self.old) self.old.attempts.items state }
-        ensures valid { Refused result ⊎ M.valid (config self.new) self.new.attempts.items result }
+        requires valid { Refused state ⊎ M.valid (length self.old.bytes.now) (config self.old) self.old.attempts.items state }
+        ensures valid { Refused result ⊎ M.valid (length self.old.bytes.now) (config self.new) self.new.attempts.items result }
         ensures reads { PushedFrom M.step from to state self.old self.new result }
         ensures reached { Reached to self.new result }
     {
@@ -388,7 +388,7 @@ impl<'a, M: Machine, A: Allocator> Tokenizer<'a, M, A> {
     pub fn flush(&mut self, to: (usize, usize), state: State) -> State
         requires within { to.0 ≤ length self.old.bytes.now }
         requires column { to.0 ≡ length self.old.bytes.now → to.1 ≡ 0 }
-        requires valid { Refused state ⊎ M.valid (config self.old) self.old.attempts.items state }
+        requires valid { Refused state ⊎ M.valid (length self.old.bytes.now) (config self.old) self.old.attempts.items state }
         ensures { Refused result ⊎ Flushed (text_to (source self.old) to) M.step state self.old self.new result }
     {
         self.read(to, true, state)
@@ -397,7 +397,7 @@ impl<'a, M: Machine, A: Allocator> Tokenizer<'a, M, A> {
     /// Reads a text at once.
     pub fn whole(&mut self, state: State) -> State
         requires fresh { self.old.attempts.items ≡ [] }
-        requires valid { M.valid (config self.old) [] state }
+        requires valid { M.valid (length self.old.bytes.now) (config self.old) [] state }
         ensures { Refused result ⊎ ReadWhole (source self.old) M.step state self.old self.new result }
     {
         let to = (self.bytes.len(), 0);
@@ -408,7 +408,7 @@ impl<'a, M: Machine, A: Allocator> Tokenizer<'a, M, A> {
     pub fn in_two(&mut self, cut: (usize, usize), state: State) -> State
         requires cut { cut.0 < length self.old.bytes.now }
         requires fresh { self.old.attempts.items ≡ [] }
-        requires valid { M.valid (config self.old) [] state }
+        requires valid { M.valid (length self.old.bytes.now) (config self.old) [] state }
         ensures { Refused result ⊎ ReadWhole (source self.old) M.step state self.old self.new result }
     {
         let first = self.read(cut, false, state);
@@ -432,7 +432,7 @@ impl<'a, M: Machine, A: Allocator + Clone> Tokenizer<'a, M, A> {
         requires within { point.index ≤ length self.old.bytes.now }
         requires line { cut ≤ line_start self.old.bytes.now point.index }
         requires fresh { self.old.attempts.items ≡ [] }
-        requires valid { M.valid (config self.old) [] state }
+        requires valid { M.valid (length self.old.bytes.now) (config self.old) [] state }
         ensures { Refused result ⊎ ReadWhole (with_skip (source self.old) point) M.step state self.old self.new result }
     {
         let first = self.read((cut, 0), false, state);
