@@ -42,7 +42,7 @@ pub count_keeps : Keeps (λ size. counts) count_step
 unfolding count_step
 count_keeps size = record {
   fed = λ c stack n p v fed h. h;
-  moved = λ c stack s p forward h. moved_at s c stack p h;
+  moved = λ c stack s p on forward h. moved_at s c stack p h;
   called = λ c stack n h. called_at c.current c stack n h;
   ok = λ c stack a h. absurd (never stack a h);
   nok = λ c stack a h. absurd (never stack a h);

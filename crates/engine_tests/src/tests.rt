@@ -1,3 +1,4 @@
+use crate::brackets::{Brackets, read_both_ways, read_whole};
 use crate::count::Count;
 use crate::letters::{Letters, read_letters};
 use markdown_engine::event::{Content, Event, Kind, Link, Name as EventName};
@@ -119,5 +120,45 @@ fn chunks_that_lie_in_one_another_are_refused(rt: HostRuntime) -> Result<(), Fai
     events[4] = linked(events[4], Some(0), Some(0));
     let found = read_letters(&mut events, b"> ab\n> cd", Letters, None)?;
     assert!(rt; found.is_none());
+    Ok(())
+}
+
+/// Where the groups of a text of brackets begin and end.
+fn groups(rt: &HostRuntime, bytes: &[u8]) -> Result<Vec<usize>, Fail> {
+    let events = read_whole(rt.alloc(), bytes, Brackets)?;
+    let mut places = Vec::new(rt.alloc());
+    for event in &events {
+        places.push(event.point().index)?;
+    }
+    Ok(places)
+}
+
+#[test]
+fn groups_lie_in_groups(rt: HostRuntime) -> Result<(), Fail> {
+    assert_eq!(rt;
+        groups(&rt, b"(a(b)c)d()")?.as_slice(),
+        [0, 2, 5, 7, 8, 10].as_slice()
+    );
+    Ok(())
+}
+
+#[test]
+fn a_group_without_an_end_is_data(rt: HostRuntime) -> Result<(), Fail> {
+    assert!(rt; groups(&rt, b"(a(b)c")?.is_empty());
+    assert_eq!(rt; groups(&rt, b"()(a(b)c")?.as_slice(), [0, 2].as_slice());
+    assert!(rt; groups(&rt, b")()")?.is_empty());
+    Ok(())
+}
+
+#[test]
+fn a_text_is_read_the_same_cut_anywhere(rt: HostRuntime) -> Result<(), Fail> {
+    let bytes = b"(a\t(b)\r\n)(\t";
+    for index in 0..bytes.len() {
+        for column in 0..4 {
+            let both = read_both_ways(rt.alloc(), bytes, Brackets, (index, column))?;
+            assert_eq!(rt; both.0.len(), 4);
+            assert!(rt; both.0 == both.1);
+        }
+    }
     Ok(())
 }

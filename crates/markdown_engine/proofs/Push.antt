@@ -12,8 +12,8 @@ use Rattle.markdown_engine.specs.declared.virtual_text.VirtualByte.{VirtualByte}
 use Rattle.markdown_engine.specs.declared.tokenizer.Tokenizer.{Tokenizer}
 use Rattle.markdown_engine.specs.VirtualText.{Source, Text, is_before, byte_before, line_start, place_in, text_to, with_skip}
 use Rattle.markdown_engine.specs.Reading.{Config, Steps, Runs, mark, moved, resumed, chosen, handed, feed, Outcome, ended}
-use Rattle.markdown_engine.specs.Machine.{config, source, Around, Opened, IsAfter, GoesOn, Goes, GoesAll, Refused, Did, Answers, Turn, Ended, Flushed, ReadWhole, weight}
-use Rattle.markdown_engine.specs.Laws.{Holds, HoldsAt, Ranks, Keeps, KeepsAt, FallsAt, OnlyAdds, IsFed}
+use Rattle.markdown_engine.specs.Machine.{Reached, config, source, Around, Opened, IsAfter, GoesOn, Goes, GoesAll, Refused, Did, Answers, Turn, Ended, Flushed, ReadWhole, weight}
+use Rattle.markdown_engine.specs.Laws.{Holds, HoldsAt, MovesOn, Ranks, Keeps, KeepsAt, FallsAt, OnlyAdds, IsFed}
 use Rattle.markdown_engine.proofs.Outcomes.{ends, outcome_pop, outcome_retry, outcome_next}
 use Rattle.markdown_engine.proofs.Starts.{before, before_start, skip_later}
 
@@ -261,10 +261,10 @@ same_stack valid step to end f t u s x ec es eb k = (
 )
 
 -- where a range begins, what is next holds
-pub opened_valid : {M A : Type 0} (valid : Holds M) (step : Steps M) (keeps : Keeps valid step) (from : ℕ × ℕ) (f t : Tokenizer M A) (s : State) → Opened from f t → Refused s ⊎ valid (length f.bytes.now) (config f) f.attempts.items s → Refused s ⊎ valid (length f.bytes.now) (config t) t.attempts.items s
-opened_valid valid step keeps from f t s o (inl r) = inl r
-opened_valid valid step keeps from f t s o (inr v) =
-    inr (at_valid (valid (length f.bytes.now)) (moved o.point (config f)) (config t) f.attempts.items t.attempts.items s s (sym o.config) (sym o.attempts) refl ((keeps (length f.bytes.now)).moved (config f) f.attempts.items s o.point o.forward v))
+pub opened_valid : {M A : Type 0} (valid : Holds M) (step : Steps M) (keeps : Keeps valid step) (from : ℕ × ℕ) (f t : Tokenizer M A) (s : State) → MovesOn s → Opened from f t → Refused s ⊎ valid (length f.bytes.now) (config f) f.attempts.items s → Refused s ⊎ valid (length f.bytes.now) (config t) t.attempts.items s
+opened_valid valid step keeps from f t s m o (inl r) = inl r
+opened_valid valid step keeps from f t s m o (inr v) =
+    inr (at_valid (valid (length f.bytes.now)) (moved o.point (config f)) (config t) f.attempts.items t.attempts.items s s (sym o.config) (sym o.attempts) refl ((keeps (length f.bytes.now)).moved (config f) f.attempts.items s o.point m o.forward v))
 
 unless_refused : {P : Type 0} (s : State) → (Refused s → ⊥) → Refused s ⊎ P → P
 unless_refused s h (inl r) = absurd (h r)
@@ -349,3 +349,11 @@ not_refused states.Nok h r = r
 pub only_memory : {M : Type 0} (size : ℕ) (valid : HoldsAt M) (step : Steps M) (keeps : KeepsAt size valid step) (c : Config M) (stack : List Attempt) (s : State) (m : Message) → s ≡ states.Error m → Refused s ⊎ valid c stack s → Refused s
 only_memory size valid step keeps c stack s m e (inl r) = r
 only_memory size valid step keeps c stack s m e (inr v) = absurd (keeps.no_error c stack m (subst (λ (z : State). valid c stack z) e v))
+
+-- where `push` stops, a state moves on
+pub moves_on : {M A : Type 0} (to : ℕ × ℕ) (t : Tokenizer M A) (s : State) → Reached to t s → MovesOn s
+moves_on to t (states.Error m) h = h
+moves_on to t (states.Next n) h = tt
+moves_on to t (states.Retry n) h = h
+moves_on to t states.Ok h = tt
+moves_on to t states.Nok h = tt

@@ -45,11 +45,19 @@ HoldsAt M = Config M → List Attempt → State → Type 0
 abbrev pub Holds : Type 0 → Type 1
 Holds M = ℕ → HoldsAt M
 
+-- a state that doesn't read the byte at hand again
+abbrev pub MovesOn : State → Type 0
+MovesOn (states.Error m) = Unit {0}
+MovesOn (states.Next n) = Unit {0}
+MovesOn (states.Retry n) = ⊥
+MovesOn states.Ok = Unit {0}
+MovesOn states.Nok = Unit {0}
+
 -- each move of the engine keeps it
 pub record KeepsAt {M : Type 0} (size : ℕ) (valid : HoldsAt M) (step : Steps M) : Type 0 where
   pub fed : (c : Config M) (stack : List Attempt) (n : Name) (p : Point) (v : Option VirtualByte) → IsFed size c.point p v → valid c stack (states.Next n) → valid (handed c p v) stack (states.Retry n)
   -- a range may begin at a later place
-  pub moved : (c : Config M) (stack : List Attempt) (s : State) (p : Point) → remaining size p ≤ remaining size c.point → valid c stack s → valid (moved p c) stack s
+  pub moved : (c : Config M) (stack : List Attempt) (s : State) (p : Point) → MovesOn s → remaining size p ≤ remaining size c.point → valid c stack s → valid (moved p c) stack s
   pub called : (c : Config M) (stack : List Attempt) (n : Name) → valid c stack (states.Retry n) → let e = step c n in valid e.config (stack ++ map mark e.pushed) e.state
   pub ok : (c : Config M) (stack : List Attempt) (a : Attempt) → valid c (stack ++ a ∷ []) states.Ok → valid (resumed a c true) stack a.ok
   pub nok : (c : Config M) (stack : List Attempt) (a : Attempt) → valid c (stack ++ a ∷ []) states.Nok → valid (resumed a c false) stack a.nok

@@ -3,3 +3,4 @@ pub mod Reading
 pub mod Laws
 pub mod Machine
 pub mod Chains
+pub mod ReadingLaws

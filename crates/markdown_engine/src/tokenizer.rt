@@ -194,6 +194,7 @@ impl<'a, M, A: Allocator> Tokenizer<'a, M, A> {
     pub fn attempt(&mut self, ok: State, nok: State) -> Result<(), Message>
         ensures same { config self.new ≡ config self.old }
         ensures bytes { self.new.bytes ≡ self.old.bytes }
+        ensures skips { self.new.skips ≡ self.old.skips }
         ensures pushed { OnOk result (self.new.attempts.items ≡ self.old.attempts.items ++ mark (begun false ok nok (config self.old)) ∷ []) }
         ensures memory { IfErr result (λ message. IsOutOfMemory message) }
     {
@@ -218,6 +219,7 @@ impl<'a, M, A: Allocator> Tokenizer<'a, M, A> {
     pub fn check(&mut self, ok: State, nok: State) -> Result<(), Message>
         ensures same { config self.new ≡ config self.old }
         ensures bytes { self.new.bytes ≡ self.old.bytes }
+        ensures skips { self.new.skips ≡ self.old.skips }
         ensures pushed { OnOk result (self.new.attempts.items ≡ self.old.attempts.items ++ mark (begun true ok nok (config self.old)) ∷ []) }
         ensures memory { IfErr result (λ message. IsOutOfMemory message) }
     {
@@ -284,6 +286,7 @@ impl<'a, M, A: Allocator> Tokenizer<'a, M, A> {
 }
 
 impl<'a, M: Machine, A: Allocator> Tokenizer<'a, M, A> {
+    ghost use Rattle.markdown_engine.specs.Laws.{MovesOn};
     ghost use Rattle.std.specs.Prelude.{◌≡◌, ◌≤◌, ◌<◌, [], length, true, false, ◌⊎◌};
     ghost use Rattle.markdown_engine.specs.Machine.{config, source, Refused, Opened, Pushed, PushedFrom, Reached, Ended, Flushed, ReadWhole};
     ghost use Rattle.markdown_engine.specs.VirtualText.{text_to, byte_before, place_in};
@@ -369,15 +372,18 @@ impl<'a, M: Machine, A: Allocator> Tokenizer<'a, M, A> {
     ///
     /// The state is the one that was answered last. Where the ranges of a text adjoin, each begins
     /// where the last one ended, or after what is skipped there, and what is read doesn't depend on
-    /// where the text is cut. What stands before a range otherwise isn't read.
+    /// where the text is cut. What stands before a range otherwise isn't read. A state that reads the
+    /// byte at hand again is no state to begin a range with, and none is answered.
     pub fn push(&mut self, from: (usize, usize), to: (usize, usize), state: State) -> State
         requires from_within { from.0 ≤ length self.old.bytes.now }
         requires from_column { from.0 ≡ length self.old.bytes.now → from.1 ≡ 0 }
         requires within { to.0 ≤ length self.old.bytes.now }
         requires column { to.0 ≡ length self.old.bytes.now → to.1 ≡ 0 }
+        requires moves_on { MovesOn state }
         requires valid { Refused state ⊎ M.valid (length self.old.bytes.now) (config self.old) self.old.attempts.items state }
         ensures valid { Refused result ⊎ M.valid (length self.old.bytes.now) (config self.new) self.new.attempts.items result }
         ensures reads { PushedFrom M.step from to state self.old self.new result }
+        ensures moves_on { MovesOn result }
         ensures reached { Reached to self.new result }
     {
         self.move_to(from);
