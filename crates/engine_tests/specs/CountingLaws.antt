@@ -38,11 +38,11 @@ moved_at (states.Retry n) c stack p h = h
 moved_at states.Ok c stack p h = h
 moved_at states.Nok c stack p h = h
 
-pub count_keeps : Keeps counts count_step
+pub count_keeps : Keeps (λ size. counts) count_step
 unfolding count_step
-count_keeps = record {
-  fed = λ size c stack n p v fed h. h;
-  moved = λ size c stack s p forward h. moved_at s c stack p h;
+count_keeps size = record {
+  fed = λ c stack n p v fed h. h;
+  moved = λ c stack s p on forward h. moved_at s c stack p h;
   called = λ c stack n h. called_at c.current c stack n h;
   ok = λ c stack a h. absurd (never stack a h);
   nok = λ c stack a h. absurd (never stack a h);
@@ -57,11 +57,11 @@ fed_at : (size : ℕ) (c : Config Count) (stack : List Attempt) (n : Name) (p : 
 fed_at size c stack n p None fed = omega arith
 fed_at size c stack n p (Some w) fed = let f = (fed.read w refl).falls in let g = fed.forward in omega arith
 
-pub count_falls : Falls counts count_step count_rank
+pub count_falls : Falls (λ size. counts) count_step count_rank
 unfolding count_step
-count_falls = record {
-  fed = λ size c stack n p v h fed. fed_at size c stack n p v fed;
-  called = λ size c stack n h. lower_at c.current size c stack n refl;
-  ok = λ size c stack a h. absurd (never stack a h);
-  nok = λ size c stack a h. absurd (never stack a h);
+count_falls size = record {
+  fed = λ c stack n p v h fed. fed_at size c stack n p v fed;
+  called = λ c stack n h. lower_at c.current size c stack n refl;
+  ok = λ c stack a h. absurd (never stack a h);
+  nok = λ c stack a h. absurd (never stack a h);
 }

@@ -16,7 +16,7 @@ pub struct Count {
 impl Machine for Count {
     ghost step = { count_step };
 
-    ghost valid = { counts };
+    ghost valid = { λ size. counts };
 
     ghost rank = { count_rank };
 

@@ -1,4 +1,7 @@
+use crate::brackets::{Brackets, read_both_ways, read_whole};
 use crate::count::Count;
+use crate::letters::{Letters, read_letters};
+use markdown_engine::event::{Content, Event, Kind, Link, Name as EventName};
 use markdown_engine::place::Point;
 use markdown_engine::state::{Inline, Name, State};
 use markdown_engine::tokenizer::Tokenizer;
@@ -47,5 +50,115 @@ fn a_gap_in_a_line_is_not_read(rt: HostRuntime) -> Result<(), Fail> {
     let state = tokenizer.push((2, 1), (5, 0), first);
     assert_eq!(rt; tokenizer.flush((5, 0), state), State::Ok);
     assert_eq!(rt; tokenizer.machine.calls, 4);
+    Ok(())
+}
+
+/// An event on a line of a text, whose columns are bytes.
+fn at(kind: Kind, name: EventName, line: usize, column: usize, index: usize) -> Event {
+    let point = Point {
+        line,
+        column,
+        index,
+        vs: 0,
+    };
+    Event::new(kind, name, point, None)
+}
+
+/// The event with a link to its neighbours.
+fn linked(event: Event, previous: Option<usize>, next: Option<usize>) -> Event {
+    let mut event = event;
+    event.set_link(Some(Link {
+        previous,
+        next,
+        content: Content::Text,
+    }));
+    event
+}
+
+/// The events of `> ab` and `> cd`: a chunk, the mark of a container, and another chunk.
+fn quoted() -> [Event; 6] {
+    [
+        linked(at(Kind::Enter, EventName::Data, 1, 3, 2), None, Some(4)),
+        at(Kind::Exit, EventName::Data, 2, 1, 5),
+        at(Kind::Enter, EventName::BlockQuotePrefix, 2, 1, 5),
+        at(Kind::Exit, EventName::BlockQuotePrefix, 2, 3, 7),
+        linked(at(Kind::Enter, EventName::Data, 2, 3, 7), Some(0), None),
+        at(Kind::Exit, EventName::Data, 2, 5, 9),
+    ]
+}
+
+#[test]
+fn a_chain_is_read_without_marks(rt: HostRuntime) -> Result<(), Fail> {
+    let mut events = quoted().to_vec(rt.alloc())?;
+    let found = read_letters(&mut events, b"> ab\n> cd", Letters, None)?;
+    assert!(rt; !found.ok_or("the chains fit")?.done);
+    let indices = [2, 3, 3, 4, 4, 5, 5, 7, 7, 8, 8, 9];
+    assert_eq!(rt; events.len(), 12);
+    for at in 0..12 {
+        assert_eq!(rt;
+            events.get(at).ok_or("an event")?.point().index,
+            indices[at]
+        );
+    }
+    assert_eq!(rt; events[6].name, EventName::BlockQuotePrefix);
+    assert_eq!(rt; events[8].name, EventName::Data);
+    Ok(())
+}
+
+#[test]
+fn chains_of_other_contents_stay(rt: HostRuntime) -> Result<(), Fail> {
+    let mut events = quoted().to_vec(rt.alloc())?;
+    let found = read_letters(&mut events, b"> ab\n> cd", Letters, Some(&Content::String))?;
+    assert!(rt; found.ok_or("the chains fit")?.done);
+    assert_eq!(rt; events.len(), 6);
+    Ok(())
+}
+
+#[test]
+fn chunks_that_lie_in_one_another_are_refused(rt: HostRuntime) -> Result<(), Fail> {
+    let mut events = quoted().to_vec(rt.alloc())?;
+    events[4] = linked(events[4], Some(0), Some(0));
+    let found = read_letters(&mut events, b"> ab\n> cd", Letters, None)?;
+    assert!(rt; found.is_none());
+    Ok(())
+}
+
+/// Where the groups of a text of brackets begin and end.
+fn groups(rt: &HostRuntime, bytes: &[u8]) -> Result<Vec<usize>, Fail> {
+    let events = read_whole(rt.alloc(), bytes, Brackets)?;
+    let mut places = Vec::new(rt.alloc());
+    for event in &events {
+        places.push(event.point().index)?;
+    }
+    Ok(places)
+}
+
+#[test]
+fn groups_lie_in_groups(rt: HostRuntime) -> Result<(), Fail> {
+    assert_eq!(rt;
+        groups(&rt, b"(a(b)c)d()")?.as_slice(),
+        [0, 2, 5, 7, 8, 10].as_slice()
+    );
+    Ok(())
+}
+
+#[test]
+fn a_group_without_an_end_is_data(rt: HostRuntime) -> Result<(), Fail> {
+    assert!(rt; groups(&rt, b"(a(b)c")?.is_empty());
+    assert_eq!(rt; groups(&rt, b"()(a(b)c")?.as_slice(), [0, 2].as_slice());
+    assert!(rt; groups(&rt, b")()")?.is_empty());
+    Ok(())
+}
+
+#[test]
+fn a_text_is_read_the_same_cut_anywhere(rt: HostRuntime) -> Result<(), Fail> {
+    let bytes = b"(a\t(b)\r\n)(\t";
+    for index in 0..bytes.len() {
+        for column in 0..4 {
+            let both = read_both_ways(rt.alloc(), bytes, Brackets, (index, column))?;
+            assert_eq!(rt; both.0.len(), 4);
+            assert!(rt; both.0 == both.1);
+        }
+    }
     Ok(())
 }

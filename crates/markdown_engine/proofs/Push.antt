@@ -12,8 +12,8 @@ use Rattle.markdown_engine.specs.declared.virtual_text.VirtualByte.{VirtualByte}
 use Rattle.markdown_engine.specs.declared.tokenizer.Tokenizer.{Tokenizer}
 use Rattle.markdown_engine.specs.VirtualText.{Source, Text, is_before, byte_before, line_start, place_in, text_to, with_skip}
 use Rattle.markdown_engine.specs.Reading.{Config, Steps, Runs, mark, moved, resumed, chosen, handed, feed, Outcome, ended}
-use Rattle.markdown_engine.specs.Machine.{config, source, Around, Opened, IsAfter, GoesOn, Goes, GoesAll, Refused, Did, Answers, Turn, Ended, Flushed, ReadWhole, weight}
-use Rattle.markdown_engine.specs.Laws.{Holds, Ranks, Keeps, Falls, OnlyAdds, IsFed}
+use Rattle.markdown_engine.specs.Machine.{Reached, config, source, Around, Opened, IsAfter, GoesOn, Goes, GoesAll, Refused, Did, Answers, Turn, Ended, Flushed, ReadWhole, weight}
+use Rattle.markdown_engine.specs.Laws.{Holds, HoldsAt, MovesOn, Ranks, Keeps, KeepsAt, FallsAt, OnlyAdds, IsFed}
 use Rattle.markdown_engine.proofs.Outcomes.{ends, outcome_pop, outcome_retry, outcome_next}
 use Rattle.markdown_engine.proofs.Starts.{before, before_start, skip_later}
 
@@ -89,21 +89,21 @@ weight_ended false n = refl
 weight_known : (x y : State) (n : ℕ) → x ≡ y → weight y n ≡ n + 1 → weight x n ≡ n + 1
 weight_known x y n e h = subst (λ (z : State). weight z n ≡ n + 1) (sym e) h
 
-module _ {M : Type 0} (valid : Holds M) where
+module _ {M : Type 0} (valid : HoldsAt M) where
   at_valid : (c d : Config M) (s t : List Attempt) (x y : State) → c ≡ d → s ≡ t → x ≡ y → valid c s x → valid d t y
   at_valid c d s t x y p q r h = subst (λ (z : State). valid d t z) r (subst (λ (z : List Attempt). valid d z x) q (subst (λ (z : Config M). valid z s x) p h))
 
-module _ {M : Type 0} (valid : Holds M) (step : Steps M) (keeps : Keeps valid step) where
+module _ {M : Type 0} (size : ℕ) (valid : HoldsAt M) (step : Steps M) (keeps : KeepsAt size valid step) where
   kept_pop : (v : Bool) (stack : List Attempt) (a : Attempt) (c : Config M) → valid c (stack ++ a ∷ []) (ended v) → valid (resumed a c v) stack (chosen a v)
   kept_pop true stack a c h = keeps.ok c stack a h
   kept_pop false stack a c h = keeps.nok c stack a h
 
-module _ {M : Type 0} (valid : Holds M) (step : Steps M) (rank : Ranks M) (falls : Falls valid step rank) where
-  falls_pop : (v : Bool) (to : ℕ) (stack : List Attempt) (a : Attempt) (c : Config M) → valid c (stack ++ a ∷ []) (ended v) → rank to (resumed a c v) stack (chosen a v) < rank to c (stack ++ a ∷ []) (ended v)
-  falls_pop true to stack a c h = falls.ok to c stack a h
-  falls_pop false to stack a c h = falls.nok to c stack a h
+module _ {M : Type 0} (size : ℕ) (valid : HoldsAt M) (step : Steps M) (rank : Ranks M) (falls : FallsAt size valid step rank) where
+  falls_pop : (v : Bool) (stack : List Attempt) (a : Attempt) (c : Config M) → valid c (stack ++ a ∷ []) (ended v) → rank size (resumed a c v) stack (chosen a v) < rank size c (stack ++ a ∷ []) (ended v)
+  falls_pop true stack a c h = falls.ok c stack a h
+  falls_pop false stack a c h = falls.nok c stack a h
 
-module _ {M A : Type 0} (valid : Holds M) (step : Steps M) (rank : Ranks M) (adds : OnlyAdds step) (keeps : Keeps valid step) (falls : Falls valid step rank) where
+module _ {M A : Type 0} (size : ℕ) (valid : HoldsAt M) (step : Steps M) (rank : Ranks M) (adds : OnlyAdds step) (keeps : KeepsAt size valid step) (falls : FallsAt size valid step rank) where
   pub is_valid : (to : ℕ × ℕ) (end : Bool) (f t : Tokenizer M A) (s x y : State) → x ≡ y → (Refused y → ⊥) → Turn valid step to end f s t x → valid (config t) t.attempts.items y
   is_valid to end f t s x y e h k = subst (λ (z : State). valid (config t) t.attempts.items z) e (unless x (λ r. h (at_refused x y e r)) k.holds)
 
@@ -112,7 +112,7 @@ module _ {M A : Type 0} (valid : Holds M) (step : Steps M) (rank : Ranks M) (add
       let k : valid (config t) (u.attempts.items ++ a ∷ []) (ended v) = subst (λ (z : List Attempt). valid (config t) z (ended v)) p (is_valid to end f t s x (ended v) ex (not_ended v) h) in
       record {
         same = b ∙ h.same;
-        holds = inr (at_valid valid (resumed a (config t) v) (config u) u.attempts.items u.attempts.items (chosen a v) y (sym q) refl (sym ey) (kept_pop valid step keeps v u.attempts.items a (config t) k));
+        holds = inr (at_valid valid (resumed a (config t) v) (config u) u.attempts.items u.attempts.items (chosen a v) y (sym q) refl (sym ey) (kept_pop size valid step keeps v u.attempts.items a (config t) k));
         reads = elim h.reads [ inl r ↦ absurd (not_ended v (at_refused x (ended v) ex r)) | inr g ↦ inr (λ more limit on. goes_pop (text_to more limit) step adds v a f t u s x y ex ey p q (g more limit on)) ];
       }
 
@@ -129,70 +129,70 @@ module _ {M A : Type 0} (valid : Holds M) (step : Steps M) (rank : Ranks M) (add
         }
       ]
 
-  pub valid_fed : (n : Name) (p : Point) (b : Option VirtualByte) (size : ℕ) (to : ℕ × ℕ) (end : Bool) (f t v : Tokenizer M A) (s x : State) → IsFed size t.point p b → x ≡ states.Next n
+  pub valid_fed : (n : Name) (p : Point) (b : Option VirtualByte) (to : ℕ × ℕ) (end : Bool) (f t v : Tokenizer M A) (s x : State) → IsFed size t.point p b → x ≡ states.Next n
       → config v ≡ handed (config t) p b → v.attempts.items ≡ t.attempts.items → Turn valid step to end f s t x → valid (config v) v.attempts.items (states.Retry n)
-  valid_fed n p b size to end f t v s x read ex ec es k =
+  valid_fed n p b to end f t v s x read ex ec es k =
       let h : valid (config t) t.attempts.items (states.Next n) = is_valid to end f t s x (states.Next n) ex (λ r. r) k in
-      at_valid valid (handed (config t) p b) (config v) t.attempts.items v.attempts.items (states.Retry n) (states.Retry n) (sym ec) (sym es) refl (keeps.fed size (config t) t.attempts.items n p b read h)
+      at_valid valid (handed (config t) p b) (config v) t.attempts.items v.attempts.items (states.Retry n) (states.Retry n) (sym ec) (sym es) refl (keeps.fed (config t) t.attempts.items n p b read h)
 
-  pub turn_next : (n : Name) (p : Point) (b : Option VirtualByte) (size : ℕ) (to : ℕ × ℕ) (end : Bool) (f t v u : Tokenizer M A) (s x y : State) → IsFed size t.point p b → x ≡ states.Next n
+  pub turn_next : (n : Name) (p : Point) (b : Option VirtualByte) (to : ℕ × ℕ) (end : Bool) (f t v u : Tokenizer M A) (s x y : State) → IsFed size t.point p b → x ≡ states.Next n
       → config v ≡ handed (config t) p b → v.attempts.items ≡ t.attempts.items → source v ≡ source t
       → ((more : Source) (limit : ℕ × ℕ) → GoesOn (source f) to end more limit → IsThere more limit t.point p b)
       → Answers (step (config v) n) v u y → Turn valid step to end f s t x → Turn valid step to end f s u y
-  turn_next n p b size to end f t v u s x y read ex ec es eb text h k =
+  turn_next n p b to end f t v u s x y read ex ec es eb text h k =
       let e = step (config v) n in
       let bs : source u ≡ source f = around v u h.0 ∙ (eb ∙ k.same) in
       elim h.1 [
         | inl r ↦ record { same = bs; holds = inl r; reads = inl r }
         | inr did ↦ record {
           same = bs;
-          holds = inr (at_valid valid e.config (config u) (v.attempts.items ++ map mark e.pushed) u.attempts.items e.state y (sym did.config) (sym did.attempts) (sym did.state) (keeps.called (config v) v.attempts.items n (valid_fed n p b size to end f t v s x read ex ec es k)));
+          holds = inr (at_valid valid e.config (config u) (v.attempts.items ++ map mark e.pushed) u.attempts.items e.state y (sym did.config) (sym did.attempts) (sym did.state) (keeps.called (config v) v.attempts.items n (valid_fed n p b to end f t v s x read ex ec es k)));
           reads = elim k.reads [ inl r ↦ absurd (at_refused x (states.Next n) ex r) | inr g ↦ inr (λ more limit on. goes_next (text_to more limit) step adds n f t v u s x y ex (ec ∙ fed_as more limit (config t) p b (text more limit on)) es did (g more limit on)) ];
         }
       ]
 
-  smaller_by : (to : ℕ) (t u : Tokenizer M A) (x y : State) → rank to (config u) u.attempts.items y < rank to (config t) t.attempts.items x → weight x (rank to (config t) t.attempts.items x) ≡ rank to (config t) t.attempts.items x + 1 → weight y (rank to (config u) u.attempts.items y) < weight x (rank to (config t) t.attempts.items x)
-  smaller_by to t u x y h k = let m = weight_most y (rank to (config u) u.attempts.items y) in omega arith
+  smaller_by : (t u : Tokenizer M A) (x y : State) → rank size (config u) u.attempts.items y < rank size (config t) t.attempts.items x → weight x (rank size (config t) t.attempts.items x) ≡ rank size (config t) t.attempts.items x + 1 → weight y (rank size (config u) u.attempts.items y) < weight x (rank size (config t) t.attempts.items x)
+  smaller_by t u x y h k = let m = weight_most y (rank size (config u) u.attempts.items y) in omega arith
 
-  pub smaller_pop : (v : Bool) (a : Attempt) (size : ℕ) (to : ℕ × ℕ) (end : Bool) (f t u : Tokenizer M A) (s x y : State) → x ≡ ended v → y ≡ chosen a v → t.attempts.items ≡ u.attempts.items ++ a ∷ [] → config u ≡ resumed a (config t) v → Turn valid step to end f s t x → weight y (rank size (config u) u.attempts.items y) < weight x (rank size (config t) t.attempts.items x)
-  smaller_pop v a size to end f t u s x y ex ey p q h =
+  pub smaller_pop : (v : Bool) (a : Attempt) (to : ℕ × ℕ) (end : Bool) (f t u : Tokenizer M A) (s x y : State) → x ≡ ended v → y ≡ chosen a v → t.attempts.items ≡ u.attempts.items ++ a ∷ [] → config u ≡ resumed a (config t) v → Turn valid step to end f s t x → weight y (rank size (config u) u.attempts.items y) < weight x (rank size (config t) t.attempts.items x)
+  smaller_pop v a to end f t u s x y ex ey p q h =
       let k : valid (config t) (u.attempts.items ++ a ∷ []) (ended v) = subst (λ (z : List Attempt). valid (config t) z (ended v)) p (is_valid to end f t s x (ended v) ex (not_ended v) h) in
-      let lower = falls_pop valid step rank falls v size u.attempts.items a (config t) k in
+      let lower = falls_pop size valid step rank falls v u.attempts.items a (config t) k in
       let at_u : rank size (config u) u.attempts.items y ≡ rank size (resumed a (config t) v) u.attempts.items (chosen a v) = cc in
       let at_t : rank size (config t) t.attempts.items x ≡ rank size (config t) (u.attempts.items ++ a ∷ []) (ended v) = cc in
-      smaller_by size t u x y (omega arith) (weight_known x (ended v) (rank size (config t) t.attempts.items x) ex (weight_ended v (rank size (config t) t.attempts.items x)))
+      smaller_by t u x y (omega arith) (weight_known x (ended v) (rank size (config t) t.attempts.items x) ex (weight_ended v (rank size (config t) t.attempts.items x)))
 
-  pub smaller_retry : (n : Name) (size : ℕ) (to : ℕ × ℕ) (end : Bool) (f t u : Tokenizer M A) (s x y : State) → x ≡ states.Retry n → Answers (step (config t) n) t u y → Turn valid step to end f s t x → weight y (rank size (config u) u.attempts.items y) < weight x (rank size (config t) t.attempts.items x)
-  smaller_retry n size to end f t u s x y ex a k =
+  pub smaller_retry : (n : Name) (to : ℕ × ℕ) (end : Bool) (f t u : Tokenizer M A) (s x y : State) → x ≡ states.Retry n → Answers (step (config t) n) t u y → Turn valid step to end f s t x → weight y (rank size (config u) u.attempts.items y) < weight x (rank size (config t) t.attempts.items x)
+  smaller_retry n to end f t u s x y ex a k =
       let h : valid (config t) t.attempts.items (states.Retry n) = is_valid to end f t s x (states.Retry n) ex (λ r. r) k in
       let top : weight x (rank size (config t) t.attempts.items x) ≡ rank size (config t) t.attempts.items x + 1 = weight_known x (states.Retry n) (rank size (config t) t.attempts.items x) ex refl in
       elim a.1 [
         | inl r ↦ (let z = weight_refused y (rank size (config u) u.attempts.items y) r in omega arith)
         | inr did ↦ (
-            let lower = falls.called size (config t) t.attempts.items n h in
+            let lower = falls.called (config t) t.attempts.items n h in
             let e = step (config t) n in
             let at_u : rank size (config u) u.attempts.items y ≡ rank size e.config (t.attempts.items ++ map mark e.pushed) e.state = cc in
             let at_t : rank size (config t) t.attempts.items x ≡ rank size (config t) t.attempts.items (states.Retry n) = cc in
-            smaller_by size t u x y (omega arith) top)
+            smaller_by t u x y (omega arith) top)
       ]
 
-  pub smaller_next : (n : Name) (p : Point) (b : Option VirtualByte) (size : ℕ) (to : ℕ × ℕ) (end : Bool) (f t v u : Tokenizer M A) (s x y : State) → IsFed size t.point p b → x ≡ states.Next n
+  pub smaller_next : (n : Name) (p : Point) (b : Option VirtualByte) (to : ℕ × ℕ) (end : Bool) (f t v u : Tokenizer M A) (s x y : State) → IsFed size t.point p b → x ≡ states.Next n
       → config v ≡ handed (config t) p b → v.attempts.items ≡ t.attempts.items
       → Answers (step (config v) n) v u y → Turn valid step to end f s t x → weight y (rank size (config u) u.attempts.items y) < weight x (rank size (config t) t.attempts.items x)
-  smaller_next n p b size to end f t v u s x y read ex ec es a k =
+  smaller_next n p b to end f t v u s x y read ex ec es a k =
       let h : valid (config t) t.attempts.items (states.Next n) = is_valid to end f t s x (states.Next n) ex (λ r. r) k in
-      let hv = valid_fed n p b size to end f t v s x read ex ec es k in
+      let hv = valid_fed n p b to end f t v s x read ex ec es k in
       let top : weight x (rank size (config t) t.attempts.items x) ≡ rank size (config t) t.attempts.items x + 1 = weight_known x (states.Next n) (rank size (config t) t.attempts.items x) ex refl in
       elim a.1 [
         | inl r ↦ (let z = weight_refused y (rank size (config u) u.attempts.items y) r in omega arith)
         | inr did ↦ (
-            let lower = falls.called size (config v) v.attempts.items n hv in
-            let fed = falls.fed size (config t) t.attempts.items n p b h read in
+            let lower = falls.called (config v) v.attempts.items n hv in
+            let fed = falls.fed (config t) t.attempts.items n p b h read in
             let e = step (config v) n in
             let at_u : rank size (config u) u.attempts.items y ≡ rank size e.config (v.attempts.items ++ map mark e.pushed) e.state = cc in
             let at_v : rank size (config v) v.attempts.items (states.Retry n) ≡ rank size (handed (config t) p b) t.attempts.items (states.Retry n) = cc in
             let at_t : rank size (config t) t.attempts.items x ≡ rank size (config t) t.attempts.items (states.Next n) = cc in
-            smaller_by size t u x y (omega arith) top)
+            smaller_by t u x y (omega arith) top)
       ]
 
 by_tests : (t u v : Bool) → t || (u && v) ≡ true → (t ≡ true) ⊎ ((u ≡ true) × (v ≡ true))
@@ -248,7 +248,7 @@ at_end b n end h (inl k) e = k.1
 at_end b n end h (inr k) e = absurd (let f : false ≡ true = sym (ap is_some e) ∙ (h ∙ ap not k) in cc)
 
 -- the stack has the same attempts
-pub same_stack : {M A : Type 0} (valid : Holds M) (step : Steps M) (to : ℕ × ℕ) (end : Bool) (f t u : Tokenizer M A) (s x : State) → config u ≡ config t → t.attempts.items ≡ u.attempts.items ++ [] → source u ≡ source t
+pub same_stack : {M A : Type 0} (valid : HoldsAt M) (step : Steps M) (to : ℕ × ℕ) (end : Bool) (f t u : Tokenizer M A) (s x : State) → config u ≡ config t → t.attempts.items ≡ u.attempts.items ++ [] → source u ≡ source t
     → Turn valid step to end f s t x → (source u ≡ source f) × (Refused x ⊎ GoesAll step (source f) to end s f u x)
 same_stack valid step to end f t u s x ec es eb k = (
   eb ∙ k.same,
@@ -261,10 +261,10 @@ same_stack valid step to end f t u s x ec es eb k = (
 )
 
 -- where a range begins, what is next holds
-pub opened_valid : {M A : Type 0} (valid : Holds M) (step : Steps M) (keeps : Keeps valid step) (from : ℕ × ℕ) (f t : Tokenizer M A) (s : State) → Opened from f t → Refused s ⊎ valid (config f) f.attempts.items s → Refused s ⊎ valid (config t) t.attempts.items s
-opened_valid valid step keeps from f t s o (inl r) = inl r
-opened_valid valid step keeps from f t s o (inr v) =
-    inr (at_valid valid (moved o.point (config f)) (config t) f.attempts.items t.attempts.items s s (sym o.config) (sym o.attempts) refl (keeps.moved (length f.bytes.now) (config f) f.attempts.items s o.point o.forward v))
+pub opened_valid : {M A : Type 0} (valid : Holds M) (step : Steps M) (keeps : Keeps valid step) (from : ℕ × ℕ) (f t : Tokenizer M A) (s : State) → MovesOn s → Opened from f t → Refused s ⊎ valid (length f.bytes.now) (config f) f.attempts.items s → Refused s ⊎ valid (length f.bytes.now) (config t) t.attempts.items s
+opened_valid valid step keeps from f t s m o (inl r) = inl r
+opened_valid valid step keeps from f t s m o (inr v) =
+    inr (at_valid (valid (length f.bytes.now)) (moved o.point (config f)) (config t) f.attempts.items t.attempts.items s s (sym o.config) (sym o.attempts) refl ((keeps (length f.bytes.now)).moved (config f) f.attempts.items s o.point m o.forward v))
 
 unless_refused : {P : Type 0} (s : State) → (Refused s → ⊥) → Refused s ⊎ P → P
 unless_refused s h (inl r) = absurd (h r)
@@ -346,6 +346,14 @@ not_refused states.Ok h r = r
 not_refused states.Nok h r = r
 
 -- an error comes of want of memory
-pub only_memory : {M : Type 0} (valid : Holds M) (step : Steps M) (keeps : Keeps valid step) (c : Config M) (stack : List Attempt) (s : State) (m : Message) → s ≡ states.Error m → Refused s ⊎ valid c stack s → Refused s
-only_memory valid step keeps c stack s m e (inl r) = r
-only_memory valid step keeps c stack s m e (inr v) = absurd (keeps.no_error c stack m (subst (λ (z : State). valid c stack z) e v))
+pub only_memory : {M : Type 0} (size : ℕ) (valid : HoldsAt M) (step : Steps M) (keeps : KeepsAt size valid step) (c : Config M) (stack : List Attempt) (s : State) (m : Message) → s ≡ states.Error m → Refused s ⊎ valid c stack s → Refused s
+only_memory size valid step keeps c stack s m e (inl r) = r
+only_memory size valid step keeps c stack s m e (inr v) = absurd (keeps.no_error c stack m (subst (λ (z : State). valid c stack z) e v))
+
+-- where `push` stops, a state moves on
+pub moves_on : {M A : Type 0} (to : ℕ × ℕ) (t : Tokenizer M A) (s : State) → Reached to t s → MovesOn s
+moves_on to t (states.Error m) h = h
+moves_on to t (states.Next n) h = tt
+moves_on to t (states.Retry n) h = h
+moves_on to t states.Ok h = tt
+moves_on to t states.Nok h = tt

@@ -38,30 +38,48 @@ pub record IsFed (size : ℕ) (from p : Point) (v : Option VirtualByte) : Type 0
   pub read : (w : VirtualByte) → v ≡ Some w → IsRead size p w
 
 -- what holds of a configuration, its stack and its next state
+abbrev pub HoldsAt : Type 0 → Type 1
+HoldsAt M = Config M → List Attempt → State → Type 0
+
+-- the same in a text of so many bytes
 abbrev pub Holds : Type 0 → Type 1
-Holds M = Config M → List Attempt → State → Type 0
+Holds M = ℕ → HoldsAt M
+
+-- a state that doesn't read the byte at hand again
+abbrev pub MovesOn : State → Type 0
+MovesOn (states.Error m) = Unit {0}
+MovesOn (states.Next n) = Unit {0}
+MovesOn (states.Retry n) = ⊥
+MovesOn states.Ok = Unit {0}
+MovesOn states.Nok = Unit {0}
 
 -- each move of the engine keeps it
-pub record Keeps {M : Type 0} (valid : Holds M) (step : Steps M) : Type 0 where
-  pub fed : (size : ℕ) (c : Config M) (stack : List Attempt) (n : Name) (p : Point) (v : Option VirtualByte) → IsFed size c.point p v → valid c stack (states.Next n) → valid (handed c p v) stack (states.Retry n)
+pub record KeepsAt {M : Type 0} (size : ℕ) (valid : HoldsAt M) (step : Steps M) : Type 0 where
+  pub fed : (c : Config M) (stack : List Attempt) (n : Name) (p : Point) (v : Option VirtualByte) → IsFed size c.point p v → valid c stack (states.Next n) → valid (handed c p v) stack (states.Retry n)
   -- a range may begin at a later place
-  pub moved : (size : ℕ) (c : Config M) (stack : List Attempt) (s : State) (p : Point) → remaining size p ≤ remaining size c.point → valid c stack s → valid (moved p c) stack s
+  pub moved : (c : Config M) (stack : List Attempt) (s : State) (p : Point) → MovesOn s → remaining size p ≤ remaining size c.point → valid c stack s → valid (moved p c) stack s
   pub called : (c : Config M) (stack : List Attempt) (n : Name) → valid c stack (states.Retry n) → let e = step c n in valid e.config (stack ++ map mark e.pushed) e.state
   pub ok : (c : Config M) (stack : List Attempt) (a : Attempt) → valid c (stack ++ a ∷ []) states.Ok → valid (resumed a c true) stack a.ok
   pub nok : (c : Config M) (stack : List Attempt) (a : Attempt) → valid c (stack ++ a ∷ []) states.Nok → valid (resumed a c false) stack a.nok
   -- an error is no state: it is answered for want of memory alone
   pub no_error : (c : Config M) (stack : List Attempt) (m : Message) → valid c stack (states.Error m) → ⊥
 
+abbrev pub Keeps : {M : Type 0} → Holds M → Steps M → Type 0
+Keeps valid step = (size : ℕ) → KeepsAt size (valid size) step
+
 -- a number that falls with each turn, in a text of so many bytes
 abbrev pub Ranks : Type 0 → Type 0
 Ranks M = ℕ → Config M → List Attempt → State → ℕ
 
-pub record Falls {M : Type 0} (valid : Holds M) (step : Steps M) (rank : Ranks M) : Type 0 where
-  pub fed : (size : ℕ) (c : Config M) (stack : List Attempt) (n : Name) (p : Point) (v : Option VirtualByte) → valid c stack (states.Next n) → IsFed size c.point p v
+pub record FallsAt {M : Type 0} (size : ℕ) (valid : HoldsAt M) (step : Steps M) (rank : Ranks M) : Type 0 where
+  pub fed : (c : Config M) (stack : List Attempt) (n : Name) (p : Point) (v : Option VirtualByte) → valid c stack (states.Next n) → IsFed size c.point p v
       → rank size (handed c p v) stack (states.Retry n) ≤ rank size c stack (states.Next n)
-  pub called : (size : ℕ) (c : Config M) (stack : List Attempt) (n : Name) → valid c stack (states.Retry n)
+  pub called : (c : Config M) (stack : List Attempt) (n : Name) → valid c stack (states.Retry n)
       → let e = step c n in rank size e.config (stack ++ map mark e.pushed) e.state < rank size c stack (states.Retry n)
-  pub ok : (size : ℕ) (c : Config M) (stack : List Attempt) (a : Attempt) → valid c (stack ++ a ∷ []) states.Ok
+  pub ok : (c : Config M) (stack : List Attempt) (a : Attempt) → valid c (stack ++ a ∷ []) states.Ok
       → rank size (resumed a c true) stack a.ok < rank size c (stack ++ a ∷ []) states.Ok
-  pub nok : (size : ℕ) (c : Config M) (stack : List Attempt) (a : Attempt) → valid c (stack ++ a ∷ []) states.Nok
+  pub nok : (c : Config M) (stack : List Attempt) (a : Attempt) → valid c (stack ++ a ∷ []) states.Nok
       → rank size (resumed a c false) stack a.nok < rank size c (stack ++ a ∷ []) states.Nok
+
+abbrev pub Falls : {M : Type 0} → Holds M → Steps M → Ranks M → Type 0
+Falls valid step rank = (size : ℕ) → FallsAt size (valid size) step rank

@@ -2,16 +2,18 @@
 use Rattle.std.specs.Prelude.{◌≡◌, ℕ, ◌+◌, ◌≤◌, Bool, true, false, if◌then◌else◌, length, [], ◌∷◌, ◌++◌, map, Option, None, ◌⊎◌}
 use Rattle.markdown_options.specs.Messages.{IsOutOfMemory}
 use Rattle.engine_events.specs.declared.event.Name.{Name}
+use Rattle.engine_events.specs.declared.event.Name.TheVariants.{Data}
 use Rattle.engine_events.specs.declared.event.Kind.TheVariants.{Enter, Exit}
 use Rattle.engine_events.specs.declared.state.State.{State}
 use Rattle.engine_events.specs.declared.state.State.TheVariants as states
 use Rattle.engine_events.specs.declared.event.Link.{Link}
 use Rattle.engine_events.specs.Events.{event}
+use Rattle.markdown_engine.specs.declared.tokenize_state.TokenizeState.{TokenizeState}
 use Rattle.markdown_engine.specs.declared.tokenizer.Tokenizer.{Tokenizer}
 use Rattle.markdown_engine.specs.Reading.{Config, Effect, Frame, Steps, Outcome, Runs, ended, mark, moved}
 use Rattle.markdown_engine.specs.VirtualText.{Source, Text, Walks, is_before, is_feed, place_in, text_to}
 use Rattle.engine_events.specs.declared.place.Point.{Point}
-use Rattle.markdown_engine.specs.Laws.{Holds, remaining}
+use Rattle.markdown_engine.specs.Laws.{HoldsAt, remaining}
 
 module _ {M A : Type 0} where
   abbrev pub config : Tokenizer M A → Config M
@@ -102,7 +104,7 @@ module _ {M A : Type 0} where
     pub runs : Runs (text_to from (length from.bytes, 0)) step (config old) [] given (config new) well
 
   -- what the loop of `push` keeps
-  pub record Turn (valid : Holds M) (step : Steps M) (to : ℕ × ℕ) (end : Bool) (first : Tokenizer M A) (given : State) (t : Tokenizer M A) (s : State) : Type 0 where
+  pub record Turn (valid : HoldsAt M) (step : Steps M) (to : ℕ × ℕ) (end : Bool) (first : Tokenizer M A) (given : State) (t : Tokenizer M A) (s : State) : Type 0 where
     pub same : source t ≡ source first
     pub holds : Refused s ⊎ valid (config t) t.attempts.items s
     pub reads : Refused s ⊎ GoesAll step (source first) to end given first t s
@@ -130,7 +132,15 @@ weight (states.Retry n) r = r + 1
 weight states.Ok r = r + 1
 weight states.Nok r = r + 1
 
+-- nothing kept
+abbrev pub nothing_kept : TokenizeState
+nothing_kept = record { marker = 0; marker_b = 0; size = 0; size_b = 0; size_c = 0; start = 0; end = 0; seen = false; token_1 = Data; token_2 = Data; token_3 = Data; token_4 = Data; token_5 = Data }
+
 module _ {M : Type 0} where
+  -- nothing was read
+  abbrev pub fresh : Point → M → Config M
+  fresh p machine = record { events = []; point = p; next = p; line_start = p; previous = None; current = None; tokenize_state = nothing_kept; machine = machine }
+
   abbrev pub entered : Name → Option Link → Config M → Config M
   entered name link c = record c { events = c.events ++ event Enter name c.point link ∷ [] }
 

@@ -4,12 +4,16 @@
 #![tactic(auto)]
 
 pub mod attempt;
+pub mod chains;
+pub mod fitting;
 pub mod tokenize_state;
 pub mod tokenizer;
 pub mod virtual_text;
 
+pub use chains::subtokenize;
 pub use engine_chunks::{divide_events, link, link_to};
 pub use engine_edits::EditMap;
 pub use engine_events::{container, event, label, place, resolve, state, subresult};
 pub use engine_text::{char, location, skip, slice};
+pub use fitting::{are_apart, are_places};
 pub use markdown_options::{Message, Place, constants, unist};

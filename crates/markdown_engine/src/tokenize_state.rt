@@ -1,4 +1,7 @@
 //! What states keep for one another.
+ghost use Rattle.std.specs.Prelude.{◌≡◌};
+ghost use Rattle.markdown_engine.specs.Machine.{nothing_kept};
+
 use engine_events::event::Name;
 
 /// What states keep for one another; a failed attempt leaves what was written here.
@@ -28,6 +31,8 @@ pub struct TokenizeState {
 
 /// Nothing kept.
 impl Default for TokenizeState {
+    ghost is_default = { λ kept. kept ≡ nothing_kept };
+
     fn default() -> TokenizeState {
         TokenizeState {
             marker: 0,

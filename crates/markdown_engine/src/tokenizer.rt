@@ -34,7 +34,7 @@ pub trait Machine {
 
     /// Calls a state.
     fn call<'a, A: Allocator>(tokenizer: &mut Tokenizer<'a, Self, A>, name: Name) -> State
-        requires { valid (config tokenizer.old) tokenizer.old.attempts.items (states.Retry name) }
+        requires { valid (length tokenizer.old.bytes.now) (config tokenizer.old) tokenizer.old.attempts.items (states.Retry name) }
         ensures { Answers (step (config tokenizer.old) name) tokenizer.old tokenizer.new result };
 
     // A state only adds events.
@@ -76,7 +76,7 @@ impl<'a, M, A: Allocator + Clone> Tokenizer<'a, M, A> {
     ghost use Rattle.std.specs.Prelude.{◌≡◌, [], None, IfOk, IfErr, OnOk, OnErr, length, ◌≤◌};
     ghost use Rattle.std.specs.Ordering.{nat_cmp};
     ghost use Rattle.std.specs.BTreeMap.{insert_entry};
-    ghost use Rattle.markdown_engine.specs.Machine.{config};
+    ghost use Rattle.markdown_engine.specs.Machine.{config, fresh};
     ghost use Rattle.markdown_engine.specs.VirtualText.{line_start};
     ghost use Rattle.markdown_options.specs.Messages.{IsOutOfMemory};
 
@@ -89,12 +89,9 @@ impl<'a, M, A: Allocator + Clone> Tokenizer<'a, M, A> {
     ) -> Result<Tokenizer<'a, M, A>, Message>
     where
         M: Drop,
-        ensures events { IfOk result (λ tokenizer. tokenizer.events.items ≡ []) }
+        ensures config { IfOk result (λ tokenizer. config tokenizer ≡ fresh point machine) }
         ensures attempts { IfOk result (λ tokenizer. tokenizer.attempts.items ≡ []) }
         ensures bytes { IfOk result (λ tokenizer. tokenizer.bytes.now ≡ bytes.now) }
-        ensures point { IfOk result (λ tokenizer. tokenizer.point ≡ point) }
-        ensures current { IfOk result (λ tokenizer. tokenizer.current ≡ None) }
-        ensures machine { IfOk result (λ tokenizer. tokenizer.machine ≡ machine) }
         ensures skips { IfOk result (λ tokenizer. tokenizer.skips.entries ≡ []) }
         ensures memory { IfErr result (λ message. IsOutOfMemory message) }
     {
@@ -197,6 +194,7 @@ impl<'a, M, A: Allocator> Tokenizer<'a, M, A> {
     pub fn attempt(&mut self, ok: State, nok: State) -> Result<(), Message>
         ensures same { config self.new ≡ config self.old }
         ensures bytes { self.new.bytes ≡ self.old.bytes }
+        ensures skips { self.new.skips ≡ self.old.skips }
         ensures pushed { OnOk result (self.new.attempts.items ≡ self.old.attempts.items ++ mark (begun false ok nok (config self.old)) ∷ []) }
         ensures memory { IfErr result (λ message. IsOutOfMemory message) }
     {
@@ -221,6 +219,7 @@ impl<'a, M, A: Allocator> Tokenizer<'a, M, A> {
     pub fn check(&mut self, ok: State, nok: State) -> Result<(), Message>
         ensures same { config self.new ≡ config self.old }
         ensures bytes { self.new.bytes ≡ self.old.bytes }
+        ensures skips { self.new.skips ≡ self.old.skips }
         ensures pushed { OnOk result (self.new.attempts.items ≡ self.old.attempts.items ++ mark (begun true ok nok (config self.old)) ∷ []) }
         ensures memory { IfErr result (λ message. IsOutOfMemory message) }
     {
@@ -287,6 +286,7 @@ impl<'a, M, A: Allocator> Tokenizer<'a, M, A> {
 }
 
 impl<'a, M: Machine, A: Allocator> Tokenizer<'a, M, A> {
+    ghost use Rattle.markdown_engine.specs.Laws.{MovesOn};
     ghost use Rattle.std.specs.Prelude.{◌≡◌, ◌≤◌, ◌<◌, [], length, true, false, ◌⊎◌};
     ghost use Rattle.markdown_engine.specs.Machine.{config, source, Refused, Opened, Pushed, PushedFrom, Reached, Ended, Flushed, ReadWhole};
     ghost use Rattle.markdown_engine.specs.VirtualText.{text_to, byte_before, place_in};
@@ -318,8 +318,8 @@ impl<'a, M: Machine, A: Allocator> Tokenizer<'a, M, A> {
     fn read(&mut self, to: (usize, usize), end: bool, state: State) -> State
         requires within { to.0 ≤ length self.old.bytes.now }
         requires column { to.0 ≡ length self.old.bytes.now → to.1 ≡ 0 }
-        requires valid { Refused state ⊎ M.valid (config self.old) self.old.attempts.items state }
-        ensures valid { Refused result ⊎ M.valid (config self.new) self.new.attempts.items result }
+        requires valid { Refused state ⊎ M.valid (length self.old.bytes.now) (config self.old) self.old.attempts.items state }
+        ensures valid { Refused result ⊎ M.valid (length self.old.bytes.now) (config self.new) self.new.attempts.items result }
         ensures reads { Pushed M.step to end state self.old self.new result }
         ensures reached { Reached to self.new result }
         ensures ends { end ≡ true → Refused result ⊎ Ended self.new result }
@@ -372,15 +372,18 @@ impl<'a, M: Machine, A: Allocator> Tokenizer<'a, M, A> {
     ///
     /// The state is the one that was answered last. Where the ranges of a text adjoin, each begins
     /// where the last one ended, or after what is skipped there, and what is read doesn't depend on
-    /// where the text is cut. What stands before a range otherwise isn't read.
+    /// where the text is cut. What stands before a range otherwise isn't read. A state that reads the
+    /// byte at hand again is no state to begin a range with, and none is answered.
     pub fn push(&mut self, from: (usize, usize), to: (usize, usize), state: State) -> State
         requires from_within { from.0 ≤ length self.old.bytes.now }
         requires from_column { from.0 ≡ length self.old.bytes.now → from.1 ≡ 0 }
         requires within { to.0 ≤ length self.old.bytes.now }
         requires column { to.0 ≡ length self.old.bytes.now → to.1 ≡ 0 }
-        requires valid { Refused state ⊎ M.valid (config self.old) self.old.attempts.items state }
-        ensures valid { Refused result ⊎ M.valid (config self.new) self.new.attempts.items result }
+        requires moves_on { MovesOn state }
+        requires valid { Refused state ⊎ M.valid (length self.old.bytes.now) (config self.old) self.old.attempts.items state }
+        ensures valid { Refused result ⊎ M.valid (length self.old.bytes.now) (config self.new) self.new.attempts.items result }
         ensures reads { PushedFrom M.step from to state self.old self.new result }
+        ensures moves_on { MovesOn result }
         ensures reached { Reached to self.new result }
     {
         self.move_to(from);
@@ -391,7 +394,7 @@ impl<'a, M: Machine, A: Allocator> Tokenizer<'a, M, A> {
     pub fn flush(&mut self, to: (usize, usize), state: State) -> State
         requires within { to.0 ≤ length self.old.bytes.now }
         requires column { to.0 ≡ length self.old.bytes.now → to.1 ≡ 0 }
-        requires valid { Refused state ⊎ M.valid (config self.old) self.old.attempts.items state }
+        requires valid { Refused state ⊎ M.valid (length self.old.bytes.now) (config self.old) self.old.attempts.items state }
         ensures { Refused result ⊎ Flushed (text_to (source self.old) to) M.step state self.old self.new result }
     {
         self.read(to, true, state)
@@ -400,7 +403,7 @@ impl<'a, M: Machine, A: Allocator> Tokenizer<'a, M, A> {
     /// Reads a text at once.
     pub fn whole(&mut self, state: State) -> State
         requires fresh { self.old.attempts.items ≡ [] }
-        requires valid { M.valid (config self.old) [] state }
+        requires valid { M.valid (length self.old.bytes.now) (config self.old) [] state }
         ensures { Refused result ⊎ ReadWhole (source self.old) M.step state self.old self.new result }
     {
         let to = (self.bytes.len(), 0);
@@ -411,7 +414,7 @@ impl<'a, M: Machine, A: Allocator> Tokenizer<'a, M, A> {
     pub fn in_two(&mut self, cut: (usize, usize), state: State) -> State
         requires cut { cut.0 < length self.old.bytes.now }
         requires fresh { self.old.attempts.items ≡ [] }
-        requires valid { M.valid (config self.old) [] state }
+        requires valid { M.valid (length self.old.bytes.now) (config self.old) [] state }
         ensures { Refused result ⊎ ReadWhole (source self.old) M.step state self.old self.new result }
     {
         let first = self.read(cut, false, state);
@@ -435,7 +438,7 @@ impl<'a, M: Machine, A: Allocator + Clone> Tokenizer<'a, M, A> {
         requires within { point.index ≤ length self.old.bytes.now }
         requires line { cut ≤ line_start self.old.bytes.now point.index }
         requires fresh { self.old.attempts.items ≡ [] }
-        requires valid { M.valid (config self.old) [] state }
+        requires valid { M.valid (length self.old.bytes.now) (config self.old) [] state }
         ensures { Refused result ⊎ ReadWhole (with_skip (source self.old) point) M.step state self.old self.new result }
     {
         let first = self.read((cut, 0), false, state);

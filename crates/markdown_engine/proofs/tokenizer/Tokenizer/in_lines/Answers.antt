@@ -5,7 +5,7 @@ use Rattle.markdown_engine.proofs.Push.{joined, skipped_as, whole_of, skip_goes_
 use Rattle.markdown_engine.proofs.tokenizer.Tokenizer.in_lines.Goals as goal
 
 pub returns-in-Error : goal.returns-in-Error
-returns-in-Error g c = inl (only_memory g.M.Machine.valid g.M.Machine.step g.met.M.Machine.keeps (config c.read-first.new.self) c.read-first.new.self.attempts.items c.read-first.result _ c.in-Error.is c.read-first.ensures.valid)
+returns-in-Error g c = inl (only_memory (length c.args.self.now.bytes.now) (g.M.Machine.valid (length c.args.self.now.bytes.now)) g.M.Machine.step (g.met.M.Machine.keeps (length c.args.self.now.bytes.now)) (config c.read-first.new.self) c.read-first.new.self.attempts.items c.read-first.result _ c.in-Error.is c.read-first.ensures.valid)
 
 pub returns : goal.returns
 returns g c =

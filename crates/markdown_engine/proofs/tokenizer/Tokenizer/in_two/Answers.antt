@@ -17,4 +17,4 @@ returns g c =
     (subst (λ (z : Source). Refused c.flush.result ⊎ Flushed (text_to z (length z.bytes, 0)) g.M.Machine.step c.args.state c.args.self.now c.flush.new.self c.flush.result) same f)
 
 pub returns-in-Error : goal.returns-in-Error
-returns-in-Error g c = inl (only_memory g.M.Machine.valid g.M.Machine.step g.met.M.Machine.keeps (config c.read-first.new.self) c.read-first.new.self.attempts.items c.read-first.result _ c.in-Error.is c.read-first.ensures.valid)
+returns-in-Error g c = inl (only_memory (length c.args.self.now.bytes.now) (g.M.Machine.valid (length c.args.self.now.bytes.now)) g.M.Machine.step (g.met.M.Machine.keeps (length c.args.self.now.bytes.now)) (config c.read-first.new.self) c.read-first.new.self.attempts.items c.read-first.result _ c.in-Error.is c.read-first.ensures.valid)

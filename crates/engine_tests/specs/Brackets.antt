@@ -1,0 +1,146 @@
+-- A machine of balanced brackets: items, each a group in brackets or another byte. Where a group doesn't end, all from its bracket on is data.
+use Rattle.std.specs.Prelude.{◌≡◌, ℕ, ◌+◌, ◌*◌, ◌^◌, ◌<◌, ◌≤◌, Bool, true, false, List, [], ◌∷◌, Option, Some, None, ◌==◌, if◌then◌else◌, ◌⊎◌, reverse}
+use Rattle.engine_events.specs.declared.event.Name.TheVariants as names
+use Rattle.engine_events.specs.declared.state.Name.{Name}
+use Rattle.engine_events.specs.declared.state.Name.TheVariants.{Inline}
+use Rattle.engine_events.specs.declared.state.Inline.TheVariants as inline_states
+use Rattle.engine_events.specs.declared.state.State.{State}
+use Rattle.engine_events.specs.declared.state.State.TheVariants as states
+use Rattle.markdown_engine.specs.declared.attempt.Attempt.{Attempt}
+use Rattle.markdown_engine.specs.Laws.{remaining}
+use Rattle.markdown_engine.specs.Machine.{consumed, entered, exited, plain, tries}
+use Rattle.markdown_engine.specs.Reading.{Config, Effect, Steps}
+
+-- what a state reads: items, a group, a group's end, and data
+abbrev pub items_state : Name
+items_state = Inline inline_states.TextStart
+
+abbrev pub group_state : Name
+group_state = Inline inline_states.LabelStart
+
+abbrev pub close_state : Name
+close_state = Inline inline_states.LabelInside
+
+abbrev pub rest_state : Name
+rest_state = Inline inline_states.DataInside
+
+module _ {M : Type 0} where
+  unfoldable pub items : Option ℕ → Config M → Effect M
+  items None c = plain c states.Ok
+  items (Some b) c = if b == 40 then tries (states.Next items_state) (states.Next rest_state) c (states.Retry group_state) else if b == 41 then plain c states.Ok else plain (consumed c) (states.Next items_state)
+
+  unfoldable pub rest : Option ℕ → Config M → Effect M
+  rest None c = plain c states.Ok
+  rest (Some b) c = plain (consumed c) (states.Next rest_state)
+
+  unfoldable pub group : Option ℕ → Config M → Effect M
+  group None c = plain c states.Nok
+  group (Some b) c = if b == 40 then tries (states.Next close_state) states.Nok (consumed (entered names.Label None c)) (states.Next items_state) else plain c states.Nok
+
+  unfoldable pub close : Option ℕ → Config M → Effect M
+  close None c = plain c states.Nok
+  close (Some b) c = if b == 41 then plain (exited names.Label (consumed c)) states.Ok else plain c states.Nok
+
+-- the parts of a text; any other state reads the rest
+pub data Part : Type 0 where
+  Items : Part
+  Group : Part
+  Close : Part
+  Rest : Part
+
+unfoldable pub part : Name → Part
+part (Inline inline_states.TextStart) = Items
+part (Inline inline_states.LabelStart) = Group
+part (Inline inline_states.LabelInside) = Close
+part n = Rest
+
+module _ {M : Type 0} where
+  abbrev pub step_of : Part → Config M → Effect M
+  step_of Items c = items c.current c
+  step_of Group c = group c.current c
+  step_of Close c = close c.current c
+  step_of Rest c = rest c.current c
+
+  unfoldable pub brackets_step : Steps M
+  brackets_step c n = step_of (part n) c
+
+-- the attempt at a group, and the one at the items in it
+pub record IsGroup (a : Attempt) : Type 0 where
+  pub check : a.check ≡ false
+  pub ok : a.ok ≡ states.Next items_state
+  pub nok : a.nok ≡ states.Next rest_state
+
+pub record IsContent (a : Attempt) : Type 0 where
+  pub check : a.check ≡ false
+  pub ok : a.ok ≡ states.Next close_state
+  pub nok : a.nok ≡ states.Nok
+
+module _ (size : ℕ) where
+  -- the attempts that wait, the innermost first, where so much is left; in a group at least so much was read since its attempt
+  abbrev pub Level : Bool → ℕ → List Attempt → ℕ → Type 0
+  Level false m [] left = Unit {0}
+  Level true m [] left = ⊥
+  Level true m (a ∷ more) left = IsGroup a × (left + m ≤ remaining size a.point) × Level false 0 more (remaining size a.point)
+  Level false m (a ∷ more) left = IsContent a × (left ≤ remaining size a.point) × Level true 1 more (remaining size a.point)
+
+abbrev pub in_group : Part → Bool
+in_group Items = false
+in_group Group = true
+in_group Close = true
+in_group Rest = false
+
+abbrev pub least : Part → ℕ
+least Items = 0
+least Group = 0
+least Close = 1
+least Rest = 0
+
+module _ {M : Type 0} (size : ℕ) where
+  -- a byte that is at hand leaves less
+  abbrev pub IsAhead : Config M → Type 0
+  IsAhead c = (b : ℕ) → c.current ≡ Some b → remaining size c.next < remaining size c.point
+
+  abbrev pub Stands : State → List Attempt → Config M → Type 0
+  Stands (states.Error m) stack c = ⊥
+  Stands (states.Next n) stack c = Level size (in_group (part n)) (least (part n)) stack (remaining size c.point)
+  Stands (states.Retry n) stack c = Level size (in_group (part n)) (least (part n)) stack (remaining size c.point) × IsAhead c
+  Stands states.Ok stack c = Level size false 0 stack (remaining size c.point) ⊎ Level size true 1 stack (remaining size c.point)
+  Stands states.Nok stack c = Level size true 0 stack (remaining size c.point)
+
+  unfoldable pub brackets_valid : Config M → List Attempt → State → Type 0
+  brackets_valid c stack s = Stands s (reverse stack) c
+
+-- how many calls there can be, where so much is left
+abbrev pub cost : Part → ℕ → ℕ
+cost Items l = 20 * 4 ^ l
+cost Rest l = l + 2
+cost Group l = 5 * 4 ^ l + 8
+cost Close l = 2
+
+-- how many calls an attempt may lead to
+abbrev pub waits_for : Part → ℕ → ℕ
+waits_for Items l = 5 * 4 ^ l + l + 2
+waits_for Rest l = 2
+waits_for Group l = 2
+waits_for Close l = 2
+
+abbrev pub waits : State → ℕ → ℕ
+waits (states.Error m) l = 2
+waits (states.Next n) l = waits_for (part n) l
+waits (states.Retry n) l = 2
+waits states.Ok l = 2
+waits states.Nok l = 2
+
+abbrev pub all_wait : ℕ → List Attempt → ℕ
+all_wait size [] = 0
+all_wait size (a ∷ more) = waits a.ok (remaining size a.point) + all_wait size more
+
+abbrev pub now : State → ℕ → ℕ
+now (states.Error m) l = 0
+now (states.Next n) l = cost (part n) l
+now (states.Retry n) l = cost (part n) l
+now states.Ok l = 1
+now states.Nok l = 1
+
+unfoldable pub brackets_rank : {M : Type 0} → ℕ → Config M → List Attempt → State → ℕ
+brackets_rank size c stack s = now s (remaining size c.point) + all_wait size (reverse stack)

@@ -1,0 +1,55 @@
+use Rattle.std.proofs.Common.{◌≡◌, ◌∙◌, ◌≤◌, ◌+◌, drop, length, get_or, ap, arith}
+use Rattle.std.proofs.lemmas.List.{drop_more}
+use Rattle.engine_events.specs.declared.place.Point.{Point}
+use Rattle.markdown_engine.specs.Chains.{place_at, after_chunk}
+use Rattle.markdown_engine.specs.Machine.{source}
+use Rattle.markdown_engine.proofs.ChainSteps.{skipping_on, skipping_place}
+use Rattle.markdown_engine.proofs.chains.skip_before_chunks.Goals as goal
+
+pub place_at-requires : goal.place_at-requires
+place_at-requires g c =
+    let i = c.loop-chunk.chunk-index in
+    let chain = c.args.chain.now in
+    let k = get_or chain i 0 in
+    let low : k + 2 ≤ length c.args.events.now = skipping_place c.args.events.now c.loop-chunk.end (drop i chain) (drop (i + 1) chain) k c.loop-chunk.tokenizer c.args.tokenizer.now.point chain c.args.tokenizer.now (drop_more chain i 0 c.loop-chunk-test.true) c.loop-chunk.invariant in
+    omega (arith, low)
+
+pub overflow_add-chunk : goal.overflow_add-chunk
+overflow_add-chunk g c =
+    let i = c.loop-chunk.chunk-index in
+    let chain = c.args.chain.now in
+    let k = get_or chain i 0 in
+    let low : k + 2 ≤ length c.args.events.now = skipping_place c.args.events.now c.loop-chunk.end (drop i chain) (drop (i + 1) chain) k c.loop-chunk.tokenizer c.args.tokenizer.now.point chain c.args.tokenizer.now (drop_more chain i 0 c.loop-chunk-test.true) c.loop-chunk.invariant in
+    omega (arith, low)
+
+pub place_at-end-requires : goal.place_at-end-requires
+place_at-end-requires g c =
+    let i = c.loop-chunk.chunk-index in
+    let chain = c.args.chain.now in
+    let k = get_or chain i 0 in
+    let low : k + 2 ≤ length c.args.events.now = skipping_place c.args.events.now c.loop-chunk.end (drop i chain) (drop (i + 1) chain) k c.loop-chunk.tokenizer c.args.tokenizer.now.point chain c.args.tokenizer.now (drop_more chain i 0 c.loop-chunk-test.true) c.loop-chunk.invariant in
+    omega (arith, low)
+
+pub skip_before-requires : goal.skip_before-requires
+skip_before-requires g c =
+    let i = c.loop-chunk.chunk-index in
+    let chain = c.args.chain.now in
+    let k = get_or chain i 0 in
+    let low : k + 2 ≤ length c.args.events.now = skipping_place c.args.events.now c.loop-chunk.end (drop i chain) (drop (i + 1) chain) k c.loop-chunk.tokenizer c.args.tokenizer.now.point chain c.args.tokenizer.now (drop_more chain i 0 c.loop-chunk-test.true) c.loop-chunk.invariant in
+    let there : (place_at c.args.events.now k).index ≤ length c.args.tokenizer.now.bytes.now = (c.requires.places k (omega (arith, low))).within in
+    let same : c.place_at.result ≡ place_at c.args.events.now k = c.place_at.ensures in
+    rw same (rw c.loop-chunk.invariant.bytes there)
+
+pub loop-chunk-preserved : goal.loop-chunk-preserved
+loop-chunk-preserved g c =
+    let i = c.loop-chunk.chunk-index in
+    let chain = c.args.chain.now in
+    let events = c.args.events.now in
+    let old = c.args.tokenizer.now in
+    let t = c.loop-chunk.tokenizer in
+    let u = c.skip_before.new.tokenizer in
+    let k = get_or chain i 0 in
+    let said : source u ≡ after_chunk c.loop-chunk.end c.place_at.result (source t) = c.in_ok-skip_before.ensures.source in
+    let there : source u ≡ after_chunk c.loop-chunk.end (place_at events k) (source t) = said ∙ ap (λ (z : Point). after_chunk c.loop-chunk.end z (source t)) c.place_at.ensures in
+    let on = skipping_on events c.loop-chunk.end (drop i chain) (drop (i + 1) chain) k t u old.point chain old (drop_more chain i 0 c.loop-chunk-test.true) c.requires.places there c.in_ok-skip_before.ensures.config c.in_ok-skip_before.ensures.attempts c.in_ok-skip_before.ensures.bytes c.loop-chunk.invariant in
+    rw c.place_at-end.ensures on
