@@ -15,3 +15,5 @@ mod memory;
 mod programs;
 #[cfg(test)]
 mod rows;
+#[cfg(test)]
+mod tables;
