@@ -362,6 +362,7 @@ impl<'a, M: Machine, A: Allocator> Tokenizer<'a, M, A> {
         ensures valid { Refused result ⊎ M.valid (length self.old.bytes.now) (config self.new) self.new.attempts.items result }
         ensures reads { Pushed M.step to end state self.old self.new result }
         ensures reached { Reached to self.new result }
+        ensures moves_on { MovesOn result }
         ensures ends { end ≡ true → Refused result ⊎ Ended self.new result }
     {
         let mut next = state;
