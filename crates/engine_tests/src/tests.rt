@@ -3,6 +3,7 @@ use crate::count::Count;
 use crate::letters::{Letters, read_letters};
 use markdown_engine::event::{Content, Event, Kind, Link, Name as EventName};
 use markdown_engine::place::Point;
+use markdown_engine::resolve;
 use markdown_engine::state::{Inline, Name, State};
 use markdown_engine::tokenizer::Tokenizer;
 use std::test::Fail;
@@ -160,5 +161,20 @@ fn a_text_is_read_the_same_cut_anywhere(rt: HostRuntime) -> Result<(), Fail> {
             assert!(rt; both.0 == both.1);
         }
     }
+    Ok(())
+}
+
+#[test]
+fn a_resolver_is_registered_once(rt: HostRuntime) -> Result<(), Fail> {
+    let mut tokenizer = Tokenizer::new(rt.alloc(), b"a", START, Count { calls: 0 })?;
+    tokenizer.register_resolver(resolve::Name::Text)?;
+    tokenizer.register_resolver(resolve::Name::Data)?;
+    tokenizer.register_resolver_before(resolve::Name::Label)?;
+    tokenizer.register_resolver(resolve::Name::Text)?;
+    tokenizer.register_resolver_before(resolve::Name::Data)?;
+    assert_eq!(rt; tokenizer.resolvers.len(), 3);
+    assert_eq!(rt; tokenizer.resolvers[0], resolve::Name::Label);
+    assert_eq!(rt; tokenizer.resolvers[1], resolve::Name::Text);
+    assert_eq!(rt; tokenizer.resolvers[2], resolve::Name::Data);
     Ok(())
 }

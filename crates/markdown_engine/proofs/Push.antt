@@ -12,7 +12,7 @@ use Rattle.markdown_engine.specs.declared.virtual_text.VirtualByte.{VirtualByte}
 use Rattle.markdown_engine.specs.declared.tokenizer.Tokenizer.{Tokenizer}
 use Rattle.markdown_engine.specs.VirtualText.{Source, Text, is_before, byte_before, line_start, place_in, text_to, with_skip}
 use Rattle.markdown_engine.specs.Reading.{Config, Steps, Runs, mark, moved, resumed, chosen, handed, feed, Outcome, ended}
-use Rattle.markdown_engine.specs.Machine.{Reached, config, source, Around, Opened, IsAfter, GoesOn, Goes, GoesAll, Refused, Did, Answers, Turn, Ended, Flushed, ReadWhole, weight}
+use Rattle.markdown_engine.specs.Machine.{config, source, Around, Opened, IsAfter, GoesOn, Goes, GoesAll, Refused, Did, Answers, Turn, Ended, Flushed, ReadWhole, weight}
 use Rattle.markdown_engine.specs.Laws.{Holds, HoldsAt, MovesOn, Ranks, Keeps, KeepsAt, FallsAt, OnlyAdds, IsFed}
 use Rattle.markdown_engine.proofs.Outcomes.{ends, outcome_pop, outcome_retry, outcome_next}
 use Rattle.markdown_engine.proofs.Starts.{before, before_start, skip_later}
@@ -349,11 +349,3 @@ not_refused states.Nok h r = r
 pub only_memory : {M : Type 0} (size : ℕ) (valid : HoldsAt M) (step : Steps M) (keeps : KeepsAt size valid step) (c : Config M) (stack : List Attempt) (s : State) (m : Message) → s ≡ states.Error m → Refused s ⊎ valid c stack s → Refused s
 only_memory size valid step keeps c stack s m e (inl r) = r
 only_memory size valid step keeps c stack s m e (inr v) = absurd (keeps.no_error c stack m (subst (λ (z : State). valid c stack z) e v))
-
--- where `push` stops, a state moves on
-pub moves_on : {M A : Type 0} (to : ℕ × ℕ) (t : Tokenizer M A) (s : State) → Reached to t s → MovesOn s
-moves_on to t (states.Error m) h = h
-moves_on to t (states.Next n) h = tt
-moves_on to t (states.Retry n) h = h
-moves_on to t states.Ok h = tt
-moves_on to t states.Nok h = tt

@@ -11,13 +11,15 @@ use Rattle.engine_events.specs.Events.{event}
 use Rattle.markdown_engine.specs.declared.tokenize_state.TokenizeState.{TokenizeState}
 use Rattle.markdown_engine.specs.declared.tokenizer.Tokenizer.{Tokenizer}
 use Rattle.markdown_engine.specs.Reading.{Config, Effect, Frame, Steps, Outcome, Runs, ended, mark, moved}
+use Rattle.engine_events.specs.declared.resolve.Name.{Name as Resolver}
+use Rattle.markdown_engine.specs.Resolvers.{with_first, with_last}
 use Rattle.markdown_engine.specs.VirtualText.{Source, Text, Walks, is_before, is_feed, place_in, text_to}
 use Rattle.engine_events.specs.declared.place.Point.{Point}
 use Rattle.markdown_engine.specs.Laws.{HoldsAt, remaining}
 
 module _ {M A : Type 0} where
   abbrev pub config : Tokenizer M A → Config M
-  config t = record { events = t.events.items; point = t.point; next = t.next; line_start = t.line_start; previous = t.previous; current = t.current; tokenize_state = t.tokenize_state; machine = t.machine }
+  config t = record { events = t.events.items; point = t.point; next = t.next; line_start = t.line_start; previous = t.previous; current = t.current; tokenize_state = t.tokenize_state; resolvers = t.resolvers.items; machine = t.machine }
 
   -- what it reads from
   abbrev pub source : Tokenizer M A → Source
@@ -139,7 +141,7 @@ nothing_kept = record { marker = 0; marker_b = 0; size = 0; size_b = 0; size_c =
 module _ {M : Type 0} where
   -- nothing was read
   abbrev pub fresh : Point → M → Config M
-  fresh p machine = record { events = []; point = p; next = p; line_start = p; previous = None; current = None; tokenize_state = nothing_kept; machine = machine }
+  fresh p machine = record { events = []; point = p; next = p; line_start = p; previous = None; current = None; tokenize_state = nothing_kept; resolvers = []; machine = machine }
 
   abbrev pub entered : Name → Option Link → Config M → Config M
   entered name link c = record c { events = c.events ++ event Enter name c.point link ∷ [] }
@@ -150,6 +152,13 @@ module _ {M : Type 0} where
   -- over the byte
   abbrev pub consumed : Config M → Config M
   consumed c = record c { point = c.next; line_start = if is_feed c.current then c.next else c.line_start; previous = c.current; current = None }
+
+  -- with a resolver registered, to run last or first
+  abbrev pub to_run_last : Resolver → Config M → Config M
+  to_run_last name c = record c { resolvers = with_last name c.resolvers }
+
+  abbrev pub to_run_first : Resolver → Config M → Config M
+  to_run_first name c = record c { resolvers = with_first name c.resolvers }
 
   -- an attempt that begins here
   abbrev pub begun : Bool → State → State → Config M → Frame M

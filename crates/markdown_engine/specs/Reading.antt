@@ -3,6 +3,7 @@ use Rattle.std.specs.Prelude.{◌≡◌, ℕ, Bool, true, false, List, [], ◌�
 use Rattle.engine_events.specs.declared.event.Event.{Event}
 use Rattle.engine_events.specs.declared.place.Point.{Point}
 use Rattle.engine_events.specs.declared.state.Name.{Name}
+use Rattle.engine_events.specs.declared.resolve.Name.{Name as Resolver}
 use Rattle.engine_events.specs.declared.state.State.{State}
 use Rattle.engine_events.specs.declared.state.State.TheVariants as states
 use Rattle.markdown_engine.specs.declared.attempt.Attempt.{Attempt}
@@ -10,7 +11,7 @@ use Rattle.markdown_engine.specs.declared.tokenize_state.TokenizeState.{Tokenize
 use Rattle.markdown_engine.specs.declared.virtual_text.VirtualByte.{VirtualByte}
 use Rattle.markdown_engine.specs.VirtualText.{Text}
 
--- what a state may read and write: the events so far, the place, the place after the byte there, where the line starts, the byte before, the byte, what states keep for one another, and the machine
+-- what a state may read and write: the events so far, the place, the place after the byte there, where the line starts, the byte before, the byte, what states keep for one another, the resolvers that are to run, and the machine
 pub record Config (M : Type 0) : Type 0 where
   pub events : List Event
   pub point : Point
@@ -19,6 +20,7 @@ pub record Config (M : Type 0) : Type 0 where
   pub previous : Option ℕ
   pub current : Option ℕ
   pub tokenize_state : TokenizeState
+  pub resolvers : List Resolver
   pub machine : M
 
 -- an attempt that waits, with the configuration in which it was made

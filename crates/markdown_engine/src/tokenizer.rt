@@ -1,10 +1,11 @@
 //! The tokenizer and the machines that it runs.
-ghost use Rattle.std.specs.Prelude.{◌≡◌, ◌+◌, ◌<◌, ◌≤◌, ◌++◌, [], ◌∷◌, length, None, Some, false, true, ◌⊎◌, OnOk, IfErr};
+ghost use Rattle.std.specs.Prelude.{◌≡◌, ◌+◌, ◌<◌, ◌≤◌, ◌++◌, [], ◌∷◌, length, None, Some, false, true, ◌⊎◌, OnOk, OnErr, IfErr};
 ghost use Rattle.markdown_options.specs.Messages.{IsOutOfMemory};
 ghost use Rattle.engine_events.specs.declared.state.State.TheVariants as states;
 ghost use Rattle.markdown_engine.specs.Reading.{Steps, mark, restore, resumed, handed};
 ghost use Rattle.std.specs.BTreeMap.{insert_entry};
-ghost use Rattle.markdown_engine.specs.Machine.{config, source, Answers, Became, Around, Refused, Pushed, Reached, Ended, Flushed, entered, exited, consumed, begun};
+ghost use Rattle.markdown_engine.specs.Machine.{config, source, Answers, Became, Around, Refused, Pushed, Reached, Ended, Flushed, entered, exited, consumed, begun, to_run_first, to_run_last};
+ghost use Rattle.markdown_engine.specs.Resolvers.{AreOnce};
 ghost use Rattle.markdown_engine.specs.VirtualText.{is_before, line_start};
 ghost use Rattle.markdown_engine.specs.Laws.{Holds, Ranks, OnlyAdds, Keeps, Falls};
 
@@ -15,7 +16,7 @@ use crate::virtual_text::{
 };
 use engine_events::event::Name as EventName;
 use engine_events::state::Name;
-use engine_events::{Event, Kind, Link, Point, State};
+use engine_events::{Event, Kind, Link, Point, State, resolve};
 use markdown_options::Message;
 use std::alloc::{AllocError, Allocator};
 use std::collections::BTreeMap;
@@ -67,6 +68,8 @@ pub struct Tokenizer<'a, M, A: Allocator> {
     pub current: Option<u8>,
     /// What states keep for one another.
     pub tokenize_state: TokenizeState,
+    /// The resolvers that are to run, in their order.
+    pub resolvers: Vec<resolve::Name, A>,
     pub machine: M,
     /// Where the lines are read from that have a skip, by the index of their start.
     pub skips: BTreeMap<usize, Point, A>,
@@ -105,6 +108,7 @@ impl<'a, M, A: Allocator + Clone> Tokenizer<'a, M, A> {
             previous: None,
             current: None,
             tokenize_state: TokenizeState::default(),
+            resolvers: Vec::new(alloc.clone()?),
             machine,
             skips: BTreeMap::new(alloc),
         })
@@ -240,6 +244,42 @@ impl<'a, M, A: Allocator> Tokenizer<'a, M, A> {
         Ok(())
     }
 
+    /// Registers a resolver to run after those that are registered; one that is stays where it is.
+    pub fn register_resolver(&mut self, name: resolve::Name) -> Result<(), Message>
+        ensures became { OnOk result (Became (to_run_last name (config self.old)) self.old self.new) }
+        ensures once { OnOk result (AreOnce self.old.resolvers.items → AreOnce self.new.resolvers.items) }
+        ensures err { OnErr result (config self.new ≡ config self.old) }
+        ensures bytes { self.new.bytes ≡ self.old.bytes }
+        ensures skips { self.new.skips ≡ self.old.skips }
+        ensures memory { IfErr result (λ message. IsOutOfMemory message) }
+    {
+        if self.resolvers.contains(&name) {
+            return Ok(());
+        }
+        if self.resolvers.push(name).is_err() {
+            return Err(Message::out_of_memory());
+        }
+        Ok(())
+    }
+
+    /// Registers a resolver to run before those that are registered; one that is stays where it is.
+    pub fn register_resolver_before(&mut self, name: resolve::Name) -> Result<(), Message>
+        ensures became { OnOk result (Became (to_run_first name (config self.old)) self.old self.new) }
+        ensures once { OnOk result (AreOnce self.old.resolvers.items → AreOnce self.new.resolvers.items) }
+        ensures err { OnErr result (config self.new ≡ config self.old) }
+        ensures bytes { self.new.bytes ≡ self.old.bytes }
+        ensures skips { self.new.skips ≡ self.old.skips }
+        ensures memory { IfErr result (λ message. IsOutOfMemory message) }
+    {
+        if self.resolvers.contains(&name) {
+            return Ok(());
+        }
+        if self.resolvers.insert(0, name).is_err() {
+            return Err(Message::out_of_memory());
+        }
+        Ok(())
+    }
+
     /// Goes back to the mark of an attempt.
     fn free(&mut self, attempt: &Attempt)
         ensures config { config self.new ≡ restore attempt.now (config self.old) }
@@ -322,6 +362,7 @@ impl<'a, M: Machine, A: Allocator> Tokenizer<'a, M, A> {
         ensures valid { Refused result ⊎ M.valid (length self.old.bytes.now) (config self.new) self.new.attempts.items result }
         ensures reads { Pushed M.step to end state self.old self.new result }
         ensures reached { Reached to self.new result }
+        ensures moves_on { MovesOn result }
         ensures ends { end ≡ true → Refused result ⊎ Ended self.new result }
     {
         let mut next = state;
