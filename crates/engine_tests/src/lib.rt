@@ -5,4 +5,6 @@ pub mod brackets;
 pub mod count;
 pub mod letters;
 #[cfg(test)]
+mod memory;
+#[cfg(test)]
 mod tests;
