@@ -1,10 +1,12 @@
 #!/usr/bin/env python3
-"""Times a program on families of texts at sizes n, 2n and 4n, beside cmark in the same run.
+"""Times a program on families of texts at sizes n, 2n and 4n, beside cmark and others that the system has in the same run.
 
     families.py PROGRAM [N]
 
-Growth is the time at 4n by that at n: at most about 4 where time is linear. cmark's growth is that of its own times.
+Growth is the time at 4n by that at n: at most about 4 where time is linear. Of the others the time at 4n is
+printed, and the growth of their own times.
 """
+import shutil
 import subprocess
 import sys
 import tempfile
@@ -92,21 +94,28 @@ def seconds(command, path):
     return best
 
 
+def times(text, n, commands, path):
+    """For each command the seconds at n, 2n and 4n."""
+    rows = [[] for _ in commands]
+    for k in (1, 2, 4):
+        with open(path, "w") as out:
+            out.write(text(n * k))
+        for row, command in zip(rows, commands):
+            row.append(seconds([command], path))
+    return rows
+
+
 def main():
-    program, n = [sys.argv[1]], int(sys.argv[2]) if len(sys.argv) > 2 else 100000
+    n = int(sys.argv[2]) if len(sys.argv) > 2 else 100000
+    others = ["cmark"] + [name for name in ("md2html", "pulldown-cmark") if shutil.which(name)]
+    heads = "".join(" %14s %6s" % (name, "growth") for name in others)
+    print("%-30s %26s %6s%s" % ("family", "n, 2n, 4n (ms)", "growth", heads))
     with tempfile.TemporaryDirectory() as folder:
-        path = folder + "/text"
-        print("%-30s %27s %8s %10s %8s" % ("family", "n, 2n, 4n (ms)", "growth", "cmark 4n", "growth"))
         for name, text in FAMILIES.items():
-            times, others = [], []
-            for k in (1, 2, 4):
-                with open(path, "w") as out:
-                    out.write(text(n * k))
-                times.append(seconds(program, path))
-                others.append(seconds(["cmark"], path))
-            shown = " ".join("%8.1f" % (t * 1000) for t in times)
-            print("%-30s %27s %8.1f %10.1f %8.1f"
-                  % (name, shown, times[2] / times[0], others[2] * 1000, others[2] / others[0]))
+            own, *rest = times(text, n, [sys.argv[1]] + others, folder + "/text")
+            shown = " ".join("%8.1f" % (t * 1000) for t in own)
+            beside = "".join(" %14.1f %6.1f" % (t[2] * 1000, t[2] / t[0]) for t in rest)
+            print("%-30s %26s %6.1f%s" % (name, shown, own[2] / own[0], beside), flush=True)
 
 
 main()
