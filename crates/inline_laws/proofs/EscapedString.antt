@@ -14,7 +14,8 @@ use Rattle.markdown_definition.specs.HardBreak.{line_end_at}
 use Rattle.markdown_definition.specs.Strings.{begins_with_eol, eol_bytes, spaces_at, string_bytes, string_leaf_at, string_text}
 use Rattle.markdown_definition.proofs.PlainText.{bare_white, bare_other}
 use Rattle.markdown_definition.proofs.Scanning.{string_step, string_byte}
-use Rattle.inline_laws.specs.Escaped.{escaped, is_octet, begins_with_white, has_bare_endings, StringEscapeLaw}
+use Rattle.inline_laws.specs.Escaped.{escaped, is_octet, has_bare_endings, StringEscapeLaw}
+use Rattle.markdown_definition.specs.Tree.{begins_with_white}
 use Rattle.inline_laws.proofs.Escaped.{or_none, or_first, no_escape, no_reference, escaped_punctuation, escaped_other}
 
 -- ---- the codes of an escaped text

@@ -10,6 +10,7 @@ use Rattle.markdown_definition.specs.InlineCode.{InlineCode, codes_of}
 use Rattle.markdown_definition.specs.Scan.{InlineContext, inlines}
 use Rattle.markdown_definition.specs.InlineHtml.{InlineMeaning, inline_html}
 use Rattle.markdown_definition.specs.Strings.{begins_with_eol, string_text}
+use Rattle.markdown_definition.specs.Tree.{begins_with_white}
 
 -- a byte, with a backslash before ASCII punctuation
 abbrev pub escaped_byte : ℕ → List ℕ
@@ -44,11 +45,6 @@ EscapeLaw =
 -- a byte
 abbrev pub is_octet : ℕ → Bool
 is_octet b = nat_lt b 256
-
--- a space or a tab comes first
-abbrev pub begins_with_white : List ℕ → Bool
-begins_with_white [] = false
-begins_with_white (b ∷ bs) = is_white b
 
 -- no space or tab stands beside a line ending
 abbrev pub has_bare_endings : List ℕ → Bool
