@@ -1,4 +1,6 @@
+use crate::edit::Edit;
 use crate::edit_map::EditMap;
+use crate::relink::{push_gone, push_kept, push_relinked};
 use engine_events::event::Name;
 use engine_events::{Content, Event, Kind, Link, Point};
 use markdown_options::Message;
@@ -73,6 +75,46 @@ fn many_edits_from_both_ends(rt: HostRuntime) -> Result<(), Fail> {
             let next = if index < 999 { Some(index + 1) } else { None };
             assert_eq!(rt; link.next, next);
         }
+    }
+    Ok(())
+}
+
+#[test]
+fn an_edit_takes_another(rt: HostRuntime) -> Result<(), Fail> {
+    let mut edit = Edit {
+        remove: 1,
+        add: [chunk(10, None, None)].to_vec(rt.alloc())?,
+    };
+    edit.merge_after(2, &[chunk(11, None, None)])?;
+    edit.merge_before(1, [chunk(12, None, None)].to_vec(rt.alloc())?)?;
+    assert_eq!(rt; edit.remove, 4);
+    assert_eq!(rt; edit.add.len(), 3);
+    for (event, index) in edit.add.iter().zip([12, 10, 11]) {
+        assert_eq!(rt; event.point().index, index);
+    }
+    assert!(rt; edit.ends_within(2, 6));
+    assert!(rt; !edit.ends_within(3, 6));
+    assert!(rt; !edit.ends_within(7, 6));
+    Ok(())
+}
+
+#[test]
+fn links_follow_their_events(rt: HostRuntime) -> Result<(), Fail> {
+    let mut places = Vec::new(rt.alloc());
+    push_kept(&mut places, 3, 2)?;
+    push_gone(&mut places, 1)?;
+    assert_eq!(rt; places.as_slice(), [Some(3), Some(4), None].as_slice());
+    let mut all = Vec::new(rt.alloc());
+    push_relinked(
+        &mut all,
+        &[chunk(0, Some(1), Some(2)), chunk(1, None, Some(3))],
+        &places,
+    )?;
+    let links = [(Some(4), None), (None, None)];
+    assert_eq!(rt; all.len(), 2);
+    for (event, want) in all.iter().zip(links) {
+        let link = event.link().ok_or("a link")?;
+        assert_eq!(rt; (link.previous, link.next), want);
     }
     Ok(())
 }

@@ -2,6 +2,7 @@
 use Rattle.std.specs.Prelude.{◌≡◌, Result, Ok, Err}
 use Rattle.engine_events.specs.declared.state.State.{State}
 use Rattle.engine_events.specs.declared.state.State.TheVariants as states
+use Rattle.markdown_options.specs.Messages.{IsOutOfMemory}
 use Rattle.markdown_options.specs.declared.message.Message.{Message}
 
 -- reading ended well or failed
@@ -12,9 +13,17 @@ IsOver (states.Retry n) = ⊥
 IsOver states.Ok = Unit {0}
 IsOver states.Nok = ⊥
 
+-- memory was refused
+abbrev pub Refused : State → Type 0
+Refused (states.Error m) = IsOutOfMemory m.now
+Refused (states.Next n) = ⊥
+Refused (states.Retry n) = ⊥
+Refused states.Ok = ⊥
+Refused states.Nok = ⊥
+
 -- an error is answered as it is
 abbrev pub HasResult : State → Result Unit Message → Type 0
-HasResult (states.Error m) result = result ≡ Err m
+HasResult (states.Error m) result = result ≡ Err m.now
 HasResult (states.Next n) result = ⊥
 HasResult (states.Retry n) result = ⊥
 HasResult states.Ok result = result ≡ Ok tt

@@ -19,6 +19,14 @@ pub struct Point {
     pub vs: u8,
 }
 
+/// Where a text starts.
+pub const START: Point = Point {
+    line: 1,
+    column: 1,
+    index: 0,
+    vs: 0,
+};
+
 impl Point {
     ghost use Rattle.std.specs.Prelude.{◌≡◌, ◌≤◌, ◌<◌, ◌^◌, length, IsTrue};
     ghost use Rattle.std.specs.List.{list_all};

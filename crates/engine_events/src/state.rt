@@ -1,6 +1,7 @@
 //! The states of reading.
 
 use markdown_options::Message;
+use std::mem::size_of;
 
 /// The states of inline constructs: a construct, then where in it the state reads.
 #[derive(Clone, Copy, Debug, PartialEq, Eq)]
@@ -336,11 +337,11 @@ pub enum Name {
     Block(Block),
 }
 
-/// What a state says of how reading goes on.
+/// What a state says of how reading goes on: 16 bytes, since it is answered at each step.
 #[derive(Clone, Copy, Debug, PartialEq, Eq)]
 pub enum State {
     /// Reading failed, for good.
-    Error(Message),
+    Error(&'static Message),
     /// The state that reads the next byte.
     Next(Name),
     /// The state that reads the same byte.
@@ -351,8 +352,25 @@ pub enum State {
     Nok,
 }
 
+const _: () = prove!(size_of::<State>() <= 16);
+
+/// Memory was refused.
+const REFUSED: Message = Message {
+    place: None,
+    reason: "Out of memory",
+    rule_id: "memory",
+    source: "markdown",
+};
+
 impl State {
-    ghost use Rattle.engine_events.specs.States.{IsOver, HasResult};
+    ghost use Rattle.engine_events.specs.States.{IsOver, Refused, HasResult};
+
+    /// Memory was refused.
+    pub fn out_of_memory() -> State
+        ensures { Refused result }
+    {
+        State::Error(&REFUSED)
+    }
 
     /// How reading ended, where it ended well or failed.
     pub fn to_result(&self) -> Result<(), Message>
@@ -360,7 +378,7 @@ impl State {
         ensures { HasResult self.now result }
     {
         match self {
-            State::Error(message) => Err(*message),
+            State::Error(message) => Err(**message),
             State::Ok => Ok(()),
             State::Next(_) | State::Retry(_) | State::Nok => unreachable!(),
         }

@@ -1,14 +1,7 @@
 use crate::event::{Content, Event, Kind, Link, Name};
-use crate::place::Point;
+use crate::place::{Point, START, column_after, tab_size};
 use crate::state::State;
 use markdown_options::{Message, unist};
-
-const START: Point = Point {
-    line: 1,
-    column: 1,
-    index: 0,
-    vs: 0,
-};
 
 #[test]
 fn a_tab_goes_to_the_next_stop(rt: HostRuntime) {
@@ -40,5 +33,20 @@ fn a_link_is_kept_with_its_ends(rt: HostRuntime) {
 #[test]
 fn an_error_is_answered(rt: HostRuntime) {
     let message = Message::out_of_memory();
-    assert_eq!(rt; State::Error(message).to_result(), Err(message));
+    assert_eq!(rt; State::out_of_memory().to_result(), Err(message));
+}
+
+#[test]
+fn tab_stops_are_four_apart(rt: HostRuntime) {
+    assert_eq!(rt;
+        (tab_size(1), tab_size(2), tab_size(4), tab_size(5)),
+        (4, 3, 1, 4)
+    );
+    assert_eq!(rt; column_after(b'\t', 2), 5);
+    assert_eq!(rt; column_after(b'a', 2), 3);
+}
+
+#[test]
+fn what_ended_well_is_no_error(rt: HostRuntime) {
+    assert_eq!(rt; State::Ok.to_result(), Ok(()));
 }

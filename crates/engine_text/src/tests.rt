@@ -1,10 +1,20 @@
-use crate::char::{after_index, before_index, format, format_byte_opt};
+ghost use Rattle.std.specs.Prelude.{None};
+ghost use Rattle.std.specs.Char.{is_ascii_punctuation};
+ghost use Rattle.std.proofs.Common.{rules};
+ghost use Rattle.std.proofs.lemmas.Grind.{common_steps};
+
+use crate::char::{
+    Kind as CharacterKind, after_index, before_index, classify, classify_opt, format, format_byte,
+    format_byte_opt, format_opt, kind_after_index,
+};
 use crate::location::Location;
 use crate::skip;
 use crate::slice::{Position, Slice};
 use engine_events::event::Name;
+use engine_events::place::START;
 use engine_events::{Event, Kind, Point};
-use markdown_options::unist;
+use markdown_options::{Tables, unist};
+use std::alloc::Global;
 use std::test::Fail;
 
 #[test]
@@ -21,13 +31,6 @@ fn lines_end_after_cr_lf(rt: HostRuntime) -> Result<(), Fail> {
     );
     Ok(())
 }
-
-const START: Point = Point {
-    line: 1,
-    column: 1,
-    index: 0,
-    vs: 0,
-};
 
 #[test]
 fn cut_tabs_are_spaces(rt: HostRuntime) -> Result<(), Fail> {
@@ -85,4 +88,96 @@ fn characters_are_shown(rt: HostRuntime) -> Result<(), Fail> {
     assert_eq!(rt; before_index("é!".as_bytes(), 2), Some('é'));
     assert_eq!(rt; after_index("é!".as_bytes(), 2), Some('!'));
     Ok(())
+}
+
+/// Tables with no names, and ASCII punctuation.
+struct Ascii;
+
+impl Tables for Ascii {
+    ghost reference_of = { λ _ _. None };
+
+    ghost punctuation_of = { λ _ code. is_ascii_punctuation code };
+
+    fn reference(&self, _name: &str) -> Option<&str> {
+        None
+    }
+
+    fn is_punctuation(&self, character: char) -> bool {
+        character.is_ascii_punctuation()
+    }
+
+    ghost reference_named = { Prim.search (rules, common_steps) };
+
+    ghost reference_nonempty = { Prim.search (rules, common_steps) };
+
+    ghost reference_utf8 = { Prim.search (rules, common_steps) };
+
+    ghost punctuation_ascii = { λ _ _ given. given };
+
+    ghost alphanumeric_ascii = { Prim.search (rules, common_steps) };
+}
+
+#[test]
+fn characters_have_kinds(rt: HostRuntime) {
+    assert_eq!(rt; classify('é', &Ascii), CharacterKind::Other);
+    assert_eq!(rt; classify('*', &Ascii), CharacterKind::Punctuation);
+    assert_eq!(rt; classify('\u{A0}', &Ascii), CharacterKind::Whitespace);
+    assert_eq!(rt; classify_opt(Some('a'), &Ascii), CharacterKind::Other);
+    assert_eq!(rt; classify_opt(None, &Ascii), CharacterKind::Whitespace);
+    let text = "é!";
+    assert_eq!(rt;
+        kind_after_index(text.as_bytes(), 2, &Ascii),
+        CharacterKind::Punctuation
+    );
+    assert_eq!(rt;
+        kind_after_index(text.as_bytes(), 3, &Ascii),
+        CharacterKind::Whitespace
+    );
+}
+
+#[test]
+fn bytes_are_shown(rt: HostRuntime) -> Result<(), Fail> {
+    assert_eq!(rt; format_opt(rt.alloc(), Some('é'))?.as_str(), "U+00E9");
+    assert_eq!(rt; format_opt(rt.alloc(), None)?.as_str(), "end of file");
+    assert_eq!(rt; format_byte(rt.alloc(), b'\n')?.as_str(), "U+000A");
+    assert_eq!(rt;
+        format_byte_opt(rt.alloc(), Some(b'<'))?.as_str(),
+        "`<` (U+003C)"
+    );
+    Ok(())
+}
+
+#[test]
+fn places_of_a_part_go_on_from_stops(rt: HostRuntime) {
+    let stops = [(1, 4), (3, 9)];
+    assert_eq!(rt; Location::<Global>::relative_to_absolute(&stops, 0), None);
+    assert_eq!(rt;
+        Location::<Global>::relative_to_absolute(&stops, 2),
+        Some(5)
+    );
+    assert_eq!(rt;
+        Location::<Global>::relative_to_absolute(&stops, 4),
+        Some(10)
+    );
+}
+
+#[test]
+fn events_are_found_backward(rt: HostRuntime) {
+    let events = [
+        Event::new(Kind::Enter, Name::Strong, START, None),
+        Event::new(Kind::Enter, Name::Data, START, None),
+        Event::new(Kind::Exit, Name::Data, START, None),
+        Event::new(Kind::Exit, Name::Strong, START, None),
+    ];
+    assert_eq!(rt; skip::to_back(&events, 3, &[Name::Data]), 2);
+    assert_eq!(rt; skip::to_back(&events, 0, &[Name::Data, Name::Strong]), 0);
+}
+
+#[test]
+fn indices_cut_no_tabs(rt: HostRuntime) {
+    let slice = Slice::from_indices(b"\ta\tb", 1, 3);
+    assert_eq!(rt; slice.bytes, b"a\t".as_slice());
+    assert_eq!(rt; (slice.before, slice.after), (0, 0));
+    let text = "aé";
+    assert_eq!(rt; Slice::from_indices(text.as_bytes(), 0, 3).as_str(), "aé");
 }
