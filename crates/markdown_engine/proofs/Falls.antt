@@ -1,5 +1,5 @@
 -- Each byte of the virtual text that is read leaves less.
-use Rattle.std.proofs.Common.{◌≡◌, ℕ, ◌+◌, ◌<◌, ◌≤◌, ◌∙◌, Bool, true, false, if◌then◌else◌, ◌==◌, nat_lt, nat_le, ◌||◌, ◌&&◌, List, length, slice_index, refl, sym, subst, arith, Option, Some, None, ◌⊎◌, inl, inr}
+use Rattle.std.proofs.Common.{◌≡◌, ℕ, ◌+◌, ◌<◌, ◌≤◌, ◌∙◌, Bool, true, false, if◌then◌else◌, ◌==◌, nat_lt, nat_le, ◌||◌, List, length, slice_index, refl, sym, subst, arith, Option, Some, None, ◌⊎◌, inl, inr}
 use Rattle.std.proofs.lemmas.Bool.{ltb-true, eqb-true, cases_lt}
 use Rattle.std.proofs.lemmas.Bool.Decides.{nat_tests}
 use Rattle.engine_events.specs.declared.place.Point.{Point}
@@ -7,7 +7,9 @@ use Rattle.engine_events.specs.Columns.{tab_size}
 use Rattle.markdown_engine.specs.declared.virtual_text.VirtualByte.{VirtualByte}
 use Rattle.markdown_engine.specs.VirtualText.{virtual_byte, byte_before, place_in, Skips, is_before, given, tab_column, in_line, in_tab, next_line, as_byte, feeds}
 use Rattle.markdown_engine.specs.Laws.{remaining, IsRead, IsFed}
-use Rattle.markdown_engine.proofs.Starts.{start_less}
+use Rattle.markdown_engine.specs.Order.{Reaches}
+use Rattle.markdown_engine.proofs.Starts.{start_less, start_reaches}
+use Rattle.markdown_engine.proofs.Tests.{by_tests}
 
 module _ (size : ℕ) (p : Point) (low : p.index < size) where
   Less : VirtualByte → Type 0
@@ -50,11 +52,40 @@ module _ (size : ℕ) (p : Point) (low : p.index < size) where
   unfolding Less
   given_falls bytes b = given_less bytes b
 
-by_tests : (t u v : Bool) → t || (u && v) ≡ true → (t ≡ true) ⊎ ((u ≡ true) × (v ≡ true))
-by_tests true u v e = inl refl
-by_tests false true true e = inr (refl, refl)
-by_tests false true false e = absurd (let f : false ≡ true = e in cc)
-by_tests false false v e = absurd (let f : false ≡ true = e in cc)
+module _ (p : Point) where
+  Later : VirtualByte → Type 0
+  Later v = Reaches p v.next
+
+  later_test : (t : Bool) (v w : VirtualByte) → Later v → Later w → Later (if t then v else w)
+  later_test true v w h k = h
+  later_test false v w h k = k
+
+  tab_later : (b : ℕ) (t : Bool) → Later (as_byte b (if t then in_line p else in_tab p))
+  unfolding Later
+  tab_later b true = record { index = omega arith; column = λ e. omega arith }
+  tab_later b false = record { index = omega arith; column = λ e. omega arith }
+
+  feed_later : (t : Bool) → Later (as_byte 10 (next_line (if t then 2 else 1) p))
+  unfolding Later
+  feed_later true = record { index = omega arith; column = λ e. omega arith }
+  feed_later false = record { index = omega arith; column = λ e. omega arith }
+
+  line_later : (b : ℕ) → Later (as_byte b (in_line p))
+  unfolding Later
+  line_later b = record { index = omega arith; column = λ e. omega arith }
+
+  given_later : (bytes : List ℕ) (b : ℕ) → Later (given bytes p b)
+  given_later bytes b =
+      let line = as_byte b (in_line p) in
+      let return = as_byte 10 (next_line (if feeds bytes (p.index + 1) then 2 else 1) p) in
+      later_test (b == 9) (tab_column p) (if b == 10 then as_byte 10 (next_line 1 p) else if b == 13 then return else line)
+      (tab_later (if p.vs == 0 then 9 else 32) ((tab_size p.column == 1) || nat_le 3 p.vs))
+      (later_test (b == 10) (as_byte 10 (next_line 1 p)) (if b == 13 then return else line) (feed_later false) (later_test (b == 13) return line (feed_later (feeds bytes (p.index + 1))) (line_later b)))
+
+  -- the place after a byte is after it
+  pub step_reaches : (bytes : List ℕ) → Reaches p (virtual_byte bytes p).next
+  unfolding Later
+  step_reaches bytes = given_later bytes (slice_index bytes p.index)
 
 reach : (i n vs : ℕ) (to : ℕ × ℕ) → to.0 ≤ n → (to.0 ≡ n → to.1 ≡ 0) → i ≡ to.0 → vs < to.1 → i < n
 reach i n vs to h k e l = pick (cases_lt i n)
@@ -83,13 +114,14 @@ is_read bytes to p v w h k e s = pick (is_before to p) refl
         let low = within (length bytes) to p h k q in
         let f : Some (virtual_byte bytes p) ≡ Some w = sym (rw q at e) ∙ s in
         let same = some_same f in
-        record { within = low; falls = subst (λ (z : VirtualByte). remaining (length bytes) z.next < remaining (length bytes) p) same (given_falls (length bytes) p low bytes (slice_index bytes p.index)) }
+        record { within = low; falls = subst (λ (z : VirtualByte). remaining (length bytes) z.next < remaining (length bytes) p) same (given_falls (length bytes) p low bytes (slice_index bytes p.index)); order = subst (λ (z : VirtualByte). Reaches p z.next) same (step_reaches p bytes) }
     pick false q = absurd (let f : None ≡ Some w = sym (rw q at e) ∙ s in cc)
 
 -- what is handed in was read
 pub is_fed : (bytes : List ℕ) (skips : Skips) (to : ℕ × ℕ) (c p : Point) (v : Option VirtualByte) → to.0 ≤ length bytes → (to.0 ≡ length bytes → to.1 ≡ 0) → p ≡ place_in skips c → v ≡ byte_before bytes to p → IsFed (length bytes) c p v
 is_fed bytes skips to c p v h k ep ev = record {
   forward = subst (λ (z : Point). remaining (length bytes) z ≤ remaining (length bytes) c) (sym ep) (start_less (length bytes) skips c);
+  order = subst (λ (z : Point). Reaches c z) (sym ep) (start_reaches skips c);
   read = λ w s. is_read bytes to p v w h k ev s;
 }
 

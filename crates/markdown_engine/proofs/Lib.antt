@@ -1,5 +1,9 @@
+pub mod Tests
 pub mod Outcomes
 pub mod Starts
 pub mod Push
+pub mod Order
 pub mod Falls
+pub mod Resolves
 pub mod ChainSteps
+pub mod Total

@@ -1,40 +1,45 @@
 -- The loop of `push`.
 use Rattle.std.proofs.Common.{◌≡◌, ℕ, ◌+◌, ◌<◌, ◌≤◌, ◌++◌, [], ◌∷◌, length, map, List, Bool, true, false, refl, sym, ap, subst, ◌∙◌, arith, ◌⊎◌, inl, inr, Option, None, is_some, not, append-nil}
-use Rattle.std.proofs.Common.{nat_lt, ◌==◌, ◌&&◌, ◌||◌}
+use Rattle.std.proofs.Common.{nat_lt, ◌==◌, ◌&&◌}
+use Rattle.std.specs.Prelude.{OnOk, Result, Ok, Err, is_err}
 use Rattle.std.proofs.lemmas.Bool.{ltb-true, lt-ltb, eqb-true, eq-eqb, cases_lt}
 use Rattle.engine_events.specs.declared.place.Point.{Point}
 use Rattle.engine_events.specs.declared.state.Name.{Name}
 use Rattle.engine_events.specs.declared.state.State.{State}
 use Rattle.engine_events.specs.declared.state.State.TheVariants as states
+use Rattle.std.specs.Borrow.{Bor}
 use Rattle.markdown_options.specs.declared.message.Message.{Message}
 use Rattle.markdown_engine.specs.declared.attempt.Attempt.{Attempt}
+use Rattle.markdown_engine.specs.declared.parse_state.ParseState.{ParseState}
 use Rattle.markdown_engine.specs.declared.virtual_text.VirtualByte.{VirtualByte}
 use Rattle.markdown_engine.specs.declared.tokenizer.Tokenizer.{Tokenizer}
 use Rattle.markdown_engine.specs.VirtualText.{Source, Text, is_before, byte_before, line_start, place_in, text_to, with_skip}
+use Rattle.markdown_engine.specs.Context.{Context, context}
 use Rattle.markdown_engine.specs.Reading.{Config, Steps, Runs, mark, moved, resumed, chosen, handed, feed, Outcome, ended}
-use Rattle.markdown_engine.specs.Machine.{config, source, Around, Opened, IsAfter, GoesOn, Goes, GoesAll, Refused, Did, Answers, Turn, Ended, Flushed, ReadWhole, weight}
-use Rattle.markdown_engine.specs.Laws.{Holds, HoldsAt, MovesOn, Ranks, Keeps, KeepsAt, FallsAt, OnlyAdds, IsFed}
+use Rattle.markdown_engine.specs.Machine.{config, read_with, source, AreCuts, Around, Opened, IsAfter, GoesOn, Goes, GoesAll, Pushed, Refused, Did, Answers, Turn, Ended, Flushed, ReadWhole, weight}
+use Rattle.markdown_engine.specs.Laws.{Holds, HoldsAt, MovesOn, RanksAt, KeepsAt, FallsAt, OnlyAdds, IsFed}
 use Rattle.markdown_engine.proofs.Outcomes.{ends, outcome_pop, outcome_retry, outcome_next}
 use Rattle.markdown_engine.proofs.Starts.{before, before_start, skip_later}
+use Rattle.markdown_engine.proofs.Tests.{by_tests, or_right, and_both}
 
 pub at_outcome : {M : Type 0} (text : Text) (step : Steps M) (s t : List Attempt) (c e : Config M) (x y : State) (d : Config M) (w : Bool) → s ≡ t → c ≡ e → x ≡ y → Outcome text step s c [] x d w → Outcome text step t e [] y d w
 at_outcome {M = M} text step s t c e x y d w p q r o =
     subst (λ (z : State). Outcome text step t e [] z d w) r (subst (λ (z : Config M). Outcome text step t z [] x d w) q (subst (λ (z : List Attempt). Outcome text step z c [] x d w) p o))
 
-module _ {M A : Type 0} (text : Text) (step : Steps M) (adds : OnlyAdds step) where
-  pub goes_pop : (v : Bool) (a : Attempt) (f t u : Tokenizer M A) (s x y : State) → x ≡ ended v → y ≡ chosen a v → t.attempts.items ≡ u.attempts.items ++ a ∷ [] → config u ≡ resumed a (config t) v → Goes text step s f t x → Goes text step s f u y
+module _ {M T A : Type 0} (text : Text) (step : Steps M) (adds : OnlyAdds step) where
+  pub goes_pop : (v : Bool) (a : Attempt) (f t u : Tokenizer M T A) (s x y : State) → x ≡ ended v → y ≡ chosen a v → t.attempts.items ≡ u.attempts.items ++ a ∷ [] → config u ≡ resumed a (config t) v → Goes text step s f t x → Goes text step s f u y
   goes_pop v a f t u s x y ex ey p q g = record {
     back = λ d w o. g.back d w (at_outcome text step (u.attempts.items ++ a ∷ []) t.attempts.items (config t) (config t) (ended v) x d w (sym p) refl (sym ex)
         (outcome_pop text step v u.attempts.items a (config t) d w (at_outcome text step u.attempts.items u.attempts.items (config u) (resumed a (config t) v) y (chosen a v) d w refl q ey o)));
   }
 
-  pub goes_retry : (n : Name) (f t u : Tokenizer M A) (s x y : State) → x ≡ states.Retry n → Did (step (config t) n) t u y → Goes text step s f t x → Goes text step s f u y
+  pub goes_retry : (n : Name) (f t u : Tokenizer M T A) (s x y : State) → x ≡ states.Retry n → Did (step (config t) n) t u y → Goes text step s f t x → Goes text step s f u y
   goes_retry n f t u s x y ex did g = let e = step (config t) n in record {
     back = λ d w o. g.back d w (at_outcome text step t.attempts.items t.attempts.items (config t) (config t) (states.Retry n) x d w refl refl (sym ex)
         (outcome_retry text step adds t.attempts.items (config t) n d w (at_outcome text step u.attempts.items (t.attempts.items ++ map mark e.pushed) (config u) e.config y e.state d w did.attempts did.config did.state o)));
   }
 
-  pub goes_next : (n : Name) (f t t' u : Tokenizer M A) (s x y : State) → x ≡ states.Next n → config t' ≡ feed text (config t) → t'.attempts.items ≡ t.attempts.items → Did (step (config t') n) t' u y → Goes text step s f t x → Goes text step s f u y
+  pub goes_next : (n : Name) (f t t' u : Tokenizer M T A) (s x y : State) → x ≡ states.Next n → config t' ≡ feed text (config t) → t'.attempts.items ≡ t.attempts.items → Did (step (config t') n) t' u y → Goes text step s f t x → Goes text step s f u y
   goes_next n f t t' u s x y ex ec es did g =
       let d' : Did (step (feed text (config t)) n) t' u y = subst (λ (z : Config M). Did (step z n) t' u y) ec did in
       let e = step (feed text (config t)) n in
@@ -53,17 +58,34 @@ fed_as : {M : Type 0} (more : Source) (limit : ℕ × ℕ) (c : Config M) (p : P
 fed_as more limit c p b h =
     subst (λ (z : Point). handed c p b ≡ handed c z (byte_before more.bytes limit z)) (sym h.place) (ap (λ (v : Option VirtualByte). handed c p v) (sym h.byte))
 
-pub around : {M A : Type 0} (t u : Tokenizer M A) → Around t u → source u ≡ source t
-around t u h =
+pub around : {M T A : Type 0} (t u : Tokenizer M T A) → Around t u → source u ≡ source t
+around {T = T} {A = A} t u h =
     let f = λ (bytes : List ℕ) (skips : List (ℕ × Point)). let s : Source = record { bytes = bytes; skips = skips } in s in
-    ap (λ (z : List ℕ). f z u.skips.entries) h.bytes ∙ ap (λ (z : List (ℕ × Point)). f t.bytes.now z) h.skips
+    ap (λ (z : ParseState T A). f z.bytes.now u.skips.entries) h.parse_state ∙ ap (λ (z : List (ℕ × Point)). f t.parse_state.now.bytes.now z) h.skips
+
+pub around_both : {M T A : Type 0} (t u v : Tokenizer M T A) → Around t u → Around u v → Around t v
+around_both t u v h k = record { parse_state = k.parse_state ∙ h.parse_state; skips = k.skips ∙ h.skips }
+
+pub same_read : {M T A : Type 0} (t u : Tokenizer M T A) → u.parse_state.now ≡ t.parse_state.now → read_with u ≡ read_with t
+same_read {T = T} {A = A} t u h = ap (λ (z : ParseState T A). context z) h
+
+-- the steps of what is read with
+pub answers_at : {M T A : Type 0} (steps : Context T → Steps M) (x y : Context T) (n : Name) (t u : Tokenizer M T A) (s : State) → x ≡ y → Answers (steps x (config t) n) t u s → Answers (steps y (config t) n) t u s
+answers_at {T = T} steps x y n t u s e h = subst (λ (z : Context T). Answers (steps z (config t) n) t u s) e h
+
+pub flushed_at : {M T A : Type 0} (steps : Context T → Steps M) (x y : Context T) (text : Text) (s : State) (old new : Tokenizer M T A) (r : State) → x ≡ y → Refused r ⊎ Flushed text (steps x) s old new r → Refused r ⊎ Flushed text (steps y) s old new r
+flushed_at {T = T} steps x y text s old new r e h = subst (λ (z : Context T). Refused r ⊎ Flushed text (steps z) s old new r) e h
+
+pub valid_at : {M T : Type 0} (valid : Holds T M) (x y : Context T) (c : Config M) (stack : List Attempt) (s : State) → x ≡ y → valid x c stack s → valid y c stack s
+valid_at {T = T} valid x y c stack s e h = subst (λ (z : Context T). valid z c stack s) e h
 
 not_ended : (v : Bool) → Refused (ended v) → ⊥
 not_ended true h = h
 not_ended false h = h
 
-unless : {P : Type 0} (s : State) → (Refused s → ⊥) → Refused s ⊎ P → P
-unless s h d = elim d [ inl r ↦ absurd (h r) | inr p ↦ p ]
+pub unless_refused : {P : Type 0} (s : State) → (Refused s → ⊥) → Refused s ⊎ P → P
+unless_refused s h (inl r) = absurd (h r)
+unless_refused s h (inr p) = p
 
 at_refused : (x y : State) → x ≡ y → Refused x → Refused y
 at_refused x y e h = subst (λ (z : State). Refused z) e h
@@ -98,50 +120,50 @@ module _ {M : Type 0} (size : ℕ) (valid : HoldsAt M) (step : Steps M) (keeps :
   kept_pop true stack a c h = keeps.ok c stack a h
   kept_pop false stack a c h = keeps.nok c stack a h
 
-module _ {M : Type 0} (size : ℕ) (valid : HoldsAt M) (step : Steps M) (rank : Ranks M) (falls : FallsAt size valid step rank) where
-  falls_pop : (v : Bool) (stack : List Attempt) (a : Attempt) (c : Config M) → valid c (stack ++ a ∷ []) (ended v) → rank size (resumed a c v) stack (chosen a v) < rank size c (stack ++ a ∷ []) (ended v)
+module _ {M : Type 0} (size : ℕ) (valid : HoldsAt M) (step : Steps M) (rank : RanksAt M) (falls : FallsAt size valid step rank) where
+  falls_pop : (v : Bool) (stack : List Attempt) (a : Attempt) (c : Config M) → valid c (stack ++ a ∷ []) (ended v) → rank (resumed a c v) stack (chosen a v) < rank c (stack ++ a ∷ []) (ended v)
   falls_pop true stack a c h = falls.ok c stack a h
   falls_pop false stack a c h = falls.nok c stack a h
 
-module _ {M A : Type 0} (size : ℕ) (valid : HoldsAt M) (step : Steps M) (rank : Ranks M) (adds : OnlyAdds step) (keeps : KeepsAt size valid step) (falls : FallsAt size valid step rank) where
-  pub is_valid : (to : ℕ × ℕ) (end : Bool) (f t : Tokenizer M A) (s x y : State) → x ≡ y → (Refused y → ⊥) → Turn valid step to end f s t x → valid (config t) t.attempts.items y
-  is_valid to end f t s x y e h k = subst (λ (z : State). valid (config t) t.attempts.items z) e (unless x (λ r. h (at_refused x y e r)) k.holds)
+module _ {M T A : Type 0} (size : ℕ) (valid : HoldsAt M) (step : Steps M) (rank : RanksAt M) (adds : OnlyAdds step) (keeps : KeepsAt size valid step) (falls : FallsAt size valid step rank) where
+  pub is_valid : (to : ℕ × ℕ) (end : Bool) (f t : Tokenizer M T A) (s x y : State) → x ≡ y → (Refused y → ⊥) → Turn valid step to end f s t x → valid (config t) t.attempts.items y
+  is_valid to end f t s x y e h k = subst (λ (z : State). valid (config t) t.attempts.items z) e (unless_refused x (λ r. h (at_refused x y e r)) k.holds)
 
-  pub turn_pop : (v : Bool) (a : Attempt) (to : ℕ × ℕ) (end : Bool) (f t u : Tokenizer M A) (s x y : State) → x ≡ ended v → y ≡ chosen a v → t.attempts.items ≡ u.attempts.items ++ a ∷ [] → config u ≡ resumed a (config t) v → source u ≡ source t → Turn valid step to end f s t x → Turn valid step to end f s u y
+  pub turn_pop : (v : Bool) (a : Attempt) (to : ℕ × ℕ) (end : Bool) (f t u : Tokenizer M T A) (s x y : State) → x ≡ ended v → y ≡ chosen a v → t.attempts.items ≡ u.attempts.items ++ a ∷ [] → config u ≡ resumed a (config t) v → Around t u → Turn valid step to end f s t x → Turn valid step to end f s u y
   turn_pop v a to end f t u s x y ex ey p q b h =
       let k : valid (config t) (u.attempts.items ++ a ∷ []) (ended v) = subst (λ (z : List Attempt). valid (config t) z (ended v)) p (is_valid to end f t s x (ended v) ex (not_ended v) h) in
       record {
-        same = b ∙ h.same;
+        same = around_both f t u h.same b;
         holds = inr (at_valid valid (resumed a (config t) v) (config u) u.attempts.items u.attempts.items (chosen a v) y (sym q) refl (sym ey) (kept_pop size valid step keeps v u.attempts.items a (config t) k));
         reads = elim h.reads [ inl r ↦ absurd (not_ended v (at_refused x (ended v) ex r)) | inr g ↦ inr (λ more limit on. goes_pop (text_to more limit) step adds v a f t u s x y ex ey p q (g more limit on)) ];
       }
 
-  pub turn_retry : (n : Name) (to : ℕ × ℕ) (end : Bool) (f t u : Tokenizer M A) (s x y : State) → x ≡ states.Retry n → Answers (step (config t) n) t u y → Turn valid step to end f s t x → Turn valid step to end f s u y
+  pub turn_retry : (n : Name) (to : ℕ × ℕ) (end : Bool) (f t u : Tokenizer M T A) (s x y : State) → x ≡ states.Retry n → Answers (step (config t) n) t u y → Turn valid step to end f s t x → Turn valid step to end f s u y
   turn_retry n to end f t u s x y ex h k =
       let e = step (config t) n in
       let v : valid (config t) t.attempts.items (states.Retry n) = is_valid to end f t s x (states.Retry n) ex (λ r. r) k in
       elim h.1 [
-        | inl r ↦ record { same = around t u h.0 ∙ k.same; holds = inl r; reads = inl r }
+        | inl r ↦ record { same = around_both f t u k.same h.0; holds = inl r; reads = inl r }
         | inr did ↦ record {
-          same = around t u h.0 ∙ k.same;
+          same = around_both f t u k.same h.0;
           holds = inr (at_valid valid e.config (config u) (t.attempts.items ++ map mark e.pushed) u.attempts.items e.state y (sym did.config) (sym did.attempts) (sym did.state) (keeps.called (config t) t.attempts.items n v));
           reads = elim k.reads [ inl r ↦ absurd (at_refused x (states.Retry n) ex r) | inr g ↦ inr (λ more limit on. goes_retry (text_to more limit) step adds n f t u s x y ex did (g more limit on)) ];
         }
       ]
 
-  pub valid_fed : (n : Name) (p : Point) (b : Option VirtualByte) (to : ℕ × ℕ) (end : Bool) (f t v : Tokenizer M A) (s x : State) → IsFed size t.point p b → x ≡ states.Next n
+  pub valid_fed : (n : Name) (p : Point) (b : Option VirtualByte) (to : ℕ × ℕ) (end : Bool) (f t v : Tokenizer M T A) (s x : State) → IsFed size t.point p b → x ≡ states.Next n
       → config v ≡ handed (config t) p b → v.attempts.items ≡ t.attempts.items → Turn valid step to end f s t x → valid (config v) v.attempts.items (states.Retry n)
   valid_fed n p b to end f t v s x read ex ec es k =
       let h : valid (config t) t.attempts.items (states.Next n) = is_valid to end f t s x (states.Next n) ex (λ r. r) k in
       at_valid valid (handed (config t) p b) (config v) t.attempts.items v.attempts.items (states.Retry n) (states.Retry n) (sym ec) (sym es) refl (keeps.fed (config t) t.attempts.items n p b read h)
 
-  pub turn_next : (n : Name) (p : Point) (b : Option VirtualByte) (to : ℕ × ℕ) (end : Bool) (f t v u : Tokenizer M A) (s x y : State) → IsFed size t.point p b → x ≡ states.Next n
-      → config v ≡ handed (config t) p b → v.attempts.items ≡ t.attempts.items → source v ≡ source t
+  pub turn_next : (n : Name) (p : Point) (b : Option VirtualByte) (to : ℕ × ℕ) (end : Bool) (f t v u : Tokenizer M T A) (s x y : State) → IsFed size t.point p b → x ≡ states.Next n
+      → config v ≡ handed (config t) p b → v.attempts.items ≡ t.attempts.items → Around t v
       → ((more : Source) (limit : ℕ × ℕ) → GoesOn (source f) to end more limit → IsThere more limit t.point p b)
       → Answers (step (config v) n) v u y → Turn valid step to end f s t x → Turn valid step to end f s u y
   turn_next n p b to end f t v u s x y read ex ec es eb text h k =
       let e = step (config v) n in
-      let bs : source u ≡ source f = around v u h.0 ∙ (eb ∙ k.same) in
+      let bs : Around f u = around_both f v u (around_both f t v k.same eb) h.0 in
       elim h.1 [
         | inl r ↦ record { same = bs; holds = inl r; reads = inl r }
         | inr did ↦ record {
@@ -151,63 +173,49 @@ module _ {M A : Type 0} (size : ℕ) (valid : HoldsAt M) (step : Steps M) (rank 
         }
       ]
 
-  smaller_by : (t u : Tokenizer M A) (x y : State) → rank size (config u) u.attempts.items y < rank size (config t) t.attempts.items x → weight x (rank size (config t) t.attempts.items x) ≡ rank size (config t) t.attempts.items x + 1 → weight y (rank size (config u) u.attempts.items y) < weight x (rank size (config t) t.attempts.items x)
-  smaller_by t u x y h k = let m = weight_most y (rank size (config u) u.attempts.items y) in omega arith
+  smaller_by : (t u : Tokenizer M T A) (x y : State) → rank (config u) u.attempts.items y < rank (config t) t.attempts.items x → weight x (rank (config t) t.attempts.items x) ≡ rank (config t) t.attempts.items x + 1 → weight y (rank (config u) u.attempts.items y) < weight x (rank (config t) t.attempts.items x)
+  smaller_by t u x y h k = let m = weight_most y (rank (config u) u.attempts.items y) in omega arith
 
-  pub smaller_pop : (v : Bool) (a : Attempt) (to : ℕ × ℕ) (end : Bool) (f t u : Tokenizer M A) (s x y : State) → x ≡ ended v → y ≡ chosen a v → t.attempts.items ≡ u.attempts.items ++ a ∷ [] → config u ≡ resumed a (config t) v → Turn valid step to end f s t x → weight y (rank size (config u) u.attempts.items y) < weight x (rank size (config t) t.attempts.items x)
+  pub smaller_pop : (v : Bool) (a : Attempt) (to : ℕ × ℕ) (end : Bool) (f t u : Tokenizer M T A) (s x y : State) → x ≡ ended v → y ≡ chosen a v → t.attempts.items ≡ u.attempts.items ++ a ∷ [] → config u ≡ resumed a (config t) v → Turn valid step to end f s t x → weight y (rank (config u) u.attempts.items y) < weight x (rank (config t) t.attempts.items x)
   smaller_pop v a to end f t u s x y ex ey p q h =
       let k : valid (config t) (u.attempts.items ++ a ∷ []) (ended v) = subst (λ (z : List Attempt). valid (config t) z (ended v)) p (is_valid to end f t s x (ended v) ex (not_ended v) h) in
       let lower = falls_pop size valid step rank falls v u.attempts.items a (config t) k in
-      let at_u : rank size (config u) u.attempts.items y ≡ rank size (resumed a (config t) v) u.attempts.items (chosen a v) = cc in
-      let at_t : rank size (config t) t.attempts.items x ≡ rank size (config t) (u.attempts.items ++ a ∷ []) (ended v) = cc in
-      smaller_by t u x y (omega arith) (weight_known x (ended v) (rank size (config t) t.attempts.items x) ex (weight_ended v (rank size (config t) t.attempts.items x)))
+      let at_u : rank (config u) u.attempts.items y ≡ rank (resumed a (config t) v) u.attempts.items (chosen a v) = cc in
+      let at_t : rank (config t) t.attempts.items x ≡ rank (config t) (u.attempts.items ++ a ∷ []) (ended v) = cc in
+      smaller_by t u x y (omega arith) (weight_known x (ended v) (rank (config t) t.attempts.items x) ex (weight_ended v (rank (config t) t.attempts.items x)))
 
-  pub smaller_retry : (n : Name) (to : ℕ × ℕ) (end : Bool) (f t u : Tokenizer M A) (s x y : State) → x ≡ states.Retry n → Answers (step (config t) n) t u y → Turn valid step to end f s t x → weight y (rank size (config u) u.attempts.items y) < weight x (rank size (config t) t.attempts.items x)
+  pub smaller_retry : (n : Name) (to : ℕ × ℕ) (end : Bool) (f t u : Tokenizer M T A) (s x y : State) → x ≡ states.Retry n → Answers (step (config t) n) t u y → Turn valid step to end f s t x → weight y (rank (config u) u.attempts.items y) < weight x (rank (config t) t.attempts.items x)
   smaller_retry n to end f t u s x y ex a k =
       let h : valid (config t) t.attempts.items (states.Retry n) = is_valid to end f t s x (states.Retry n) ex (λ r. r) k in
-      let top : weight x (rank size (config t) t.attempts.items x) ≡ rank size (config t) t.attempts.items x + 1 = weight_known x (states.Retry n) (rank size (config t) t.attempts.items x) ex refl in
+      let top : weight x (rank (config t) t.attempts.items x) ≡ rank (config t) t.attempts.items x + 1 = weight_known x (states.Retry n) (rank (config t) t.attempts.items x) ex refl in
       elim a.1 [
-        | inl r ↦ (let z = weight_refused y (rank size (config u) u.attempts.items y) r in omega arith)
+        | inl r ↦ (let z = weight_refused y (rank (config u) u.attempts.items y) r in omega arith)
         | inr did ↦ (
             let lower = falls.called (config t) t.attempts.items n h in
             let e = step (config t) n in
-            let at_u : rank size (config u) u.attempts.items y ≡ rank size e.config (t.attempts.items ++ map mark e.pushed) e.state = cc in
-            let at_t : rank size (config t) t.attempts.items x ≡ rank size (config t) t.attempts.items (states.Retry n) = cc in
+            let at_u : rank (config u) u.attempts.items y ≡ rank e.config (t.attempts.items ++ map mark e.pushed) e.state = cc in
+            let at_t : rank (config t) t.attempts.items x ≡ rank (config t) t.attempts.items (states.Retry n) = cc in
             smaller_by t u x y (omega arith) top)
       ]
 
-  pub smaller_next : (n : Name) (p : Point) (b : Option VirtualByte) (to : ℕ × ℕ) (end : Bool) (f t v u : Tokenizer M A) (s x y : State) → IsFed size t.point p b → x ≡ states.Next n
+  pub smaller_next : (n : Name) (p : Point) (b : Option VirtualByte) (to : ℕ × ℕ) (end : Bool) (f t v u : Tokenizer M T A) (s x y : State) → IsFed size t.point p b → x ≡ states.Next n
       → config v ≡ handed (config t) p b → v.attempts.items ≡ t.attempts.items
-      → Answers (step (config v) n) v u y → Turn valid step to end f s t x → weight y (rank size (config u) u.attempts.items y) < weight x (rank size (config t) t.attempts.items x)
+      → Answers (step (config v) n) v u y → Turn valid step to end f s t x → weight y (rank (config u) u.attempts.items y) < weight x (rank (config t) t.attempts.items x)
   smaller_next n p b to end f t v u s x y read ex ec es a k =
       let h : valid (config t) t.attempts.items (states.Next n) = is_valid to end f t s x (states.Next n) ex (λ r. r) k in
       let hv = valid_fed n p b to end f t v s x read ex ec es k in
-      let top : weight x (rank size (config t) t.attempts.items x) ≡ rank size (config t) t.attempts.items x + 1 = weight_known x (states.Next n) (rank size (config t) t.attempts.items x) ex refl in
+      let top : weight x (rank (config t) t.attempts.items x) ≡ rank (config t) t.attempts.items x + 1 = weight_known x (states.Next n) (rank (config t) t.attempts.items x) ex refl in
       elim a.1 [
-        | inl r ↦ (let z = weight_refused y (rank size (config u) u.attempts.items y) r in omega arith)
+        | inl r ↦ (let z = weight_refused y (rank (config u) u.attempts.items y) r in omega arith)
         | inr did ↦ (
             let lower = falls.called (config v) v.attempts.items n hv in
             let fed = falls.fed (config t) t.attempts.items n p b h read in
             let e = step (config v) n in
-            let at_u : rank size (config u) u.attempts.items y ≡ rank size e.config (v.attempts.items ++ map mark e.pushed) e.state = cc in
-            let at_v : rank size (config v) v.attempts.items (states.Retry n) ≡ rank size (handed (config t) p b) t.attempts.items (states.Retry n) = cc in
-            let at_t : rank size (config t) t.attempts.items x ≡ rank size (config t) t.attempts.items (states.Next n) = cc in
+            let at_u : rank (config u) u.attempts.items y ≡ rank e.config (v.attempts.items ++ map mark e.pushed) e.state = cc in
+            let at_v : rank (config v) v.attempts.items (states.Retry n) ≡ rank (handed (config t) p b) t.attempts.items (states.Retry n) = cc in
+            let at_t : rank (config t) t.attempts.items x ≡ rank (config t) t.attempts.items (states.Next n) = cc in
             smaller_by t u x y (omega arith) top)
       ]
-
-by_tests : (t u v : Bool) → t || (u && v) ≡ true → (t ≡ true) ⊎ ((u ≡ true) × (v ≡ true))
-by_tests true u v e = inl refl
-by_tests false true true e = inr (refl, refl)
-by_tests false true false e = absurd (let f : false ≡ true = e in cc)
-by_tests false false v e = absurd (let f : false ≡ true = e in cc)
-
-or_right : (t u : Bool) → u ≡ true → t || u ≡ true
-or_right true u e = refl
-or_right false u e = e
-
-and_both : (t u : Bool) → t ≡ true → u ≡ true → t && u ≡ true
-and_both true u e k = k
-and_both false u e k = absurd (let f : false ≡ true = e in cc)
 
 at_index : (to limit : ℕ × ℕ) (p : Point) → IsAfter to limit → p.index ≡ to.0 → p.vs < to.1 → (to.0 < limit.0) ⊎ (limit.0 ≤ to.0) → is_before limit p ≡ true
 at_index to limit p h e l (inl k) = let i : p.index < limit.0 = omega arith in rw (lt-ltb p.index limit.0 i) refl
@@ -248,10 +256,10 @@ at_end b n end h (inl k) e = k.1
 at_end b n end h (inr k) e = absurd (let f : false ≡ true = sym (ap is_some e) ∙ (h ∙ ap not k) in cc)
 
 -- the stack has the same attempts
-pub same_stack : {M A : Type 0} (valid : HoldsAt M) (step : Steps M) (to : ℕ × ℕ) (end : Bool) (f t u : Tokenizer M A) (s x : State) → config u ≡ config t → t.attempts.items ≡ u.attempts.items ++ [] → source u ≡ source t
-    → Turn valid step to end f s t x → (source u ≡ source f) × (Refused x ⊎ GoesAll step (source f) to end s f u x)
+pub same_stack : {M T A : Type 0} (valid : HoldsAt M) (step : Steps M) (to : ℕ × ℕ) (end : Bool) (f t u : Tokenizer M T A) (s x : State) → config u ≡ config t → t.attempts.items ≡ u.attempts.items ++ [] → Around t u
+    → Turn valid step to end f s t x → Around f u × (Refused x ⊎ GoesAll step (source f) to end s f u x)
 same_stack valid step to end f t u s x ec es eb k = (
-  eb ∙ k.same,
+  around_both f t u k.same eb,
   elim k.reads [
     | inl r ↦ inl r
     | inr g ↦ inr (λ more limit on. record {
@@ -261,14 +269,9 @@ same_stack valid step to end f t u s x ec es eb k = (
 )
 
 -- where a range begins, what is next holds
-pub opened_valid : {M A : Type 0} (valid : Holds M) (step : Steps M) (keeps : Keeps valid step) (from : ℕ × ℕ) (f t : Tokenizer M A) (s : State) → MovesOn s → Opened from f t → Refused s ⊎ valid (length f.bytes.now) (config f) f.attempts.items s → Refused s ⊎ valid (length f.bytes.now) (config t) t.attempts.items s
-opened_valid valid step keeps from f t s m o (inl r) = inl r
-opened_valid valid step keeps from f t s m o (inr v) =
-    inr (at_valid (valid (length f.bytes.now)) (moved o.point (config f)) (config t) f.attempts.items t.attempts.items s s (sym o.config) (sym o.attempts) refl ((keeps (length f.bytes.now)).moved (config f) f.attempts.items s o.point m o.forward v))
-
-unless_refused : {P : Type 0} (s : State) → (Refused s → ⊥) → Refused s ⊎ P → P
-unless_refused s h (inl r) = absurd (h r)
-unless_refused s h (inr p) = p
+pub opened_valid : {M T A : Type 0} (valid : HoldsAt M) (step : Steps M) (from : ℕ × ℕ) (f t : Tokenizer M T A) (s : State) → KeepsAt (length f.parse_state.now.bytes.now) valid step → MovesOn s → Opened from f t → valid (config f) f.attempts.items s → valid (config t) t.attempts.items s
+opened_valid valid step from f t s keeps m o v =
+    at_valid valid (moved o.point (config f)) (config t) f.attempts.items t.attempts.items s s (sym o.config) (sym o.attempts) refl (keeps.moved (config f) f.attempts.items s o.point m o.forward o.order v)
 
 at_itself : (to : ℕ × ℕ) → IsAfter to to
 at_itself to = record { index = omega arith; column = λ e. omega arith }
@@ -276,43 +279,62 @@ at_itself to = record { index = omega arith; column = λ e. omega arith }
 right_there : (s : Source) (to : ℕ × ℕ) → GoesOn s to true s to
 right_there s to = record { bytes = refl; after = at_itself to; starts = λ p e. refl; ends = λ e. (refl, refl) }
 
-done : {M A : Type 0} (step : Steps M) (to : ℕ × ℕ) (old new : Tokenizer M A) (s r : State) → Ended new r → GoesAll step (source old) to true s old new r → (v : Bool) → r ≡ ended v → Flushed (text_to (source old) to) step s old new r
+done : {M T A : Type 0} (step : Steps M) (to : ℕ × ℕ) (old new : Tokenizer M T A) (s r : State) → Ended new r → GoesAll step (source old) to true s old new r → (v : Bool) → r ≡ ended v → Flushed (text_to (source old) to) step s old new r
 done step to old new s r h g v e =
     let text = text_to (source old) to in
     let o : Outcome text step new.attempts.items (config new) [] r (config new) v = at_outcome text step [] new.attempts.items (config new) (config new) (ended v) r (config new) v (sym h.attempts) refl (sym e) (record { mid = config new; how = v; runs = ends text step v (config new); unwinds = (refl, refl) }) in
     record { well = v; state = e; outcome = (g (source old) to (right_there (source old) to)).back (config new) v o }
 
-pub flushed : {M A : Type 0} (step : Steps M) (to : ℕ × ℕ) (old new : Tokenizer M A) (s r : State) → (source new ≡ source old) × (Refused r ⊎ GoesAll step (source old) to true s old new r) → Refused r ⊎ Ended new r → Refused r ⊎ Flushed (text_to (source old) to) step s old new r
+pub flushed : {M T A : Type 0} (step : Steps M) (to : ℕ × ℕ) (old new : Tokenizer M T A) (s r : State) → Around old new × (Refused r ⊎ GoesAll step (source old) to true s old new r) → Refused r ⊎ Ended new r → Refused r ⊎ Flushed (text_to (source old) to) step s old new r
 flushed step to old new s r p (inl h) = inl h
 flushed step to old new s r p (inr h) = elim p.1 [ inl k ↦ inl k | inr g ↦ inr (elim h.state [ inl e ↦ done step to old new s r h g true e | inr e ↦ done step to old new s r h g false e ]) ]
 
+-- what else the tokenizer holds doesn't matter
+pub pushed_as : {M T A : Type 0} (steps : Context T → Steps M) (x y : Context T) (to : ℕ × ℕ) (end : Bool) (s : State) (old new later : Tokenizer M T A) (r : State) → x ≡ y → config later ≡ config new → later.attempts.items ≡ new.attempts.items → Around new later
+    → Pushed (steps x) to end s old new r → Pushed (steps y) to end s old later r
+pushed_as {M = M} {T = T} {A = A} steps x y to end s old new later r e ec ea ar p = subst (λ (z : Context T). Pushed (steps z) to end s old later r) e (around_both old new later p.0 ar, there p.1)
+  where
+    there : Refused r ⊎ GoesAll (steps x) (source old) to end s old new r → Refused r ⊎ GoesAll (steps x) (source old) to end s old later r
+    there (inl h) = inl h
+    there (inr g) = inr (λ more limit on. record {
+      back = λ d w o. (g more limit on).back d w (at_outcome (text_to more limit) (steps x) later.attempts.items new.attempts.items (config later) (config new) r r d w ea ec refl o);
+    })
+
+-- at the end nothing waits
+pub ended_valid : {M T A : Type 0} (valid : HoldsAt M) (t : Tokenizer M T A) (r : State) → Refused r ⊎ Ended t r → Refused r ⊎ valid (config t) t.attempts.items r → Refused r ⊎ valid (config t) [] r
+ended_valid valid t r (inl h) k = inl h
+ended_valid valid t r (inr h) (inl k) = inl k
+ended_valid valid t r (inr h) (inr k) = inr (subst (λ (z : List Attempt). valid (config t) z r) h.attempts k)
+
+-- with nothing that waits, an outcome is a reading
+pub whole_run : {M : Type 0} (text : Text) (step : Steps M) (c : Config M) (s : State) (d : Config M) (w : Bool) → Outcome text step [] c [] s d w → Runs text step c [] s d w
+whole_run {M = M} text step c s d w o = subst (λ (z : Bool). Runs text step c [] s d z) o.unwinds.1 (subst (λ (z : Config M). Runs text step c [] s z o.how) o.unwinds.0 o.runs)
+
 -- with nothing that waits at first, the text is read whole
-pub whole_of : {M A : Type 0} (step : Steps M) (from : Source) (old new : Tokenizer M A) (s r : State) → old.attempts.items ≡ [] → Refused r ⊎ Flushed (text_to from (length from.bytes, 0)) step s old new r → Refused r ⊎ ReadWhole from step s old new r
+pub whole_of : {M T A : Type 0} (step : Steps M) (from : Source) (old new : Tokenizer M T A) (s r : State) → old.attempts.items ≡ [] → Refused r ⊎ Flushed (text_to from (length from.bytes, 0)) step s old new r → Refused r ⊎ ReadWhole from step s old new r
 whole_of step from old new s r f (inl h) = inl h
-whole_of {M = M} step from old new s r f (inr h) =
+whole_of step from old new s r f (inr h) =
     let text = text_to from (length from.bytes, 0) in
     let o : Outcome text step [] (config old) [] s (config new) h.well = subst (λ (z : List Attempt). Outcome text step z (config old) [] s (config new) h.well) f h.outcome in
-    let x : o.mid ≡ config new = o.unwinds.0 in
-    let y : o.how ≡ h.well = o.unwinds.1 in
-    inr (record { well = h.well; state = h.state; runs = subst (λ (z : Bool). Runs text step (config old) [] s (config new) z) y (subst (λ (z : Config M). Runs text step (config old) [] s z o.how) x o.runs) })
+    inr (record { well = h.well; state = h.state; runs = whole_run text step (config old) s (config new) h.well o })
 
-pub at_once : {M A : Type 0} (step : Steps M) (old new : Tokenizer M A) (s r : State) → old.attempts.items ≡ [] → Refused r ⊎ Flushed (text_to (source old) (length old.bytes.now, 0)) step s old new r → Refused r ⊎ ReadWhole (source old) step s old new r
+pub at_once : {M T A : Type 0} (step : Steps M) (old new : Tokenizer M T A) (s r : State) → old.attempts.items ≡ [] → Refused r ⊎ Flushed (text_to (source old) (length old.parse_state.now.bytes.now, 0)) step s old new r → Refused r ⊎ ReadWhole (source old) step s old new r
 at_once step old new s r f h = whole_of step (source old) old new s r f h
 
 -- a line got a skip
-pub skipped_as : {M A : Type 0} (t u : Tokenizer M A) (p : Point) → u.bytes.now ≡ t.bytes.now → u.skips.entries ≡ (with_skip (source t) p).skips → source u ≡ with_skip (source t) p
-skipped_as t u p b k =
+pub skipped_as : {M T A : Type 0} (t u : Tokenizer M T A) (p : Point) → u.parse_state.now ≡ t.parse_state.now → u.skips.entries ≡ (with_skip (source t) p).skips → source u ≡ with_skip (source t) p
+skipped_as {T = T} {A = A} t u p b k =
     let f = λ (bytes : List ℕ) (skips : List (ℕ × Point)). let s : Source = record { bytes = bytes; skips = skips } in s in
-    ap (λ (z : List ℕ). f z u.skips.entries) b ∙ ap (λ (z : List (ℕ × Point)). f t.bytes.now z) k
+    ap (λ (z : ParseState T A). f z.bytes.now u.skips.entries) b ∙ ap (λ (z : List (ℕ × Point)). f t.parse_state.now.bytes.now z) k
 
 -- two ranges are read as one text, however it goes on after the first
-pub joined : {M A : Type 0} (step : Steps M) (cut : ℕ × ℕ) (old mid later new : Tokenizer M A) (s x r : State) → GoesOn (source old) cut false (source later) (length later.bytes.now, 0)
+pub joined : {M T A : Type 0} (step : Steps M) (cut : ℕ × ℕ) (old mid later new : Tokenizer M T A) (s x r : State) → GoesOn (source old) cut false (source later) (length later.parse_state.now.bytes.now, 0)
     → config later ≡ config mid → later.attempts.items ≡ mid.attempts.items
-    → (source mid ≡ source old) × (Refused x ⊎ GoesAll step (source old) cut false s old mid x) → (Refused x → ⊥)
-    → Refused r ⊎ Flushed (text_to (source later) (length later.bytes.now, 0)) step x later new r → Refused r ⊎ Flushed (text_to (source later) (length later.bytes.now, 0)) step s old new r
+    → Around old mid × (Refused x ⊎ GoesAll step (source old) cut false s old mid x) → (Refused x → ⊥)
+    → Refused r ⊎ Flushed (text_to (source later) (length later.parse_state.now.bytes.now, 0)) step x later new r → Refused r ⊎ Flushed (text_to (source later) (length later.parse_state.now.bytes.now, 0)) step s old new r
 joined step cut old mid later new s x r on ec es p n (inl h) = inl h
 joined {M = M} step cut old mid later new s x r on ec es p n (inr h) =
-    let end : ℕ × ℕ = (length later.bytes.now, 0) in
+    let end : ℕ × ℕ = (length later.parse_state.now.bytes.now, 0) in
     let g = (unless_refused x n p.1) (source later) end on in
     let o = at_outcome (text_to (source later) end) step later.attempts.items mid.attempts.items (config later) (config mid) x x (config new) h.well es ec refl h.outcome in
     inr (record { well = h.well; state = h.state; outcome = g.back (config new) h.well o })
@@ -338,7 +360,7 @@ skip_goes_on s cut p end low after = record {
 pub within : (cut : ℕ × ℕ) (n : ℕ) → cut.0 < n → IsAfter cut (n, 0)
 within cut n low = record { index = omega arith; column = λ e. absurd (omega arith) }
 
-pub not_refused : (s : State) → ((m : Message) → s ≡ states.Error m → ⊥) → Refused s → ⊥
+pub not_refused : (s : State) → ((m : Bor Message) → s ≡ states.Error m → ⊥) → Refused s → ⊥
 not_refused (states.Error m) h r = h m refl
 not_refused (states.Next n) h r = r
 not_refused (states.Retry n) h r = r
@@ -346,6 +368,71 @@ not_refused states.Ok h r = r
 not_refused states.Nok h r = r
 
 -- an error comes of want of memory
-pub only_memory : {M : Type 0} (size : ℕ) (valid : HoldsAt M) (step : Steps M) (keeps : KeepsAt size valid step) (c : Config M) (stack : List Attempt) (s : State) (m : Message) → s ≡ states.Error m → Refused s ⊎ valid c stack s → Refused s
+pub only_memory : {M : Type 0} (size : ℕ) (valid : HoldsAt M) (step : Steps M) (keeps : KeepsAt size valid step) (c : Config M) (stack : List Attempt) (s : State) (m : Bor Message) → s ≡ states.Error m → Refused s ⊎ valid c stack s → Refused s
 only_memory size valid step keeps c stack s m e (inl r) = r
 only_memory size valid step keeps c stack s m e (inr v) = absurd (keeps.no_error c stack m (subst (λ (z : State). valid c stack z) e v))
+
+-- what reading range by range keeps
+pub record Ranging {M T A : Type 0} (valid : HoldsAt M) (step : Steps M) (old : Tokenizer M T A) (given : State) (t : Tokenizer M T A) (s : State) (cuts : List (ℕ × ℕ)) : Type 0 where
+  pub last : ℕ × ℕ
+  pub cuts_left : AreCuts last cuts (length old.parse_state.now.bytes.now)
+  pub within : IsAfter last (length old.parse_state.now.bytes.now, 0)
+  pub around : Around old t
+  pub holds : valid (config t) t.attempts.items s
+  pub reads : GoesAll step (source old) last false given old t s
+
+pub nothing_read : {M T A : Type 0} (valid : HoldsAt M) (step : Steps M) (old : Tokenizer M T A) (s : State) (cuts : List (ℕ × ℕ)) → AreCuts (0, 0) cuts (length old.parse_state.now.bytes.now) → valid (config old) old.attempts.items s → Ranging valid step old s old s cuts
+nothing_read valid step old s cuts a v = record {
+  last = (0, 0);
+  cuts_left = a;
+  within = record { index = omega arith; column = λ e. omega arith };
+  around = record { parse_state = refl; skips = refl };
+  holds = v;
+  reads = λ more limit on. record { back = λ d w o. o };
+}
+
+-- a text that goes on after a later end goes on after an earlier one
+goes_on_after : (s : Source) (from to : ℕ × ℕ) (more : Source) (limit : ℕ × ℕ) → IsAfter from to → GoesOn s to false more limit → GoesOn s from false more limit
+goes_on_after s from to more limit h on = record {
+  bytes = on.bytes;
+  after = record { index = let i = h.index in let j = on.after.index in omega arith; column = λ e. let i = h.index in let j = on.after.index in let k = h.column (omega arith) in let l = on.after.column (omega arith) in omega arith };
+  starts = λ p e. on.starts p (before_later from to p h e);
+  ends = λ f. absurd (let k : false ≡ true = f in cc);
+}
+
+pub range_read : {M T A : Type 0} (valid : HoldsAt M) (step : Steps M) (old t u : Tokenizer M T A) (given s x : State) (cuts rest : List (ℕ × ℕ)) (cut : ℕ × ℕ) → cuts ≡ cut ∷ rest → (Refused x → ⊥) → Ranging valid step old given t s cuts
+    → Pushed step cut false s t u x → Refused x ⊎ valid (config u) u.attempts.items x → Ranging valid step old given u x rest
+range_read valid step old t u given s x cuts rest cut e n h p v =
+    let size = length old.parse_state.now.bytes.now in
+    let left : AreCuts h.last (cut ∷ rest) size = subst (λ (z : List (ℕ × ℕ)). AreCuts h.last z size) e h.cuts_left in
+    let same = around old t h.around in
+    record {
+      last = cut;
+      cuts_left = left.2;
+      within = within cut size left.1;
+      around = around_both old t u h.around p.0;
+      holds = unless_refused x n v;
+      reads = λ more limit on. record {
+        back = λ d w o. (h.reads more limit (goes_on_after (source old) h.last cut more limit left.0 on)).back d w
+            ((unless_refused x n p.1 more limit (subst (λ (z : Source). GoesOn z cut false more limit) (sym same) on)).back d w o);
+      };
+    }
+
+pub valid_or_refused : {M T : Type 0} (valid : Holds T M) (x y : Context T) (c : Config M) (stack : List Attempt) (s : State) → x ≡ y → Refused s ⊎ valid x c stack s → Refused s ⊎ valid y c stack s
+valid_or_refused {T = T} valid x y c stack s e h = subst (λ (z : Context T). Refused s ⊎ valid z c stack s) e h
+
+-- the last range, up to the text's end
+pub joined_ranges : {M T A : Type 0} (valid : HoldsAt M) (step : Steps M) (old mid new : Tokenizer M T A) (given s r : State) (cuts : List (ℕ × ℕ)) → Ranging valid step old given mid s cuts
+    → Refused r ⊎ Flushed (text_to (source mid) (length mid.parse_state.now.bytes.now, 0)) step s mid new r → Refused r ⊎ Flushed (text_to (source mid) (length mid.parse_state.now.bytes.now, 0)) step given old new r
+joined_ranges valid step old mid new given s r cuts h (inl k) = inl k
+joined_ranges valid step old mid new given s r cuts h (inr k) =
+    let same = around old mid h.around in
+    let size = ap (λ (z : Source). length z.bytes) same in
+    let end : ℕ × ℕ = (length mid.parse_state.now.bytes.now, 0) in
+    let on = same_goes_on (source old) (source mid) h.last end same (subst (λ (n : ℕ). IsAfter h.last (n, 0)) (sym size) h.within) in
+    inr (record { well = k.well; state = k.state; outcome = (h.reads (source mid) end on).back (config new) k.well k.outcome })
+
+-- an answer that is no error is well
+pub unless_error : {X E : Type 0} {P : Type 0} (r : Result X E) → is_err r ≡ false → OnOk r P → P
+unless_error (Ok x) e h = h
+unless_error (Err x) e h = absurd (let f : true ≡ false = e in cc)

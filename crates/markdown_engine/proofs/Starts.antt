@@ -7,20 +7,9 @@ use Rattle.std.specs.Map.{lookup}
 use Rattle.engine_events.specs.declared.place.Point.{Point}
 use Rattle.markdown_engine.specs.VirtualText.{Skips, is_before, place_in, start_of_line}
 use Rattle.markdown_engine.specs.Laws.{remaining}
-
-by_tests : (t u v : Bool) → t || (u && v) ≡ true → (t ≡ true) ⊎ ((u ≡ true) × (v ≡ true))
-by_tests true u v e = inl refl
-by_tests false true true e = inr (refl, refl)
-by_tests false true false e = absurd (let f : false ≡ true = e in cc)
-by_tests false false v e = absurd (let f : false ≡ true = e in cc)
-
-or_right : (t u : Bool) → u ≡ true → t || u ≡ true
-or_right true u e = refl
-or_right false u e = e
-
-and_both : (t u : Bool) → t ≡ true → u ≡ true → t && u ≡ true
-and_both true u e k = k
-and_both false u e k = absurd (let f : false ≡ true = e in cc)
+use Rattle.markdown_engine.specs.Order.{Reaches}
+use Rattle.markdown_engine.specs.OrderLaws.{stays}
+use Rattle.markdown_engine.proofs.Tests.{by_tests, or_right, and_both}
 
 -- a place stands before another
 abbrev pub Before : ℕ × ℕ → Point → Type 0
@@ -85,6 +74,15 @@ forward_less size p q (inr h) = later_less size p q h.0 h.1
 -- what is skipped leaves no more
 pub start_less : (size : ℕ) (skips : Skips) (p : Point) → remaining size (place_in skips p) ≤ remaining size p
 start_less size skips p = forward_less size p (place_in skips p) (place_forward skips p)
+
+forward_reaches : (p q : Point) → Forward p q → Reaches p q
+forward_reaches p q (inl h) = subst (λ (z : Point). Reaches p z) (sym h) (stays p)
+forward_reaches p q (inr (h, inl k)) = record { index = omega arith; column = λ e. omega arith }
+forward_reaches p q (inr (h, inr k)) = let i = k.0 in record { index = omega arith; column = λ e. omega arith }
+
+-- what is skipped leads on
+pub start_reaches : (skips : Skips) (p : Point) → Reaches p (place_in skips p)
+start_reaches skips p = forward_reaches p (place_in skips p) (place_forward skips p)
 
 other_place : (n k : ℕ) → n < k → is_at (nat_cmp n) k ≡ false
 other_place n k h = unsigned_tied n k ∙ ne_eqb n k (λ e. omega arith)

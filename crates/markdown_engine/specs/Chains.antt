@@ -20,6 +20,7 @@ use Rattle.engine_chunks.specs.Parts.{counts, divided}
 use Rattle.markdown_engine.specs.Laws.{HoldsAt}
 use Rattle.markdown_engine.specs.Machine.{fresh}
 use Rattle.markdown_engine.specs.Reading.{Config, Steps, Runs}
+use Rattle.markdown_engine.specs.Resolving.{Found, Resolves, found_both, nothing_found, resolve_all}
 use Rattle.markdown_engine.specs.VirtualText.{Source, Text, line_start, text_to, with_skip}
 
 -- whether a content is asked for; without a filter each is
@@ -112,24 +113,25 @@ first_state contents.String = Inline inline_states.StringStart
 first_state contents.Flow = Inline inline_states.TextStart
 first_state contents.Text = Inline inline_states.TextStart
 
-module _ {M : Type 0} (step : Steps M) (bytes : List ℕ) (machine : M) (events : List Event) where
-  -- these are the events that reading a chain's text gives
-  pub record ReadsChain (chain : Chain) (children : List Event) : Type 0 where
-    pub config : Config M
-    pub well : Bool
-    pub runs : Runs (chain_text bytes events chain.0) step (fresh (place_at events chain.0) machine) [] (states.Next (first_state chain.1)) config well
-    pub added : children ≡ config.events
+module _ {M : Type 0} (step : Steps M) (resolve : Resolves M) (bytes : List ℕ) (machine : M) (events : List Event) where
+  -- these are the events that reading a chain's text gives once resolvers have run, and what these found
+  pub record ReadsChain (chain : Chain) (children : List Event) (found : Found) : Type 0 where
+    pub read : Config M
+    pub runs : Runs (chain_text bytes events chain.0) step (fresh (place_at events chain.0) machine) [] (states.Next (first_state chain.1)) read true
+    pub added : children ≡ (resolve_all resolve read).config.events
+    pub labels : found ≡ (resolve_all resolve read).found
 
   -- chain by chain, each chunk is replaced by its part of the events that were read of its chain
-  abbrev pub Divides : List Chain → ℕ × ℕ → List Placed → List Placed → Type 0
-  Divides [] acc edits all = edits ≡ all
-  Divides (c ∷ cs) acc edits all =
-      (children : List Event) × ReadsChain c children × Divides cs (counts events (chunks events c.0) children 0 acc.0 acc.1) (divided events c.0 children acc edits) all
+  abbrev pub Divides : List Chain → ℕ × ℕ → List Placed → List Placed → Found → Found → Type 0
+  Divides [] acc edits all found total = (edits ≡ all) × (found ≡ total)
+  Divides (c ∷ cs) acc edits all found total =
+      (children : List Event) × (more : Found) × ReadsChain c children more
+      × Divides cs (counts events (chunks events c.0) children 0 acc.0 acc.1) (divided events c.0 children acc edits) all (found_both found more) total
 
 -- each chain that is asked for is read, and what was read of it stands in its place
-pub record Subtokenized {M : Type 0} (step : Steps M) (bytes : List ℕ) (machine : M) (filter : Option Content) (old new : List Event) : Type 0 where
+pub record Subtokenized {M : Type 0} (step : Steps M) (resolve : Resolves M) (bytes : List ℕ) (machine : M) (filter : Option Content) (old new : List Event) (found : Found) : Type 0 where
   pub edits : List Placed
-  pub divides : Divides step bytes machine old (chains filter old) (0, 0) [] edits
+  pub divides : Divides step resolve bytes machine old (chains filter old) (0, 0) [] edits nothing_found found
   pub edited : new ≡ edited edits old
 
 -- the machine may begin each of these chains

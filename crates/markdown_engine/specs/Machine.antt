@@ -1,42 +1,46 @@
 -- What the calls of a tokenizer do.
-use Rattle.std.specs.Prelude.{◌≡◌, ℕ, ◌+◌, ◌≤◌, Bool, true, false, if◌then◌else◌, length, [], ◌∷◌, ◌++◌, map, Option, None, ◌⊎◌}
-use Rattle.markdown_options.specs.Messages.{IsOutOfMemory}
+use Rattle.std.specs.Prelude.{◌≡◌, ℕ, ◌+◌, ◌≤◌, ◌<◌, Bool, true, false, if◌then◌else◌, length, List, [], ◌∷◌, ◌++◌, map, Option, None, ◌⊎◌}
 use Rattle.engine_events.specs.declared.event.Name.{Name}
-use Rattle.engine_events.specs.declared.event.Name.TheVariants.{Data}
 use Rattle.engine_events.specs.declared.event.Kind.TheVariants.{Enter, Exit}
 use Rattle.engine_events.specs.declared.state.State.{State}
 use Rattle.engine_events.specs.declared.state.State.TheVariants as states
 use Rattle.engine_events.specs.declared.event.Link.{Link}
 use Rattle.engine_events.specs.Events.{event}
-use Rattle.markdown_engine.specs.declared.tokenize_state.TokenizeState.{TokenizeState}
+pub use Rattle.engine_events.specs.States.{Refused}
 use Rattle.markdown_engine.specs.declared.tokenizer.Tokenizer.{Tokenizer}
+use Rattle.engine_edits.specs.Edits.{edits_of}
+use Rattle.markdown_engine.specs.Kept.{kept, nothing_kept}
+use Rattle.markdown_engine.specs.Context.{Context, context}
+use Rattle.markdown_engine.specs.Resolving.{Found, Resolves, finished}
 use Rattle.markdown_engine.specs.Reading.{Config, Effect, Frame, Steps, Outcome, Runs, ended, mark, moved}
 use Rattle.engine_events.specs.declared.resolve.Name.{Name as Resolver}
 use Rattle.markdown_engine.specs.Resolvers.{with_first, with_last}
 use Rattle.markdown_engine.specs.VirtualText.{Source, Text, Walks, is_before, is_feed, place_in, text_to}
 use Rattle.engine_events.specs.declared.place.Point.{Point}
 use Rattle.markdown_engine.specs.Laws.{HoldsAt, remaining}
+use Rattle.markdown_engine.specs.Order.{Reaches}
 
-module _ {M A : Type 0} where
-  abbrev pub config : Tokenizer M A → Config M
-  config t = record { events = t.events.items; point = t.point; next = t.next; line_start = t.line_start; previous = t.previous; current = t.current; tokenize_state = t.tokenize_state; resolvers = t.resolvers.items; machine = t.machine }
+module _ {M T A : Type 0} where
+  abbrev pub config : Tokenizer M T A → Config M
+  config t = record { events = t.events.items; point = t.point; next = t.next; line_start = t.line_start; previous = t.previous; current = t.current; tokenize_state = kept t.tokenize_state; map = edits_of t.map; resolvers = t.resolvers.items; interrupt = t.interrupt; lazy = t.lazy; concrete = t.concrete; pierce = t.pierce; machine = t.machine }
 
   -- what it reads from
-  abbrev pub source : Tokenizer M A → Source
-  source t = record { bytes = t.bytes.now; skips = t.skips.entries }
+  abbrev pub source : Tokenizer M T A → Source
+  source t = record { bytes = t.parse_state.now.bytes.now; skips = t.skips.entries }
 
--- memory was wanted
-abbrev pub Refused : State → Type 0
-Refused (states.Error m) = IsOutOfMemory m
-Refused (states.Next n) = ⊥
-Refused (states.Retry n) = ⊥
-Refused states.Ok = ⊥
-Refused states.Nok = ⊥
+  -- what it reads with
+  abbrev pub read_with : Tokenizer M T A → Context T
+  read_with t = context t.parse_state.now
 
 -- an index and a column of a tab there that are at or after others
 pub record IsAfter (from to : ℕ × ℕ) : Type 0 where
   pub index : from.0 ≤ to.0
   pub column : from.0 ≡ to.0 → from.1 ≤ to.1
+
+-- places to cut a text of so many bytes at, each at or after the one before
+abbrev pub AreCuts : ℕ × ℕ → List (ℕ × ℕ) → ℕ → Type 0
+AreCuts from [] size = Unit {0}
+AreCuts from (c ∷ cs) size = IsAfter from c × (c.0 < size) × AreCuts c cs size
 
 -- where a range begins: where reading is, or, if the range leaves a gap, over it at the range's start
 abbrev pub Begins : Source → ℕ × ℕ → Point → Point → Type 0
@@ -49,77 +53,85 @@ pub record GoesOn (s : Source) (to : ℕ × ℕ) (end : Bool) (more : Source) (l
   pub starts : (p : Point) → is_before to p ≡ true → place_in more.skips p ≡ place_in s.skips p
   pub ends : end ≡ true → (more ≡ s) × (limit ≡ to)
 
-module _ {M A : Type 0} where
+module _ {M T A : Type 0} where
   -- a call did what the step says
-  pub record Did (e : Effect M) (old new : Tokenizer M A) (s : State) : Type 0 where
+  pub record Did (e : Effect M) (old new : Tokenizer M T A) (s : State) : Type 0 where
     pub config : config new ≡ e.config
     pub attempts : new.attempts.items ≡ old.attempts.items ++ map mark e.pushed
     pub state : s ≡ e.state
 
   -- what is read from stayed
-  pub record Around (old new : Tokenizer M A) : Type 0 where
-    pub bytes : new.bytes.now ≡ old.bytes.now
+  pub record Around (old new : Tokenizer M T A) : Type 0 where
+    pub parse_state : new.parse_state.now ≡ old.parse_state.now
     pub skips : new.skips.entries ≡ old.skips.entries
 
   -- or memory was wanted
-  abbrev pub Answers : Effect M → Tokenizer M A → Tokenizer M A → State → Type 0
+  abbrev pub Answers : Effect M → Tokenizer M T A → Tokenizer M T A → State → Type 0
   Answers e old new s = Around old new × (Refused s ⊎ Did e old new s)
 
   -- what `push` leaves: reading a text from what is left is reading it from what was there
-  pub record Goes (text : Text) (step : Steps M) (state : State) (old new : Tokenizer M A) (s : State) : Type 0 where
+  pub record Goes (text : Text) (step : Steps M) (state : State) (old new : Tokenizer M T A) (s : State) : Type 0 where
     pub back : (d : Config M) (w : Bool) → Outcome text step new.attempts.items (config new) [] s d w → Outcome text step old.attempts.items (config old) [] state d w
 
   -- however the text goes on after the range
-  abbrev pub GoesAll : Steps M → Source → ℕ × ℕ → Bool → State → Tokenizer M A → Tokenizer M A → State → Type 0
+  abbrev pub GoesAll : Steps M → Source → ℕ × ℕ → Bool → State → Tokenizer M T A → Tokenizer M T A → State → Type 0
   GoesAll step s to end given old new state = (more : Source) (limit : ℕ × ℕ) → GoesOn s to end more limit → Goes (text_to more limit) step given old new state
 
-  abbrev pub Pushed : Steps M → ℕ × ℕ → Bool → State → Tokenizer M A → Tokenizer M A → State → Type 0
-  Pushed step to end given old new state = (source new ≡ source old) × (Refused state ⊎ GoesAll step (source old) to end given old new state)
+  abbrev pub Pushed : Steps M → ℕ × ℕ → Bool → State → Tokenizer M T A → Tokenizer M T A → State → Type 0
+  Pushed step to end given old new state = Around old new × (Refused state ⊎ GoesAll step (source old) to end given old new state)
 
-  pub record Opened (from : ℕ × ℕ) (old new : Tokenizer M A) : Type 0 where
+  pub record Opened (from : ℕ × ℕ) (old new : Tokenizer M T A) : Type 0 where
     pub point : Point
     pub begins : Begins (source old) from old.point point
-    pub forward : remaining (length old.bytes.now) point ≤ remaining (length old.bytes.now) old.point
+    pub forward : remaining (length old.parse_state.now.bytes.now) point ≤ remaining (length old.parse_state.now.bytes.now) old.point
+    pub order : Reaches old.point point
     pub config : config new ≡ moved point (config old)
     pub attempts : new.attempts.items ≡ old.attempts.items
     pub same : Around old new
 
   -- a range was read from its start
-  abbrev pub PushedFrom : Steps M → ℕ × ℕ → ℕ × ℕ → State → Tokenizer M A → Tokenizer M A → State → Type 0
-  PushedFrom step from to given old new state = (start : Tokenizer M A) × Opened from old start × Pushed step to false given start new state
+  abbrev pub PushedFrom : Steps M → ℕ × ℕ → ℕ × ℕ → State → Tokenizer M T A → Tokenizer M T A → State → Type 0
+  PushedFrom step from to given old new state = (start : Tokenizer M T A) × Opened from old start × Pushed step to false given start new state
 
   -- nothing waits any more
-  pub record Ended (t : Tokenizer M A) (s : State) : Type 0 where
+  pub record Ended (t : Tokenizer M T A) (s : State) : Type 0 where
     pub attempts : t.attempts.items ≡ []
     pub state : (s ≡ states.Ok) ⊎ (s ≡ states.Nok)
 
   -- reading ended, and this is what it comes to
-  pub record Flushed (text : Text) (step : Steps M) (given : State) (old new : Tokenizer M A) (s : State) : Type 0 where
+  pub record Flushed (text : Text) (step : Steps M) (given : State) (old new : Tokenizer M T A) (s : State) : Type 0 where
     pub well : Bool
     pub state : s ≡ ended well
     pub outcome : Outcome text step old.attempts.items (config old) [] given (config new) well
 
+  -- the same, and reading went well; then resolvers ran if that was asked for, and found this
+  pub record Completed (text : Text) (step : Steps M) (resolve : Resolves M) (all : Bool) (given : State) (old new : Tokenizer M T A) (found : Found) : Type 0 where
+    pub read : Config M
+    pub outcome : Outcome text step old.attempts.items (config old) [] given read true
+    pub config : config new ≡ (finished resolve all read).config
+    pub labels : found ≡ (finished resolve all read).found
+
   -- the text read at once
-  pub record ReadWhole (from : Source) (step : Steps M) (given : State) (old new : Tokenizer M A) (s : State) : Type 0 where
+  pub record ReadWhole (from : Source) (step : Steps M) (given : State) (old new : Tokenizer M T A) (s : State) : Type 0 where
     pub well : Bool
     pub state : s ≡ ended well
     pub runs : Runs (text_to from (length from.bytes, 0)) step (config old) [] given (config new) well
 
   -- what the loop of `push` keeps
-  pub record Turn (valid : HoldsAt M) (step : Steps M) (to : ℕ × ℕ) (end : Bool) (first : Tokenizer M A) (given : State) (t : Tokenizer M A) (s : State) : Type 0 where
-    pub same : source t ≡ source first
+  pub record Turn (valid : HoldsAt M) (step : Steps M) (to : ℕ × ℕ) (end : Bool) (first : Tokenizer M T A) (given : State) (t : Tokenizer M T A) (s : State) : Type 0 where
+    pub same : Around first t
     pub holds : Refused s ⊎ valid (config t) t.attempts.items s
     pub reads : Refused s ⊎ GoesAll step (source first) to end given first t s
 
   -- a part of a call changed the configuration so
-  pub record Became (c : Config M) (old new : Tokenizer M A) : Type 0 where
+  pub record Became (c : Config M) (old new : Tokenizer M T A) : Type 0 where
     pub config : config new ≡ c
     pub attempts : new.attempts ≡ old.attempts
-    pub bytes : new.bytes ≡ old.bytes
+    pub parse_state : new.parse_state ≡ old.parse_state
     pub skips : new.skips ≡ old.skips
 
   -- where `push` stops: at the range's end, or with nothing that waits
-  abbrev pub Reached : ℕ × ℕ → Tokenizer M A → State → Type 0
+  abbrev pub Reached : ℕ × ℕ → Tokenizer M T A → State → Type 0
   Reached to t (states.Error m) = Unit {0}
   Reached to t (states.Next n) = is_before to (place_in t.skips.entries t.point) ≡ false
   Reached to t (states.Retry n) = ⊥
@@ -134,14 +146,10 @@ weight (states.Retry n) r = r + 1
 weight states.Ok r = r + 1
 weight states.Nok r = r + 1
 
--- nothing kept
-abbrev pub nothing_kept : TokenizeState
-nothing_kept = record { marker = 0; marker_b = 0; size = 0; size_b = 0; size_c = 0; start = 0; end = 0; seen = false; token_1 = Data; token_2 = Data; token_3 = Data; token_4 = Data; token_5 = Data }
-
 module _ {M : Type 0} where
   -- nothing was read
   abbrev pub fresh : Point → M → Config M
-  fresh p machine = record { events = []; point = p; next = p; line_start = p; previous = None; current = None; tokenize_state = nothing_kept; resolvers = []; machine = machine }
+  fresh p machine = record { events = []; point = p; next = p; line_start = p; previous = None; current = None; tokenize_state = nothing_kept; map = []; resolvers = []; interrupt = false; lazy = false; concrete = false; pierce = false; machine = machine }
 
   abbrev pub entered : Name → Option Link → Config M → Config M
   entered name link c = record c { events = c.events ++ event Enter name c.point link ∷ [] }

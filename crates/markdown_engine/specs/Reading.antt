@@ -7,11 +7,12 @@ use Rattle.engine_events.specs.declared.resolve.Name.{Name as Resolver}
 use Rattle.engine_events.specs.declared.state.State.{State}
 use Rattle.engine_events.specs.declared.state.State.TheVariants as states
 use Rattle.markdown_engine.specs.declared.attempt.Attempt.{Attempt}
-use Rattle.markdown_engine.specs.declared.tokenize_state.TokenizeState.{TokenizeState}
+use Rattle.engine_edits.specs.Edits.{Placed}
+use Rattle.markdown_engine.specs.Kept.{Kept}
 use Rattle.markdown_engine.specs.declared.virtual_text.VirtualByte.{VirtualByte}
 use Rattle.markdown_engine.specs.VirtualText.{Text}
 
--- what a state may read and write: the events so far, the place, the place after the byte there, where the line starts, the byte before, the byte, what states keep for one another, the resolvers that are to run, and the machine
+-- what a state may read and write: the events so far, the place, the place after the byte there, where the line starts, the byte before, the byte, what states keep for one another, the edits that are to be made, the resolvers that are to run, how the text stands among its containers, and the machine
 pub record Config (M : Type 0) : Type 0 where
   pub events : List Event
   pub point : Point
@@ -19,8 +20,13 @@ pub record Config (M : Type 0) : Type 0 where
   pub line_start : Point
   pub previous : Option ℕ
   pub current : Option ℕ
-  pub tokenize_state : TokenizeState
+  pub tokenize_state : Kept
+  pub map : List Placed
   pub resolvers : List Resolver
+  pub interrupt : Bool
+  pub lazy : Bool
+  pub concrete : Bool
+  pub pierce : Bool
   pub machine : M
 
 -- an attempt that waits, with the configuration in which it was made

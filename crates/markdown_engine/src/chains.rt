@@ -9,8 +9,13 @@ ghost use Rattle.engine_events.specs.declared.state.State.TheVariants as states;
 ghost use Rattle.engine_edits.specs.Edits.{edits_of};
 ghost use Rattle.engine_chunks.specs.Chunks.{chunks};
 ghost use Rattle.markdown_engine.specs.Chains.{AreApart, ArePlaces, Divides, IsPlace, MayBegin, ReadsChain, Subtokenized, chain_content, chains, chunks_of, first_state, after_chunk, is_empty, starts_line, with_chunks, end_of, place_at};
+ghost use Rattle.markdown_engine.specs.Context.{context};
 ghost use Rattle.markdown_engine.specs.Machine.{config, fresh, source};
+ghost use Rattle.markdown_engine.specs.Resolving.{found_in, nothing_found};
+ghost use Rattle.markdown_engine.specs.Standing.{LinksLead};
 
+use crate::flush::{add_found, nothing_found};
+use crate::parse_state::ParseState;
 use crate::tokenizer::{Machine, Tokenizer};
 use crate::virtual_text::line_start;
 use engine_chunks::chunks::chunks;
@@ -18,7 +23,7 @@ use engine_chunks::divide_events;
 use engine_edits::EditMap;
 use engine_events::state::{Block, Inline, Name};
 use engine_events::{Content, Event, Point, State, Subresult};
-use markdown_options::Message;
+use markdown_options::{Message, Tables};
 use std::alloc::Allocator;
 
 /// The content of the chain that an event begins, if that is asked for.
@@ -66,39 +71,41 @@ fn place_at(events: &[Event], index: usize) -> Point
 }
 
 /// Skips what stands before a chunk on its line, if the line starts after the chunk before.
-fn skip_before<'a, M, A: Allocator + Clone>(
-    tokenizer: &mut Tokenizer<'a, M, A>,
+fn skip_before<'a, M, T, A: Allocator + Clone>(
+    tokenizer: &mut Tokenizer<'a, M, T, A>,
     end: Point,
     start: Point,
 ) -> Result<(), Message>
-    requires { start.index ≤ length tokenizer.old.bytes.now }
+    requires { start.index ≤ length tokenizer.old.parse_state.now.bytes.now }
     ensures source { OnOk result (source tokenizer.new ≡ after_chunk end start (source tokenizer.old)) }
     ensures config { config tokenizer.new ≡ config tokenizer.old }
     ensures attempts { tokenizer.new.attempts ≡ tokenizer.old.attempts }
-    ensures bytes { tokenizer.new.bytes ≡ tokenizer.old.bytes }
+    ensures failed { tokenizer.new.failed ≡ tokenizer.old.failed }
+    ensures parse_state { tokenizer.new.parse_state ≡ tokenizer.old.parse_state }
     ensures memory { IfErr result (λ message. IsOutOfMemory message) }
 {
-    if starts_line(tokenizer.bytes, end, start) {
+    if starts_line(tokenizer.parse_state.bytes, end, start) {
         tokenizer.define_skip(start)?;
     }
     Ok(())
 }
 
 /// Skips what stands before the chunks of a chain, and answers where the last one ends.
-fn skip_before_chunks<'a, M, A: Allocator + Clone>(
-    tokenizer: &mut Tokenizer<'a, M, A>,
+fn skip_before_chunks<'a, M, T, A: Allocator + Clone>(
+    tokenizer: &mut Tokenizer<'a, M, T, A>,
     events: &[Event],
     chain: &[usize],
 ) -> Result<Point, Message>
     requires apart { AreApart 0 chain.now (length events.now) }
-    requires places { ArePlaces tokenizer.old.bytes.now events.now }
-    requires place { IsPlace tokenizer.old.bytes.now tokenizer.old.point }
+    requires places { ArePlaces tokenizer.old.parse_state.now.bytes.now events.now }
+    requires place { IsPlace tokenizer.old.parse_state.now.bytes.now tokenizer.old.point }
     ensures source { OnOk result (source tokenizer.new ≡ with_chunks events.now tokenizer.old.point chain.now (source tokenizer.old)) }
     ensures end { IfOk result (λ end. end ≡ end_of events.now tokenizer.old.point chain.now) }
-    ensures place { IfOk result (λ end. IsPlace tokenizer.old.bytes.now end) }
+    ensures place { IfOk result (λ end. IsPlace tokenizer.old.parse_state.now.bytes.now end) }
     ensures config { config tokenizer.new ≡ config tokenizer.old }
     ensures attempts { tokenizer.new.attempts.items ≡ tokenizer.old.attempts.items }
-    ensures bytes { tokenizer.new.bytes.now ≡ tokenizer.old.bytes.now }
+    ensures failed { tokenizer.new.failed ≡ tokenizer.old.failed }
+    ensures parse_state { tokenizer.new.parse_state.now ≡ tokenizer.old.parse_state.now }
     ensures memory { IfErr result (λ message. IsOutOfMemory message) }
 {
     let mut end = tokenizer.point;
@@ -109,91 +116,93 @@ fn skip_before_chunks<'a, M, A: Allocator + Clone>(
     Ok(end)
 }
 
-/// The events that are added as a chain is read.
-fn read_chain<M: Machine + Copy, A: Allocator + Clone>(
+/// The events that are added as a chain is read, and what its resolvers find.
+fn read_chain<M: Machine<T> + Copy, T: Tables, A: Allocator + Clone>(
     alloc: &A,
-    bytes: &[u8],
+    parse_state: &ParseState<'_, T, A>,
     machine: M,
     events: &[Event],
     first: usize,
     content: Content,
-) -> Result<Vec<Event, A>, Message>
+) -> Result<(Vec<Event, A>, Subresult<A>), Message>
     requires first { first < length events.now }
     requires apart { AreApart 0 (chunks events.now first) (length events.now) }
-    requires places { ArePlaces bytes.now events.now }
-    requires begins { M.valid (length bytes.now) (fresh (place_at events.now first) machine) [] (states.Next (first_state content)) }
-    ensures reads { IfOk result (λ children. ReadsChain M.step bytes.now machine events.now (first, content) children.items) }
+    requires places { ArePlaces parse_state.now.bytes.now events.now }
+    requires begins { M.valid (context parse_state.now) (fresh (place_at events.now first) machine) [] (states.Next (first_state content)) }
+    ensures reads { IfOk result (λ read. ReadsChain (M.step (context parse_state.now)) (M.resolved (context parse_state.now)) parse_state.now.bytes.now machine events.now (first, content) read.0.items (found_in read.1)) }
     ensures memory { IfErr result (λ message. IsOutOfMemory message) }
 {
     let chain = chunks(alloc.clone()?, events, first)?;
     let start = place_at(events, first);
-    let mut tokenizer = Tokenizer::new(alloc.clone()?, bytes, start, machine)?;
+    let mut tokenizer = Tokenizer::new(alloc.clone()?, start, parse_state, machine)?;
     let end = skip_before_chunks(&mut tokenizer, events, &chain)?;
     let state = State::Next(first_state(content));
-    match tokenizer.flush((end.index, end.vs as usize), state) {
-        State::Error(message) => Err(message),
-        _ => Ok(tokenizer.events),
-    }
+    let found = tokenizer.flush_to((end.index, end.vs as usize), state, true)?;
+    Ok((tokenizer.events, found))
 }
 
 /// Reads the chains that are asked for, and adds the edits that put what was read in their place.
-/// Answers whether there was none.
-fn divide_chains<M: Machine + Copy, A: Allocator + Clone>(
+/// Answers what was found, and is done where there was none.
+fn divide_chains<M: Machine<T> + Copy, T: Tables, A: Allocator + Clone>(
     alloc: &A,
     map: &mut EditMap<A>,
     events: &[Event],
-    bytes: &[u8],
+    parse_state: &ParseState<'_, T, A>,
     machine: M,
     filter: Option<Content>,
-) -> Result<bool, Message>
+) -> Result<Subresult<A>, Message>
     requires apart { AreApart 0 (chunks_of events.now (chains filter events.now)) (length events.now) }
-    requires places { ArePlaces bytes.now events.now }
-    requires begins { MayBegin (M.valid (length bytes.now)) machine events.now (chains filter events.now) }
-    ensures divides { OnOk result (Divides M.step bytes.now machine events.now (chains filter events.now) (0, 0) (edits_of map.old) (edits_of map.new)) }
-    ensures done { IfOk result (λ done. done ≡ is_empty (chains filter events.now)) }
+    requires places { ArePlaces parse_state.now.bytes.now events.now }
+    requires begins { MayBegin (M.valid (context parse_state.now)) machine events.now (chains filter events.now) }
+    ensures divides { IfOk result (λ found. Divides (M.step (context parse_state.now)) (M.resolved (context parse_state.now)) parse_state.now.bytes.now machine events.now (chains filter events.now) (0, 0) (edits_of map.old) (edits_of map.new) nothing_found (found_in found)) }
+    ensures done { IfOk result (λ found. found.done ≡ is_empty (chains filter events.now)) }
     ensures memory { IfErr result (λ message. IsOutOfMemory message) }
 {
     let mut counts = (0, 0);
-    let mut done = true;
+    let mut found = nothing_found(alloc.clone()?)?;
+    found.done = true;
     for index in 0..events.len() {
         if let Some(content) = chain_content(&events[index], filter) {
-            let children = read_chain(alloc, bytes, machine, events, index, content)?;
+            let (children, more) = read_chain(alloc, parse_state, machine, events, index, content)?;
             counts = divide_events(alloc.clone()?, map, events, index, &children, counts)?;
-            done = false;
+            add_found(&mut found, Some(more))?;
+            found.done = false;
         }
     }
-    Ok(done)
+    Ok(found)
 }
 
 /// Reads each chain of chunks as one text, by a machine and a tokenizer of its own, and puts the
 /// events that it adds in place of the chunks.
 ///
 /// With a filter only chains of that content are read. Chains run forward and don't lie in one
-/// another. The answer is done where there was no chain to read. An error leaves the events.
-pub fn subtokenize<M: Machine + Copy, A: Allocator + Clone>(
+/// another. The answer has what resolvers found, and is done where there was no chain to read. An
+/// error leaves the events.
+pub fn subtokenize<M: Machine<T> + Copy, T: Tables, A: Allocator + Clone>(
     events: &mut Vec<Event, A>,
-    bytes: &[u8],
+    parse_state: &ParseState<'_, T, A>,
     machine: M,
     filter: Option<&Content>,
 ) -> Result<Subresult<A>, Message>
     requires apart { AreApart 0 (chunks_of events.old.items (chains (option_copied filter) events.old.items)) (length events.old.items) }
-    requires places { ArePlaces bytes.now events.old.items }
-    requires begins { MayBegin (M.valid (length bytes.now)) machine events.old.items (chains (option_copied filter) events.old.items) }
-    ensures read { OnOk result (Subtokenized M.step bytes.now machine (option_copied filter.entry) events.old.items events.new.items) }
-    ensures done { IfOk result (λ result. result.done ≡ is_empty (chains (option_copied filter.entry) events.old.items)) }
-    ensures definitions { IfOk result (λ result. result.definitions.items ≡ []) }
-    ensures footnotes { IfOk result (λ result. result.gfm_footnote_definitions.items ≡ []) }
+    requires places { ArePlaces parse_state.now.bytes.now events.old.items }
+    requires begins { MayBegin (M.valid (context parse_state.now)) machine events.old.items (chains (option_copied filter) events.old.items) }
+    ensures read { IfOk result (λ found. Subtokenized (M.step (context parse_state.now)) (M.resolved (context parse_state.now)) parse_state.now.bytes.now machine (option_copied filter.entry) events.old.items events.new.items (found_in found)) }
+    ensures links { IfOk result (λ found. LinksLead (M.step (context parse_state.now)) (M.resolved (context parse_state.now)) parse_state.now.bytes.now machine (option_copied filter.entry) events.old.items events.new.items (found_in found)) }
+    ensures done { IfOk result (λ found. found.done ≡ is_empty (chains (option_copied filter.entry) events.old.items)) }
     ensures err { OnErr result (events.new.items ≡ events.old.items) }
     ensures memory { IfErr result (λ message. IsOutOfMemory message) }
 {
     let alloc = events.allocator().clone()?;
     let mut map = EditMap::new(alloc.clone()?);
-    let done = divide_chains(&alloc, &mut map, events, bytes, machine, filter.copied())?;
-    let result = Subresult {
-        done,
-        gfm_footnote_definitions: Vec::new(alloc.clone()?),
-        definitions: Vec::new(alloc),
-    };
+    let found = divide_chains(
+        &alloc,
+        &mut map,
+        events,
+        parse_state,
+        machine,
+        filter.copied(),
+    )?;
     map.consume(events)?;
-    Ok(result)
+    Ok(found)
 }

@@ -6,6 +6,8 @@
 pub mod attempt;
 pub mod chains;
 pub mod fitting;
+mod flush;
+pub mod parse_state;
 pub mod tokenize_state;
 pub mod tokenizer;
 pub mod virtual_text;
@@ -16,4 +18,8 @@ pub use engine_edits::EditMap;
 pub use engine_events::{container, event, label, place, resolve, state, subresult};
 pub use engine_text::{char, location, skip, slice};
 pub use fitting::{are_apart, are_places};
-pub use markdown_options::{Message, Place, constants, unist};
+pub use markdown_options::{
+    CompileOptions, Constructs, LineEnding, LineEndingError, Message, Options, ParseOptions, Place,
+    Tables, constants, unist,
+};
+pub use parse_state::ParseState;

@@ -1,12 +1,25 @@
 //! What states keep for one another.
-ghost use Rattle.std.specs.Prelude.{◌≡◌};
-ghost use Rattle.markdown_engine.specs.Machine.{nothing_kept};
-
 use engine_events::event::Name;
+use engine_events::{ContainerState, Label, LabelStart};
+use std::alloc::{AllocError, Allocator};
 
 /// What states keep for one another; a failed attempt leaves what was written here.
-#[derive(Clone, Copy, Debug, PartialEq, Eq)]
-pub struct TokenizeState {
+#[derive(Drop)]
+pub struct TokenizeState<A: Allocator> {
+    /// The containers that are open, the outermost first.
+    pub document_container_stack: Vec<ContainerState, A>,
+    /// The labels of the definitions that were read, as they are compared.
+    pub definitions: Vec<String<A>, A>,
+    /// The labels of the footnote definitions that were read, as they are compared.
+    pub gfm_footnote_definitions: Vec<String<A>, A>,
+    /// The label starts that may find their ends.
+    pub label_starts: Vec<LabelStart, A>,
+    /// The label starts that found none.
+    pub label_starts_loose: Vec<LabelStart, A>,
+    /// The labels that were found.
+    pub labels: Vec<Label, A>,
+    /// Whether what is read next is joined to the chunk before.
+    pub connect: bool,
     /// A byte to look for.
     pub marker: u8,
     /// A second byte to look for.
@@ -27,14 +40,25 @@ pub struct TokenizeState {
     pub token_3: Name,
     pub token_4: Name,
     pub token_5: Name,
+    pub token_6: Name,
 }
 
-/// Nothing kept.
-impl Default for TokenizeState {
-    ghost is_default = { λ kept. kept ≡ nothing_kept };
+impl<A: Allocator + Clone> TokenizeState<A> {
+    ghost use Rattle.std.specs.Prelude.{◌≡◌, IfOk};
+    ghost use Rattle.markdown_engine.specs.Kept.{kept, nothing_kept};
 
-    fn default() -> TokenizeState {
-        TokenizeState {
+    /// Nothing kept.
+    pub fn new(alloc: A) -> Result<TokenizeState<A>, AllocError>
+        ensures { IfOk result (λ state. kept state ≡ nothing_kept) }
+    {
+        Ok(TokenizeState {
+            document_container_stack: Vec::new(alloc.clone()?),
+            definitions: Vec::new(alloc.clone()?),
+            gfm_footnote_definitions: Vec::new(alloc.clone()?),
+            label_starts: Vec::new(alloc.clone()?),
+            label_starts_loose: Vec::new(alloc.clone()?),
+            labels: Vec::new(alloc),
+            connect: false,
             marker: 0,
             marker_b: 0,
             size: 0,
@@ -48,6 +72,7 @@ impl Default for TokenizeState {
             token_3: Name::Data,
             token_4: Name::Data,
             token_5: Name::Data,
-        }
+            token_6: Name::Data,
+        })
     }
 }

@@ -1,57 +1,90 @@
 //! The tokenizer and the machines that it runs.
-ghost use Rattle.std.specs.Prelude.{◌≡◌, ◌+◌, ◌<◌, ◌≤◌, ◌++◌, [], ◌∷◌, length, None, Some, false, true, ◌⊎◌, OnOk, OnErr, IfErr};
+ghost use Rattle.std.specs.Prelude.{◌≡◌, ◌+◌, ◌<◌, ◌≤◌, ◌++◌, [], ◌∷◌, length, None, Some, false, true, ◌⊎◌, List, OnOk, OnErr, IfOk, IfErr};
 ghost use Rattle.markdown_options.specs.Messages.{IsOutOfMemory};
 ghost use Rattle.engine_events.specs.declared.state.State.TheVariants as states;
 ghost use Rattle.markdown_engine.specs.Reading.{Steps, mark, restore, resumed, handed};
 ghost use Rattle.std.specs.BTreeMap.{insert_entry};
-ghost use Rattle.markdown_engine.specs.Machine.{config, source, Answers, Became, Around, Refused, Pushed, Reached, Ended, Flushed, entered, exited, consumed, begun, to_run_first, to_run_last};
+ghost use Rattle.markdown_engine.specs.Machine.{config, source, read_with, Answers, Became, Around, Refused, Pushed, Reached, Ended, Flushed, entered, exited, consumed, begun, to_run_first, to_run_last};
 ghost use Rattle.markdown_engine.specs.Resolvers.{AreOnce};
 ghost use Rattle.markdown_engine.specs.VirtualText.{is_before, line_start};
-ghost use Rattle.markdown_engine.specs.Laws.{Holds, Ranks, OnlyAdds, Keeps, Falls};
+ghost use Rattle.markdown_engine.specs.Laws.{Holds, Ranks, Adds, Keeps, Falls, Tidies, Closes};
+ghost use Rattle.markdown_engine.specs.Context.{Context};
+ghost use Rattle.markdown_engine.specs.Resolving.{Resolves, Settles, Resolving, found_of, found_in, nothing_found};
+ghost use Rattle.engine_events.specs.declared.resolve.Name.{Name as Resolver};
+ghost use Rattle.markdown_engine.specs.Order.{IsInnermost, AreWhole};
 
 use crate::attempt::Attempt;
+use crate::parse_state::ParseState;
 use crate::tokenize_state::TokenizeState;
 use crate::virtual_text::{
     VirtualByte, is_before, line_start, place_over, start_of_line, virtual_byte,
 };
+use engine_edits::EditMap;
 use engine_events::event::Name as EventName;
 use engine_events::state::Name;
-use engine_events::{Event, Kind, Link, Point, State, resolve};
-use markdown_options::Message;
+use engine_events::{Event, Kind, Link, Point, State, Subresult, resolve};
+use markdown_options::{Message, Tables};
 use std::alloc::{AllocError, Allocator};
 use std::collections::BTreeMap;
 
 /// A set of states. A state reads a tokenizer's byte, changes the tokenizer by its calls, and says
 /// how reading goes on.
-pub trait Machine {
+pub trait Machine<T: Tables> {
     // What a state does.
-    ghost step: { Steps Self };
+    ghost step: { Context T → Steps Self };
 
     // What holds whenever a state is next.
-    ghost valid: { Holds Self };
+    ghost valid: { Holds T Self };
 
     // A number that falls with every turn.
-    ghost rank: { Ranks Self };
+    ghost rank: { Ranks T Self };
+
+    // What a resolver does.
+    ghost resolved: { Context T → Resolves Self };
+
+    // What holds whenever resolvers are still to run.
+    ghost settled: { Settles T Self };
 
     /// Calls a state.
-    fn call<'a, A: Allocator>(tokenizer: &mut Tokenizer<'a, Self, A>, name: Name) -> State
-        requires { valid (length tokenizer.old.bytes.now) (config tokenizer.old) tokenizer.old.attempts.items (states.Retry name) }
-        ensures { Answers (step (config tokenizer.old) name) tokenizer.old tokenizer.new result };
+    fn call<'a, A: Allocator>(tokenizer: &mut Tokenizer<'a, Self, T, A>, name: Name) -> State
+        requires { valid (read_with tokenizer.old) (config tokenizer.old) tokenizer.old.attempts.items (states.Retry name) }
+        ensures { Answers (step (read_with tokenizer.old) (config tokenizer.old) name) tokenizer.old tokenizer.new result };
+
+    /// Runs a resolver, and answers what it found, if anything.
+    fn resolve<'a, A: Allocator + Clone>(
+        tokenizer: &mut Tokenizer<'a, Self, T, A>,
+        name: resolve::Name,
+    ) -> Result<Option<Subresult<A>>, Message>
+        requires { (more : List Resolver) × settled (read_with tokenizer.old) (config tokenizer.old) (name ∷ more) }
+        ensures config { OnOk result (config tokenizer.new ≡ (resolved (read_with tokenizer.old) (config tokenizer.old) name).config) }
+        ensures found { IfOk result (λ found. found_of found ≡ (resolved (read_with tokenizer.old) (config tokenizer.old) name).found) }
+        ensures parse_state { tokenizer.new.parse_state.now ≡ tokenizer.old.parse_state.now }
+        ensures memory { IfErr result (λ message. IsOutOfMemory message) };
 
     // A state only adds events.
-    ghost only_adds: { OnlyAdds step };
+    ghost only_adds: { Adds step };
 
     // Each turn of the tokenizer keeps what holds.
     ghost keeps: { Keeps valid step };
 
     // Reading ends.
     ghost falls: { Falls valid step rank };
+
+    // Events are nested and in order of place.
+    ghost tidy: { Tidies valid };
+
+    // Nothing is open at the end.
+    ghost closes: { Closes valid };
+
+    // Each resolver keeps what holds, and leaves edits that can be made.
+    ghost resolving: { Resolving valid resolved settled };
 }
 
 /// Reads a text by a machine's states.
 #[derive(Drop)]
-pub struct Tokenizer<'a, M, A: Allocator> {
-    pub bytes: &'a [u8],
+pub struct Tokenizer<'a, M, T, A: Allocator> {
+    /// The text, and what it is read with.
+    pub parse_state: &'a ParseState<'a, T, A>,
     /// What was found so far.
     pub events: Vec<Event, A>,
     /// The attempts that wait, the innermost last.
@@ -67,16 +100,30 @@ pub struct Tokenizer<'a, M, A: Allocator> {
     /// The byte that is read; none at the text's end, and once it is consumed.
     pub current: Option<u8>,
     /// What states keep for one another.
-    pub tokenize_state: TokenizeState,
+    pub tokenize_state: TokenizeState<A>,
+    /// The edits of the events that are to be made once resolvers have run.
+    pub map: EditMap<A>,
     /// The resolvers that are to run, in their order.
     pub resolvers: Vec<resolve::Name, A>,
+    /// Whether what is read interrupts a paragraph.
+    pub interrupt: bool,
+    /// Whether the line is a lazy continuation line (CommonMark 5.1).
+    pub lazy: bool,
+    /// Whether nothing may interrupt what is read.
+    pub concrete: bool,
+    /// Whether what is read may end a container although its line goes on with it.
+    pub pierce: bool,
     pub machine: M,
     /// Where the lines are read from that have a skip, by the index of their start.
     pub skips: BTreeMap<usize, Point, A>,
+    /// Where the last range ended: an index, and a column of a tab there.
+    pub end: (usize, usize),
+    /// Whether memory was refused, so that nothing can be read any more.
+    pub failed: bool,
 }
 
-impl<'a, M, A: Allocator + Clone> Tokenizer<'a, M, A> {
-    ghost use Rattle.std.specs.Prelude.{◌≡◌, [], None, IfOk, IfErr, OnOk, OnErr, length, ◌≤◌};
+impl<'a, M, T, A: Allocator + Clone> Tokenizer<'a, M, T, A> {
+    ghost use Rattle.std.specs.Prelude.{◌≡◌, [], None, false, IfOk, IfErr, OnOk, OnErr, length, ◌≤◌};
     ghost use Rattle.std.specs.Ordering.{nat_cmp};
     ghost use Rattle.std.specs.BTreeMap.{insert_entry};
     ghost use Rattle.markdown_engine.specs.Machine.{config, fresh};
@@ -86,20 +133,22 @@ impl<'a, M, A: Allocator + Clone> Tokenizer<'a, M, A> {
     /// A tokenizer at a place of a text; nothing was read.
     pub fn new(
         alloc: A,
-        bytes: &'a [u8],
         point: Point,
+        parse_state: &'a ParseState<'a, T, A>,
         machine: M,
-    ) -> Result<Tokenizer<'a, M, A>, Message>
+    ) -> Result<Tokenizer<'a, M, T, A>, Message>
     where
         M: Drop,
         ensures config { IfOk result (λ tokenizer. config tokenizer ≡ fresh point machine) }
         ensures attempts { IfOk result (λ tokenizer. tokenizer.attempts.items ≡ []) }
-        ensures bytes { IfOk result (λ tokenizer. tokenizer.bytes.now ≡ bytes.now) }
+        ensures parse_state { IfOk result (λ tokenizer. tokenizer.parse_state.now ≡ parse_state.now) }
         ensures skips { IfOk result (λ tokenizer. tokenizer.skips.entries ≡ []) }
+        ensures end { IfOk result (λ tokenizer. tokenizer.end ≡ (0, 0)) }
+        ensures failed { IfOk result (λ tokenizer. tokenizer.failed ≡ false) }
         ensures memory { IfErr result (λ message. IsOutOfMemory message) }
     {
         Ok(Tokenizer {
-            bytes,
+            parse_state,
             events: Vec::new(alloc.clone()?),
             attempts: Vec::new(alloc.clone()?),
             point,
@@ -107,24 +156,32 @@ impl<'a, M, A: Allocator + Clone> Tokenizer<'a, M, A> {
             line_start: point,
             previous: None,
             current: None,
-            tokenize_state: TokenizeState::default(),
+            tokenize_state: TokenizeState::new(alloc.clone()?)?,
+            map: EditMap::new(alloc.clone()?),
             resolvers: Vec::new(alloc.clone()?),
+            interrupt: false,
+            lazy: false,
+            concrete: false,
+            pierce: false,
             machine,
             skips: BTreeMap::new(alloc),
+            end: (0, 0),
+            failed: false,
         })
     }
 
     /// Makes the reading of a point's line begin at the point, whenever the line is read.
     pub fn define_skip(&mut self, point: Point) -> Result<(), Message>
-        requires { point.index ≤ length self.old.bytes.now }
-        ensures skips { OnOk result (self.new.skips.entries ≡ insert_entry nat_cmp self.old.skips.entries (line_start self.old.bytes.now point.index) point) }
+        requires { point.index ≤ length self.old.parse_state.now.bytes.now }
+        ensures skips { OnOk result (self.new.skips.entries ≡ insert_entry nat_cmp self.old.skips.entries (line_start self.old.parse_state.now.bytes.now point.index) point) }
         ensures err { OnErr result (self.new.skips.entries ≡ self.old.skips.entries) }
         ensures config { config self.new ≡ config self.old }
         ensures attempts { self.new.attempts ≡ self.old.attempts }
-        ensures bytes { self.new.bytes ≡ self.old.bytes }
+        ensures parse_state { self.new.parse_state ≡ self.old.parse_state }
+        ensures failed { self.new.failed ≡ self.old.failed }
         ensures memory { IfErr result (λ message. IsOutOfMemory message) }
     {
-        let start = line_start(self.bytes, point.index);
+        let start = line_start(self.parse_state.bytes, point.index);
         if self.skips.insert(start, point).is_err() {
             return Err(Message::out_of_memory());
         }
@@ -132,11 +189,11 @@ impl<'a, M, A: Allocator + Clone> Tokenizer<'a, M, A> {
     }
 }
 
-impl<'a, M, A: Allocator> Tokenizer<'a, M, A> {
+impl<'a, M, T, A: Allocator> Tokenizer<'a, M, T, A> {
     /// Adds that something begins here.
     pub fn enter(&mut self, name: EventName) -> Result<(), Message>
         ensures became { OnOk result (Became (entered name None (config self.old)) self.old self.new) }
-        ensures bytes { self.new.bytes ≡ self.old.bytes }
+        ensures parse_state { self.new.parse_state ≡ self.old.parse_state }
         ensures skips { self.new.skips ≡ self.old.skips }
         ensures memory { IfErr result (λ message. IsOutOfMemory message) }
     {
@@ -147,7 +204,7 @@ impl<'a, M, A: Allocator> Tokenizer<'a, M, A> {
     /// Adds that something begins here whose text is read later, together with its neighbours.
     pub fn enter_link(&mut self, name: EventName, link: Link) -> Result<(), Message>
         ensures became { OnOk result (Became (entered name (Some link) (config self.old)) self.old self.new) }
-        ensures bytes { self.new.bytes ≡ self.old.bytes }
+        ensures parse_state { self.new.parse_state ≡ self.old.parse_state }
         ensures skips { self.new.skips ≡ self.old.skips }
         ensures memory { IfErr result (λ message. IsOutOfMemory message) }
     {
@@ -155,10 +212,11 @@ impl<'a, M, A: Allocator> Tokenizer<'a, M, A> {
         Ok(())
     }
 
-    /// Adds that something ends here; right after a line ending, at the line's start.
+    /// Adds that what was entered last ends here; right after a line ending, at the line's start.
     pub fn exit(&mut self, name: EventName) -> Result<(), Message>
+        requires { IsInnermost name self.old.events.items }
         ensures became { OnOk result (Became (exited name (config self.old)) self.old self.new) }
-        ensures bytes { self.new.bytes ≡ self.old.bytes }
+        ensures parse_state { self.new.parse_state ≡ self.old.parse_state }
         ensures skips { self.new.skips ≡ self.old.skips }
         ensures memory { IfErr result (λ message. IsOutOfMemory message) }
     {
@@ -174,7 +232,7 @@ impl<'a, M, A: Allocator> Tokenizer<'a, M, A> {
     /// Adds an event.
     fn add(&mut self, event: Event) -> Result<(), AllocError>
         ensures became { OnOk result (Became (record (config self.old) { events = self.old.events.items ++ event ∷ [] }) self.old self.new) }
-        ensures bytes { self.new.bytes ≡ self.old.bytes }
+        ensures parse_state { self.new.parse_state ≡ self.old.parse_state }
         ensures skips { self.new.skips ≡ self.old.skips }
     {
         self.events.push(event)?;
@@ -185,11 +243,16 @@ impl<'a, M, A: Allocator> Tokenizer<'a, M, A> {
     pub fn consume(&mut self)
         ensures { Became (consumed (config self.old)) self.old self.new }
     {
+        // By fields, no two neighbours at once: a wider copy waits for the stores that `hand` has
+        // just made, and takes twice as long as the rest of a step.
+        self.point.line = self.next.line;
+        self.point.index = self.next.index;
         if self.current == Some(b'\n') {
             self.line_start = self.next;
         }
+        self.point.column = self.next.column;
+        self.point.vs = self.next.vs;
         self.previous = self.current;
-        self.point = self.next;
         self.current = None;
     }
 
@@ -197,7 +260,7 @@ impl<'a, M, A: Allocator> Tokenizer<'a, M, A> {
     /// and on with another.
     pub fn attempt(&mut self, ok: State, nok: State) -> Result<(), Message>
         ensures same { config self.new ≡ config self.old }
-        ensures bytes { self.new.bytes ≡ self.old.bytes }
+        ensures parse_state { self.new.parse_state ≡ self.old.parse_state }
         ensures skips { self.new.skips ≡ self.old.skips }
         ensures pushed { OnOk result (self.new.attempts.items ≡ self.old.attempts.items ++ mark (begun false ok nok (config self.old)) ∷ []) }
         ensures memory { IfErr result (λ message. IsOutOfMemory message) }
@@ -222,7 +285,7 @@ impl<'a, M, A: Allocator> Tokenizer<'a, M, A> {
     /// Looks ahead: goes back here in any case, and on with one state or the other.
     pub fn check(&mut self, ok: State, nok: State) -> Result<(), Message>
         ensures same { config self.new ≡ config self.old }
-        ensures bytes { self.new.bytes ≡ self.old.bytes }
+        ensures parse_state { self.new.parse_state ≡ self.old.parse_state }
         ensures skips { self.new.skips ≡ self.old.skips }
         ensures pushed { OnOk result (self.new.attempts.items ≡ self.old.attempts.items ++ mark (begun true ok nok (config self.old)) ∷ []) }
         ensures memory { IfErr result (λ message. IsOutOfMemory message) }
@@ -249,7 +312,7 @@ impl<'a, M, A: Allocator> Tokenizer<'a, M, A> {
         ensures became { OnOk result (Became (to_run_last name (config self.old)) self.old self.new) }
         ensures once { OnOk result (AreOnce self.old.resolvers.items → AreOnce self.new.resolvers.items) }
         ensures err { OnErr result (config self.new ≡ config self.old) }
-        ensures bytes { self.new.bytes ≡ self.old.bytes }
+        ensures parse_state { self.new.parse_state ≡ self.old.parse_state }
         ensures skips { self.new.skips ≡ self.old.skips }
         ensures memory { IfErr result (λ message. IsOutOfMemory message) }
     {
@@ -267,7 +330,7 @@ impl<'a, M, A: Allocator> Tokenizer<'a, M, A> {
         ensures became { OnOk result (Became (to_run_first name (config self.old)) self.old self.new) }
         ensures once { OnOk result (AreOnce self.old.resolvers.items → AreOnce self.new.resolvers.items) }
         ensures err { OnErr result (config self.new ≡ config self.old) }
-        ensures bytes { self.new.bytes ≡ self.old.bytes }
+        ensures parse_state { self.new.parse_state ≡ self.old.parse_state }
         ensures skips { self.new.skips ≡ self.old.skips }
         ensures memory { IfErr result (λ message. IsOutOfMemory message) }
     {
@@ -284,7 +347,7 @@ impl<'a, M, A: Allocator> Tokenizer<'a, M, A> {
     fn free(&mut self, attempt: &Attempt)
         ensures config { config self.new ≡ restore attempt.now (config self.old) }
         ensures attempts { self.new.attempts ≡ self.old.attempts }
-        ensures bytes { self.new.bytes ≡ self.old.bytes }
+        ensures parse_state { self.new.parse_state ≡ self.old.parse_state }
         ensures skips { self.new.skips ≡ self.old.skips }
     {
         self.events.truncate(attempt.events);
@@ -299,7 +362,7 @@ impl<'a, M, A: Allocator> Tokenizer<'a, M, A> {
     fn resume(&mut self, attempt: &Attempt, well: bool)
         ensures config { config self.new ≡ resumed attempt.now (config self.old) well }
         ensures attempts { self.new.attempts ≡ self.old.attempts }
-        ensures bytes { self.new.bytes ≡ self.old.bytes }
+        ensures parse_state { self.new.parse_state ≡ self.old.parse_state }
         ensures skips { self.new.skips ≡ self.old.skips }
     {
         if !well || attempt.check {
@@ -311,7 +374,7 @@ impl<'a, M, A: Allocator> Tokenizer<'a, M, A> {
     fn hand(&mut self, place: Point, given: Option<VirtualByte>)
         ensures config { config self.new ≡ handed (config self.old) place given }
         ensures attempts { self.new.attempts ≡ self.old.attempts }
-        ensures bytes { self.new.bytes ≡ self.old.bytes }
+        ensures parse_state { self.new.parse_state ≡ self.old.parse_state }
         ensures skips { self.new.skips ≡ self.old.skips }
     {
         self.point = place;
@@ -325,11 +388,12 @@ impl<'a, M, A: Allocator> Tokenizer<'a, M, A> {
     }
 }
 
-impl<'a, M: Machine, A: Allocator> Tokenizer<'a, M, A> {
+impl<'a, M: Machine<T>, T: Tables, A: Allocator> Tokenizer<'a, M, T, A> {
     ghost use Rattle.markdown_engine.specs.Laws.{MovesOn};
     ghost use Rattle.std.specs.Prelude.{◌≡◌, ◌≤◌, ◌<◌, [], length, true, false, ◌⊎◌};
-    ghost use Rattle.markdown_engine.specs.Machine.{config, source, Refused, Opened, Pushed, PushedFrom, Reached, Ended, Flushed, ReadWhole};
+    ghost use Rattle.markdown_engine.specs.Machine.{config, source, read_with, Refused, Opened, Pushed, PushedFrom, Reached, Ended, Flushed, ReadWhole, AreCuts};
     ghost use Rattle.markdown_engine.specs.VirtualText.{text_to, byte_before, place_in};
+    ghost use Rattle.markdown_engine.specs.OutcomeLaws.{HasOutcome, HasRun};
 
     /// Where reading goes on: at the start of a line that has a skip, after it.
     fn place(&self) -> Point
@@ -343,12 +407,12 @@ impl<'a, M: Machine, A: Allocator> Tokenizer<'a, M, A> {
 
     /// The byte at a place, before the end of a range.
     fn byte_before(&self, place: Point, to: (usize, usize)) -> Option<VirtualByte>
-        requires within { to.0 ≤ length self.now.bytes.now }
-        requires column { to.0 ≡ length self.now.bytes.now → to.1 ≡ 0 }
-        ensures { result ≡ byte_before self.now.bytes.now to place }
+        requires within { to.0 ≤ length self.now.parse_state.now.bytes.now }
+        requires column { to.0 ≡ length self.now.parse_state.now.bytes.now → to.1 ≡ 0 }
+        ensures { result ≡ byte_before self.now.parse_state.now.bytes.now to place }
     {
         if is_before(place, to) {
-            Some(virtual_byte(self.bytes, place))
+            Some(virtual_byte(self.parse_state.bytes, place))
         } else {
             None
         }
@@ -356,11 +420,11 @@ impl<'a, M: Machine, A: Allocator> Tokenizer<'a, M, A> {
 
     /// Reads up to the end of a range, which may be the text's end, too.
     fn read(&mut self, to: (usize, usize), end: bool, state: State) -> State
-        requires within { to.0 ≤ length self.old.bytes.now }
-        requires column { to.0 ≡ length self.old.bytes.now → to.1 ≡ 0 }
-        requires valid { Refused state ⊎ M.valid (length self.old.bytes.now) (config self.old) self.old.attempts.items state }
-        ensures valid { Refused result ⊎ M.valid (length self.old.bytes.now) (config self.new) self.new.attempts.items result }
-        ensures reads { Pushed M.step to end state self.old self.new result }
+        requires within { to.0 ≤ length self.old.parse_state.now.bytes.now }
+        requires column { to.0 ≡ length self.old.parse_state.now.bytes.now → to.1 ≡ 0 }
+        requires valid { Refused state ⊎ M.valid (read_with self.old) (config self.old) self.old.attempts.items state }
+        ensures valid { Refused result ⊎ M.valid (read_with self.old) (config self.new) self.new.attempts.items result }
+        ensures reads { Pushed (M.step (read_with self.old)) to end state self.old self.new result }
         ensures reached { Reached to self.new result }
         ensures moves_on { MovesOn result }
         ensures ends { end ≡ true → Refused result ⊎ Ended self.new result }
@@ -399,13 +463,13 @@ impl<'a, M: Machine, A: Allocator> Tokenizer<'a, M, A> {
 
     /// Goes on at a later place, over what isn't read; stays where that isn't after where reading is.
     fn move_to(&mut self, from: (usize, usize))
-        requires within { from.0 ≤ length self.old.bytes.now }
-        requires column { from.0 ≡ length self.old.bytes.now → from.1 ≡ 0 }
+        requires within { from.0 ≤ length self.old.parse_state.now.bytes.now }
+        requires column { from.0 ≡ length self.old.parse_state.now.bytes.now → from.1 ≡ 0 }
         ensures { Opened from self.old self.new }
     {
         let place = self.place();
         if is_before(place, from) {
-            self.point = place_over(self.bytes, place, from);
+            self.point = place_over(self.parse_state.bytes, place, from);
         }
     }
 
@@ -414,29 +478,45 @@ impl<'a, M: Machine, A: Allocator> Tokenizer<'a, M, A> {
     /// The state is the one that was answered last. Where the ranges of a text adjoin, each begins
     /// where the last one ended, or after what is skipped there, and what is read doesn't depend on
     /// where the text is cut. What stands before a range otherwise isn't read. A state that reads the
-    /// byte at hand again is no state to begin a range with, and none is answered.
+    /// byte at hand again is no state to begin a range with, and none is answered. Once memory was
+    /// refused, an error is answered to any further range.
     pub fn push(&mut self, from: (usize, usize), to: (usize, usize), state: State) -> State
-        requires from_within { from.0 ≤ length self.old.bytes.now }
-        requires from_column { from.0 ≡ length self.old.bytes.now → from.1 ≡ 0 }
-        requires within { to.0 ≤ length self.old.bytes.now }
-        requires column { to.0 ≡ length self.old.bytes.now → to.1 ≡ 0 }
+        requires from_within { from.0 ≤ length self.old.parse_state.now.bytes.now }
+        requires from_column { from.0 ≡ length self.old.parse_state.now.bytes.now → from.1 ≡ 0 }
+        requires within { to.0 ≤ length self.old.parse_state.now.bytes.now }
+        requires column { to.0 ≡ length self.old.parse_state.now.bytes.now → to.1 ≡ 0 }
         requires moves_on { MovesOn state }
-        requires valid { Refused state ⊎ M.valid (length self.old.bytes.now) (config self.old) self.old.attempts.items state }
-        ensures valid { Refused result ⊎ M.valid (length self.old.bytes.now) (config self.new) self.new.attempts.items result }
-        ensures reads { PushedFrom M.step from to state self.old self.new result }
+        requires valid { (self.old.failed ≡ true) ⊎ M.valid (read_with self.old) (config self.old) self.old.attempts.items state }
+        ensures valid { (self.new.failed ≡ true) ⊎ M.valid (read_with self.old) (config self.new) self.new.attempts.items result }
+        ensures reads { (self.new.failed ≡ true) ⊎ PushedFrom (M.step (read_with self.old)) from to state self.old self.new result }
         ensures moves_on { MovesOn result }
         ensures reached { Reached to self.new result }
+        ensures end { self.new.end ≡ to }
+        ensures parse_state { self.new.parse_state.now ≡ self.old.parse_state.now }
+        ensures failed { self.old.failed ≡ true → self.new.failed ≡ true }
+        ensures refused { self.new.failed ≡ true → Refused result }
     {
-        self.move_to(from);
-        self.read(to, false, state)
+        let next = if self.failed {
+            State::out_of_memory()
+        } else {
+            self.move_to(from);
+            self.read(to, false, state)
+        };
+        self.end = to;
+        self.failed = matches!(next, State::Error(_));
+        next
     }
 
     /// Reads on, up to an index and a column of a tab there, where the text ends.
-    pub fn flush(&mut self, to: (usize, usize), state: State) -> State
-        requires within { to.0 ≤ length self.old.bytes.now }
-        requires column { to.0 ≡ length self.old.bytes.now → to.1 ≡ 0 }
-        requires valid { Refused state ⊎ M.valid (length self.old.bytes.now) (config self.old) self.old.attempts.items state }
-        ensures { Refused result ⊎ Flushed (text_to (source self.old) to) M.step state self.old self.new result }
+    pub(crate) fn finish(&mut self, to: (usize, usize), state: State) -> State
+        requires within { to.0 ≤ length self.old.parse_state.now.bytes.now }
+        requires column { to.0 ≡ length self.old.parse_state.now.bytes.now → to.1 ≡ 0 }
+        requires valid { Refused state ⊎ M.valid (read_with self.old) (config self.old) self.old.attempts.items state }
+        ensures reads { Refused result ⊎ Flushed (text_to (source self.old) to) (M.step (read_with self.old)) state self.old self.new result }
+        ensures valid { Refused result ⊎ M.valid (read_with self.old) (config self.new) [] result }
+        ensures parse_state { self.new.parse_state.now ≡ self.old.parse_state.now }
+        ensures total { Refused state ⊎ HasOutcome (text_to (source self.old) to) (M.step (read_with self.old)) (config self.old) self.old.attempts.items state }
+        ensures whole { Refused result ⊎ AreWhole self.new.events.items self.new.point }
     {
         self.read(to, true, state)
     }
@@ -444,52 +524,60 @@ impl<'a, M: Machine, A: Allocator> Tokenizer<'a, M, A> {
     /// Reads a text at once.
     pub fn whole(&mut self, state: State) -> State
         requires fresh { self.old.attempts.items ≡ [] }
-        requires valid { M.valid (length self.old.bytes.now) (config self.old) [] state }
-        ensures { Refused result ⊎ ReadWhole (source self.old) M.step state self.old self.new result }
+        requires valid { M.valid (read_with self.old) (config self.old) [] state }
+        ensures reads { Refused result ⊎ ReadWhole (source self.old) (M.step (read_with self.old)) state self.old self.new result }
+        ensures total { HasRun (text_to (source self.old) (length self.old.parse_state.now.bytes.now, 0)) (M.step (read_with self.old)) (config self.old) state }
+        ensures whole { Refused result ⊎ AreWhole self.new.events.items self.new.point }
     {
-        let to = (self.bytes.len(), 0);
-        self.flush(to, state)
+        let to = (self.parse_state.bytes.len(), 0);
+        self.finish(to, state)
     }
 
-    /// Reads a text in two ranges, cut anywhere, inside of a tab or a line ending, too.
-    pub fn in_two(&mut self, cut: (usize, usize), state: State) -> State
-        requires cut { cut.0 < length self.old.bytes.now }
+    /// Reads a text in ranges, cut anywhere, inside of a tab or a line ending, too: each ends at one
+    /// of these places, an index and a column of a tab there, and the last at the text's end.
+    pub fn in_ranges(&mut self, cuts: &[(usize, usize)], state: State) -> State
+        requires cuts { AreCuts (0, 0) cuts.now (length self.old.parse_state.now.bytes.now) }
         requires fresh { self.old.attempts.items ≡ [] }
-        requires valid { M.valid (length self.old.bytes.now) (config self.old) [] state }
-        ensures { Refused result ⊎ ReadWhole (source self.old) M.step state self.old self.new result }
+        requires valid { M.valid (read_with self.old) (config self.old) [] state }
+        ensures reads { Refused result ⊎ ReadWhole (source self.old) (M.step (read_with self.old)) state self.old self.new result }
+        ensures whole { Refused result ⊎ AreWhole self.new.events.items self.new.point }
     {
-        let first = self.read(cut, false, state);
-        if let State::Error(_) = first {
-            return first;
+        let mut next = state;
+        for cut in cuts {
+            next = self.read(*cut, false, next);
+            if let State::Error(_) = next {
+                return next;
+            }
         }
-        let to = (self.bytes.len(), 0);
-        self.flush(to, first)
+        let to = (self.parse_state.bytes.len(), 0);
+        self.finish(to, next)
     }
 }
 
-impl<'a, M: Machine, A: Allocator + Clone> Tokenizer<'a, M, A> {
+impl<'a, M: Machine<T>, T: Tables, A: Allocator + Clone> Tokenizer<'a, M, T, A> {
     ghost use Rattle.std.specs.Prelude.{◌≡◌, ◌≤◌, ◌<◌, [], length, ◌⊎◌};
-    ghost use Rattle.markdown_engine.specs.Machine.{config, source, Refused, ReadWhole};
+    ghost use Rattle.markdown_engine.specs.Machine.{config, source, read_with, Refused, ReadWhole};
     ghost use Rattle.markdown_engine.specs.VirtualText.{line_start, with_skip};
 
     /// Reads a text in two ranges, the second of which is read from a later place of its line: what
     /// is read is the text that skips the line's start.
     pub fn in_lines(&mut self, cut: usize, point: Point, state: State) -> State
-        requires cut { cut < length self.old.bytes.now }
-        requires within { point.index ≤ length self.old.bytes.now }
-        requires line { cut ≤ line_start self.old.bytes.now point.index }
+        requires cut { cut < length self.old.parse_state.now.bytes.now }
+        requires within { point.index ≤ length self.old.parse_state.now.bytes.now }
+        requires line { cut ≤ line_start self.old.parse_state.now.bytes.now point.index }
         requires fresh { self.old.attempts.items ≡ [] }
-        requires valid { M.valid (length self.old.bytes.now) (config self.old) [] state }
-        ensures { Refused result ⊎ ReadWhole (with_skip (source self.old) point) M.step state self.old self.new result }
+        requires valid { M.valid (read_with self.old) (config self.old) [] state }
+        ensures reads { Refused result ⊎ ReadWhole (with_skip (source self.old) point) (M.step (read_with self.old)) state self.old self.new result }
+        ensures whole { Refused result ⊎ AreWhole self.new.events.items self.new.point }
     {
         let first = self.read((cut, 0), false, state);
         if let State::Error(_) = first {
             return first;
         }
-        if let Err(message) = self.define_skip(point) {
-            return State::Error(message);
+        if self.define_skip(point).is_err() {
+            return State::out_of_memory();
         }
-        let to = (self.bytes.len(), 0);
-        self.flush(to, first)
+        let to = (self.parse_state.bytes.len(), 0);
+        self.finish(to, first)
     }
 }

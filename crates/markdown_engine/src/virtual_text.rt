@@ -5,6 +5,7 @@
 ghost use Rattle.std.specs.Prelude.{◌≡◌, ◌<◌, ◌≤◌, ◌+◌, ◌-◌, ◌^◌, length};
 ghost use Rattle.markdown_engine.specs.VirtualText.{virtual_byte, tab_column, is_before, feeds, in_line, next_line, ends_before, line_start, start_of_line, Walks};
 ghost use Rattle.markdown_engine.specs.Laws.{remaining};
+ghost use Rattle.markdown_engine.specs.Order.{Reaches};
 
 use engine_events::Point;
 use engine_events::place::tab_size;
@@ -103,6 +104,7 @@ pub fn place_over(bytes: &[u8], point: Point, to: (usize, usize)) -> Point
     requires column { to.0 ≡ length bytes.now → to.1 ≡ 0 }
     ensures walks { Walks bytes.now to point result }
     ensures forward { remaining (length bytes.now) result ≤ remaining (length bytes.now) point }
+    ensures order { Reaches point result }
 {
     let mut place = point;
     while is_before(place, to) {

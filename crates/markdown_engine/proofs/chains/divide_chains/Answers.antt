@@ -1,4 +1,4 @@
-use Rattle.std.proofs.Common.{◌≡◌, ◌∙◌, ◌+◌, ◌∷◌, List, drop, length, refl, sym, subst, Bool, Option, Some, None}
+use Rattle.std.proofs.Common.{◌≡◌, ◌∙◌, ◌+◌, ◌∷◌, List, drop, length, refl, sym, subst, Option, Some, None}
 use Rattle.std.proofs.lemmas.List.{drop_more}
 use Rattle.engine_events.specs.declared.event.Content.{Content}
 use Rattle.engine_events.specs.declared.event.Event.{Event}
@@ -6,9 +6,11 @@ use Rattle.engine_edits.specs.Edits.{edits_of}
 use Rattle.engine_chunks.specs.Chunks.{chunks}
 use Rattle.engine_chunks.specs.Parts.{counts, divided}
 use Rattle.markdown_engine.specs.Chains.{AreApart, Chain, ReadsChain, chains, chains_from, chunks_of}
+use Rattle.markdown_engine.specs.Context.{context}
+use Rattle.markdown_engine.specs.Resolving.{found_both, found_in}
 use Rattle.markdown_engine.proofs.ChainSteps.{Dividing, apart_all, apart_front, chains_at, dividing_on}
 use Rattle.markdown_engine.proofs.chains.divide_chains.Goals as goal
-use Rattle.markdown_engine.proofs.chains.divide_chains.Goals.{in-Some+in_ok-children+in_ok-clone+in_ok-counts, in_default}
+use Rattle.markdown_engine.proofs.chains.divide_chains.Goals.{in-Some+in_ok-children+in_ok-clone-2+in_ok-counts+in_ok-add_found, in_default}
 
 pub read_chain-requires-clause-apart : goal.read_chain-requires-clause-apart
 read_chain-requires-clause-apart g c =
@@ -33,24 +35,28 @@ loop-index-preserved g c =
     let old = edits_of c.args.map.now in
     let all = chains filter events in
     let rest : List Chain = chains_from filter (i + 1) (drop (i + 1) events) in
-    let valid = g.M.Machine.valid (length c.args.bytes.now) in
-    let step = g.M.Machine.step in
-    let bytes = c.args.bytes.now in
+    let x = context c.args.parse_state.now in
+    let valid = g.M.Machine.valid x in
+    let step = g.M.Machine.step x in
+    let resolve = g.M.Machine.resolved x in
+    let bytes = c.args.parse_state.now.bytes.now in
     let machine = c.args.machine in
     elim c.match-chain_content.branch [
-      | in-Some+in_ok-children+in_ok-clone+in_ok-counts w ↦ (
+      | in-Some+in_ok-children+in_ok-clone-2+in_ok-counts+in_ok-add_found w ↦ (
           let content = w.in-Some.content in
           let children = w.in_ok-children.children.items in
+          let more = found_in w.in_ok-children.more in
           let here : chains_from filter i (drop i events) ≡ (i, content) ∷ rest = chains_at filter i (drop i events) (drop (i + 1) events) _ (Some content) (drop_more events i _ c.loop-index-test.true) (sym c.chain_content.ensures ∙ w.in-Some.is) in
-          let reads : ReadsChain step bytes machine events (i, content) children = w.in_ok-children.ensures.reads in
+          let reads : ReadsChain step resolve bytes machine events (i, content) children more = w.in_ok-children.ensures.reads in
           let given = w.deref.result.now in
-          let read : ReadsChain step bytes machine events (i, content) given = subst (λ (z : List Event). ReadsChain step bytes machine events (i, content) z) (sym w.deref.ensures.value) reads in
+          let read : ReadsChain step resolve bytes machine events (i, content) given more = subst (λ (z : List Event). ReadsChain step resolve bytes machine events (i, content) z more) (sym w.deref.ensures.value) reads in
           let counted : c.match-chain_content.counts ≡ counts events (chunks events i) given 0 c.loop-index.counts.0 c.loop-index.counts.1 = w.counts-is ∙ w.in_ok-counts.ensures.counts in
           let made : edits_of c.match-chain_content.map ≡ divided events i given c.loop-index.counts (edits_of c.loop-index.map) = rw w.map-is w.in_ok-counts.ensures.edits in
-          let on = dividing_on valid step bytes machine events (chains_from filter i (drop i events)) rest (i, content) given c.loop-index.counts c.match-chain_content.counts (edits_of c.loop-index.map) (edits_of c.match-chain_content.map) c.loop-index.done all old here read counted made c.loop-index.invariant in
-          subst (λ (z : Bool). Dividing valid step bytes machine events rest c.match-chain_content.counts (edits_of c.match-chain_content.map) z all old) (sym w.done-is) on)
+          let both : found_in w.add_found.new.found ≡ found_both (found_in c.loop-index.found) more = w.in_ok-add_found.ensures.found in
+          let on = dividing_on valid step resolve bytes machine events (chains_from filter i (drop i events)) rest (i, content) given more c.loop-index.counts c.match-chain_content.counts (edits_of c.loop-index.map) (edits_of c.match-chain_content.map) (found_in c.loop-index.found) (found_in w.add_found.new.found) c.loop-index.found.done all old here read counted made both c.loop-index.invariant in
+          rw w.found-is on)
       | in_default w ↦ (
           let here : chains_from filter i (drop i events) ≡ rest = chains_at filter i (drop i events) (drop (i + 1) events) _ None (drop_more events i _ c.loop-index-test.true) (sym c.chain_content.ensures ∙ is_none c.chain_content.result w.in_default.not-Some) in
-          let kept = subst (λ (z : List Chain). Dividing valid step bytes machine events z c.loop-index.counts (edits_of c.loop-index.map) c.loop-index.done all old) here c.loop-index.invariant in
-          rw w.done-is (rw w.counts-is (rw w.map-is kept)))
+          let kept = subst (λ (z : List Chain). Dividing valid step resolve bytes machine events z c.loop-index.counts (edits_of c.loop-index.map) (found_in c.loop-index.found) c.loop-index.found.done all old) here c.loop-index.invariant in
+          rw w.found-is (rw w.counts-is (rw w.map-is kept)))
     ]

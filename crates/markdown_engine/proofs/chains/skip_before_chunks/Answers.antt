@@ -36,9 +36,9 @@ skip_before-requires g c =
     let chain = c.args.chain.now in
     let k = get_or chain i 0 in
     let low : k + 2 ≤ length c.args.events.now = skipping_place c.args.events.now c.loop-chunk.end (drop i chain) (drop (i + 1) chain) k c.loop-chunk.tokenizer c.args.tokenizer.now.point chain c.args.tokenizer.now (drop_more chain i 0 c.loop-chunk-test.true) c.loop-chunk.invariant in
-    let there : (place_at c.args.events.now k).index ≤ length c.args.tokenizer.now.bytes.now = (c.requires.places k (omega (arith, low))).within in
+    let there : (place_at c.args.events.now k).index ≤ length c.args.tokenizer.now.parse_state.now.bytes.now = (c.requires.places k (omega (arith, low))).within in
     let same : c.place_at.result ≡ place_at c.args.events.now k = c.place_at.ensures in
-    rw same (rw c.loop-chunk.invariant.bytes there)
+    rw same (rw c.loop-chunk.invariant.parse_state there)
 
 pub loop-chunk-preserved : goal.loop-chunk-preserved
 loop-chunk-preserved g c =
@@ -51,5 +51,5 @@ loop-chunk-preserved g c =
     let k = get_or chain i 0 in
     let said : source u ≡ after_chunk c.loop-chunk.end c.place_at.result (source t) = c.in_ok-skip_before.ensures.source in
     let there : source u ≡ after_chunk c.loop-chunk.end (place_at events k) (source t) = said ∙ ap (λ (z : Point). after_chunk c.loop-chunk.end z (source t)) c.place_at.ensures in
-    let on = skipping_on events c.loop-chunk.end (drop i chain) (drop (i + 1) chain) k t u old.point chain old (drop_more chain i 0 c.loop-chunk-test.true) c.requires.places there c.in_ok-skip_before.ensures.config c.in_ok-skip_before.ensures.attempts c.in_ok-skip_before.ensures.bytes c.loop-chunk.invariant in
+    let on = skipping_on events c.loop-chunk.end (drop i chain) (drop (i + 1) chain) k t u old.point chain old (drop_more chain i 0 c.loop-chunk-test.true) c.requires.places there c.in_ok-skip_before.ensures.config c.in_ok-skip_before.ensures.attempts c.in_ok-skip_before.ensures.parse_state c.in_ok-skip_before.ensures.failed c.loop-chunk.invariant in
     rw c.place_at-end.ensures on

@@ -2,7 +2,8 @@ use Rattle.std.proofs.Common.{◌≡◌, ◌∙◌, ◌<◌, sym, subst, true, l
 use Rattle.markdown_engine.specs.VirtualText.{there, over, is_before}
 use Rattle.markdown_engine.specs.declared.virtual_text.VirtualByte.{VirtualByte}
 use Rattle.markdown_engine.specs.Laws.{remaining}
-use Rattle.markdown_engine.proofs.Falls.{step_less}
+use Rattle.markdown_engine.specs.OrderLaws.{reaches_on}
+use Rattle.markdown_engine.proofs.Falls.{step_less, step_reaches}
 use Rattle.markdown_engine.proofs.virtual_text.place_over.Invariants.{Walking}
 use Rattle.markdown_engine.proofs.virtual_text.place_over.Goals as goal
 
@@ -12,7 +13,7 @@ loop-to-preserved c =
     let less = step_less c.args.bytes.now c.args.to c.loop-to.place c.requires.within c.requires.column e in
     let far = c.loop-to.invariant.forward in
     subst (λ (v : VirtualByte). Walking c.args.bytes.now c.args.to c.args.point v.next) (sym c.virtual_byte.ensures)
-    (record { rest = λ q w. c.loop-to.invariant.rest q (over e w); forward = omega (arith, less, far) })
+    (record { rest = λ q w. c.loop-to.invariant.rest q (over e w); forward = omega (arith, less, far); order = reaches_on _ _ _ c.loop-to.invariant.order (step_reaches c.loop-to.place c.args.bytes.now) })
 
 pub loop-to-smaller : goal.loop-to-smaller
 loop-to-smaller c =

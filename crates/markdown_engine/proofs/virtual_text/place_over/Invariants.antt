@@ -2,11 +2,13 @@ use Rattle.std.proofs.Common.{◌≤◌, ℕ, List, length}
 use Rattle.engine_events.specs.declared.place.Point.{Point}
 use Rattle.markdown_engine.specs.VirtualText.{Walks}
 use Rattle.markdown_engine.specs.Laws.{remaining}
+use Rattle.markdown_engine.specs.Order.{Reaches}
 use Rattle.markdown_engine.proofs.virtual_text.place_over.Given as goal
 
 pub record Walking (bytes : List ℕ) (to : ℕ × ℕ) (first place : Point) : Type 0 where
   pub rest : (q : Point) → Walks bytes to place q → Walks bytes to first q
   pub forward : remaining (length bytes) place ≤ remaining (length bytes) first
+  pub order : Reaches first place
 
 abbrev pub invariant-loop-to : goal.invariant-loop-to
 invariant-loop-to l = Walking l.bytes l.to l.fn.point l.place

@@ -1,0 +1,84 @@
+-- Reading ends: whatever holds has an outcome.
+use Rattle.std.proofs.Common.{◌≡◌, ℕ, zero, suc, ◌+◌, ◌<◌, ◌≤◌, ◌++◌, [], ◌∷◌, length, map, List, Bool, true, false, refl, sym, subst, arith, ◌⊎◌, inl, inr}
+use Rattle.engine_events.specs.declared.place.Point.{Point}
+use Rattle.engine_events.specs.declared.state.Name.{Name}
+use Rattle.engine_events.specs.declared.state.State.{State}
+use Rattle.engine_events.specs.declared.state.State.TheVariants as states
+use Rattle.markdown_engine.specs.declared.attempt.Attempt.{Attempt}
+use Rattle.markdown_engine.specs.VirtualText.{Source, Text, byte_before, place_in, text_to}
+use Rattle.markdown_engine.specs.Reading.{Config, Steps, mark, feed, resumed, chosen, ended}
+use Rattle.markdown_engine.specs.Laws.{HoldsAt, RanksAt, OnlyAdds, KeepsAt, FallsAt, IsFed}
+use Rattle.markdown_engine.specs.OutcomeLaws.{HasOutcome, HasRun}
+use Rattle.markdown_engine.proofs.Outcomes.{ends, outcome_pop, outcome_retry, outcome_next}
+use Rattle.markdown_engine.proofs.Falls.{is_fed}
+
+-- an attempt is the innermost of a stack
+abbrev pub IsLast : List Attempt → List Attempt → Attempt → Type 0
+IsLast stack rest a = stack ≡ rest ++ a ∷ []
+
+-- a stack from its end
+last_of : (stack : List Attempt) → (stack ≡ []) ⊎ ((rest : List Attempt) × (a : Attempt) × IsLast stack rest a)
+last_of [] = inl refl
+last_of (a ∷ stack) = elim (last_of stack) [
+  | inl e ↦ inr ([], a, rw e refl)
+  | inr (rest, b, e) ↦ inr (a ∷ rest, b, rw e refl)
+]
+
+module _ {M : Type 0} (text : Text) (step : Steps M) where
+  -- an end, where each attempt that may wait has an outcome
+  pop : (v : Bool) (c : Config M) (stack : List Attempt) → ((rest : List Attempt) (a : Attempt) → IsLast stack rest a → HasOutcome text step (resumed a c v) rest (chosen a v)) → HasOutcome text step c stack (ended v)
+  pop v c stack h = elim (last_of stack) [
+    | inl e ↦ subst (λ (z : List Attempt). HasOutcome text step c z (ended v)) (sym e) (c, v, record { mid = c; how = v; runs = ends text step v c; unwinds = (refl, refl) })
+    | inr (rest, a, e) ↦ (
+        let (d, w, o) = h rest a e in
+        subst (λ (z : List Attempt). HasOutcome text step c z (ended v)) (sym e) (d, w, outcome_pop text step v rest a c d w o))
+  ]
+
+  retried : OnlyAdds step → (c : Config M) (stack : List Attempt) (n : Name) → let e = step c n in HasOutcome text step e.config (stack ++ map mark e.pushed) e.state → HasOutcome text step c stack (states.Retry n)
+  retried adds c stack n (d, w, o) = (d, w, outcome_retry text step adds stack c n d w o)
+
+  gone_on : OnlyAdds step → (c : Config M) (stack : List Attempt) (n : Name) → let e = step (feed text c) n in HasOutcome text step e.config (stack ++ map mark e.pushed) e.state → HasOutcome text step c stack (states.Next n)
+  gone_on adds c stack n (d, w, o) = (d, w, outcome_next text step adds stack c n d w o)
+
+  -- with nothing that waits, the outcome is a reading
+  run_of : (c : Config M) (s : State) → HasOutcome text step c [] s → HasRun text step c s
+  run_of c s (d, w, o) = (o.mid, o.how, o.runs)
+
+-- a text that is read up to an index and a column of a tab there feeds
+pub feeds_to : (s : Source) (to : ℕ × ℕ) → to.0 ≤ length s.bytes → (to.0 ≡ length s.bytes → to.1 ≡ 0) → (p : Point) → let text = text_to s to in IsFed (length s.bytes) p (text.start p) (text.byte (text.start p))
+feeds_to s to h k p = let place = place_in s.skips p in is_fed s.bytes s.skips to p place (byte_before s.bytes to place) h k refl refl
+
+module _ {M : Type 0} (size : ℕ) (valid : HoldsAt M) (step : Steps M) (rank : RanksAt M) (adds : OnlyAdds step) (keeps : KeepsAt size valid step) (falls : FallsAt size valid step rank) (text : Text) (fed : (p : Point) → IsFed size p (text.start p) (text.byte (text.start p))) where
+  below : (n : ℕ) (c : Config M) (stack : List Attempt) (s : State) → rank c stack s < n → valid c stack s → HasOutcome text step c stack s
+  below zero c stack s low h = absurd (omega arith)
+  below (suc n) c stack (states.Error m) low h = absurd (keeps.no_error c stack m h)
+  below (suc n) c stack (states.Next name) low h =
+      let place = text.start c.point in
+      let byte = text.byte place in
+      let held = keeps.fed c stack name place byte (fed c.point) h in
+      let most = falls.fed c stack name place byte h (fed c.point) in
+      let less = falls.called (feed text c) stack name held in
+      let e = step (feed text c) name in
+      gone_on text step adds c stack name (below n e.config (stack ++ map mark e.pushed) e.state (omega arith) (keeps.called (feed text c) stack name held))
+  below (suc n) c stack (states.Retry name) low h =
+      let less = falls.called c stack name h in
+      let e = step c name in
+      retried text step adds c stack name (below n e.config (stack ++ map mark e.pushed) e.state (omega arith) (keeps.called c stack name h))
+  below (suc n) c stack states.Ok low h = pop text step true c stack (λ rest a e.
+      let held = subst (λ (z : List Attempt). valid c z states.Ok) e h in
+      let least = subst (λ (z : List Attempt). rank c z states.Ok < suc n) e low in
+      let less = falls.ok c rest a held in
+      below n (resumed a c true) rest a.ok (omega arith) (keeps.ok c rest a held))
+  below (suc n) c stack states.Nok low h = pop text step false c stack (λ rest a e.
+      let held = subst (λ (z : List Attempt). valid c z states.Nok) e h in
+      let least = subst (λ (z : List Attempt). rank c z states.Nok < suc n) e low in
+      let less = falls.nok c rest a held in
+      below n (resumed a c false) rest a.nok (omega arith) (keeps.nok c rest a held))
+
+  -- whatever holds has an outcome
+  pub has_outcome : (c : Config M) (stack : List Attempt) (s : State) → valid c stack s → HasOutcome text step c stack s
+  has_outcome c stack s h = below (rank c stack s + 1) c stack s (omega arith) h
+
+  -- with nothing that waits, it is read
+  pub has_run : (c : Config M) (s : State) → valid c [] s → HasRun text step c s
+  has_run c s h = run_of text step c s (has_outcome c [] s h)

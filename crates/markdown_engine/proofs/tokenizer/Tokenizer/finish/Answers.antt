@@ -1,0 +1,26 @@
+use Rattle.std.proofs.Common.{refl, length, inl, inr}
+use Rattle.markdown_engine.specs.Machine.{config, read_with, source}
+use Rattle.markdown_engine.specs.VirtualText.{text_to}
+use Rattle.markdown_engine.proofs.Order.{read_whole}
+use Rattle.markdown_engine.proofs.Push.{ended_valid, flushed}
+use Rattle.markdown_engine.proofs.Total.{feeds_to, has_outcome}
+use Rattle.markdown_engine.proofs.tokenizer.Tokenizer.finish.Goals as goal
+
+pub returns-clause-reads : goal.returns-clause-reads
+returns-clause-reads g c = flushed (g.M.Machine.step (read_with c.args.self.now)) c.args.to c.args.self.now c.read.new.self c.args.state c.read.result c.read.ensures.reads (c.read.ensures.ends refl)
+
+pub returns-clause-valid : goal.returns-clause-valid
+returns-clause-valid g c = ended_valid (g.M.Machine.valid (read_with c.args.self.now)) c.read.new.self c.read.result (c.read.ensures.ends refl) c.read.ensures.valid
+
+pub returns-clause-total : goal.returns-clause-total
+returns-clause-total g c =
+    let old = c.args.self.now in
+    let x = read_with old in
+    elim c.requires.valid [
+      | inl r ↦ inl r
+      | inr h ↦ inr (has_outcome (length old.parse_state.now.bytes.now) (g.M.Machine.valid x) (g.M.Machine.step x) (g.M.Machine.rank x) (g.met.M.Machine.only_adds x) (g.met.M.Machine.keeps x) (g.met.M.Machine.falls x)
+          (text_to (source old) c.args.to) (feeds_to (source old) c.args.to c.requires.within c.requires.column) (config old) old.attempts.items c.args.state h)
+    ]
+
+pub returns-clause-whole : goal.returns-clause-whole
+returns-clause-whole g c = read_whole (read_with c.args.self.now) g.M.Machine.valid g.met.M.Machine.tidy g.met.M.Machine.closes c.read.new.self c.read.result c.read.ensures.valid (c.read.ensures.ends refl)

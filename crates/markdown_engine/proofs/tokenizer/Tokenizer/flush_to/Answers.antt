@@ -1,0 +1,7 @@
+use Rattle.std.proofs.Common.{refl}
+use Rattle.std.proofs.lemmas.Result.{IfOk-weaker}
+use Rattle.markdown_engine.proofs.Resolves.{completed_as}
+use Rattle.markdown_engine.proofs.tokenizer.Tokenizer.flush_to.Goals as goal
+
+pub returns-clause-completed : goal.returns-clause-completed
+returns-clause-completed g c = IfOk-weaker c.complete-result.result _ _ (λ found h. completed_as _ _ _ _ _ _ c.complete-result.new.self _ _ refl h) c.complete-result.ensures.completed

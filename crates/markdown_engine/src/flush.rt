@@ -1,0 +1,152 @@
+//! The end of a text: it is handed in, and resolvers run.
+ghost use Rattle.std.specs.Prelude.{◌≡◌, false, OnOk, IfOk};
+ghost use Rattle.markdown_engine.specs.Resolving.{found_in, found_of, found_both, nothing_found};
+
+use crate::tokenizer::{Machine, Tokenizer};
+use engine_events::{State, Subresult, resolve};
+use markdown_options::{Message, Tables};
+use std::alloc::{AllocError, Allocator};
+use std::mem;
+
+/// Nothing was found.
+pub(crate) fn nothing_found<A: Allocator + Clone>(alloc: A) -> Result<Subresult<A>, AllocError>
+    ensures found { IfOk result (λ found. found_in found ≡ nothing_found) }
+    ensures done { IfOk result (λ found. found.done ≡ false) }
+{
+    Ok(Subresult {
+        done: false,
+        gfm_footnote_definitions: Vec::new(alloc.clone()?),
+        definitions: Vec::new(alloc),
+    })
+}
+
+/// Adds what else was found.
+pub(crate) fn add_found<A: Allocator>(
+    found: &mut Subresult<A>,
+    more: Option<Subresult<A>>,
+) -> Result<(), AllocError>
+    ensures found { OnOk result (found_in found.new ≡ found_both (found_in found.old) (found_of more)) }
+    ensures done { found.new.done ≡ found.old.done }
+{
+    if let Some(mut more) = more {
+        found.definitions.append(&mut more.definitions)?;
+        found
+            .gfm_footnote_definitions
+            .append(&mut more.gfm_footnote_definitions)?;
+    }
+    Ok(())
+}
+
+impl<'a, M: Machine<T>, T: Tables, A: Allocator + Clone> Tokenizer<'a, M, T, A> {
+    ghost use Rattle.std.specs.Prelude.{◌≡◌, ◌≤◌, [], IfOk, OnOk, OnErr, IfErr, IsErr, length, true, false, ◌⊎◌};
+    ghost use Rattle.markdown_options.specs.Messages.{IsOutOfMemory};
+    ghost use Rattle.engine_events.specs.declared.state.State.TheVariants as states;
+    ghost use Rattle.markdown_engine.specs.Machine.{config, source, read_with, Completed, Refused};
+    ghost use Rattle.markdown_engine.specs.Order.{AreWhole};
+    ghost use Rattle.markdown_engine.specs.Resolving.{Resolved, found_in, resolve_all, resolve_each};
+    ghost use Rattle.markdown_engine.specs.VirtualText.{text_to};
+
+    /// Hands in the end where the last range ended, and, if that is asked for, runs the resolvers in
+    /// their order and makes the edits that they asked for. Answers what they found.
+    ///
+    /// Once memory was refused, an error is answered.
+    pub fn flush(&mut self, state: State, resolve: bool) -> Result<Subresult<A>, Message>
+        requires within { self.old.end.0 ≤ length self.old.parse_state.now.bytes.now }
+        requires column { self.old.end.0 ≡ length self.old.parse_state.now.bytes.now → self.old.end.1 ≡ 0 }
+        requires valid { (self.old.failed ≡ true) ⊎ M.valid (read_with self.old) (config self.old) self.old.attempts.items state }
+        ensures completed { IfOk result (λ found. Completed (text_to (source self.old) self.old.end) (M.step (read_with self.old)) (M.resolved (read_with self.old)) resolve state self.old self.new (found_in found)) }
+        ensures done { IfOk result (λ found. found.done ≡ false) }
+        ensures whole { OnOk result (AreWhole self.new.events.items self.new.point) }
+        ensures err { OnErr result (self.new.failed ≡ true) }
+        ensures failed { self.old.failed ≡ true → IsErr result }
+        ensures memory { IfErr result (λ message. IsOutOfMemory message) }
+    {
+        self.flush_to(self.end, state, resolve)
+    }
+
+    /// Reads on, up to an index and a column of a tab there, where the text ends; then as [`flush`].
+    pub(crate) fn flush_to(
+        &mut self,
+        to: (usize, usize),
+        state: State,
+        resolve: bool,
+    ) -> Result<Subresult<A>, Message>
+        requires within { to.0 ≤ length self.old.parse_state.now.bytes.now }
+        requires column { to.0 ≡ length self.old.parse_state.now.bytes.now → to.1 ≡ 0 }
+        requires valid { (self.old.failed ≡ true) ⊎ M.valid (read_with self.old) (config self.old) self.old.attempts.items state }
+        ensures completed { IfOk result (λ found. Completed (text_to (source self.old) to) (M.step (read_with self.old)) (M.resolved (read_with self.old)) resolve state self.old self.new (found_in found)) }
+        ensures done { IfOk result (λ found. found.done ≡ false) }
+        ensures whole { OnOk result (AreWhole self.new.events.items self.new.point) }
+        ensures err { OnErr result (self.new.failed ≡ true) }
+        ensures failed { self.old.failed ≡ true → IsErr result }
+        ensures memory { IfErr result (λ message. IsOutOfMemory message) }
+    {
+        if self.failed {
+            return Err(Message::out_of_memory());
+        }
+        let result = self.complete(to, state, resolve);
+        self.failed = result.is_err();
+        result
+    }
+
+    /// Reads to the end, and runs the resolvers if that is asked for.
+    fn complete(
+        &mut self,
+        to: (usize, usize),
+        state: State,
+        resolve: bool,
+    ) -> Result<Subresult<A>, Message>
+        requires within { to.0 ≤ length self.old.parse_state.now.bytes.now }
+        requires column { to.0 ≡ length self.old.parse_state.now.bytes.now → to.1 ≡ 0 }
+        requires valid { M.valid (read_with self.old) (config self.old) self.old.attempts.items state }
+        ensures completed { IfOk result (λ found. Completed (text_to (source self.old) to) (M.step (read_with self.old)) (M.resolved (read_with self.old)) resolve state self.old self.new (found_in found)) }
+        ensures done { IfOk result (λ found. found.done ≡ false) }
+        ensures whole { OnOk result (AreWhole self.new.events.items self.new.point) }
+        ensures memory { IfErr result (λ message. IsOutOfMemory message) }
+    {
+        if let State::Error(message) = self.finish(to, state) {
+            return Err(*message);
+        }
+        let mut found = nothing_found(self.events.allocator().clone()?)?;
+        if resolve {
+            self.resolve_all(&mut found)?;
+        }
+        Ok(found)
+    }
+
+    /// Runs the resolvers that are registered, and makes the edits.
+    fn resolve_all(&mut self, found: &mut Subresult<A>) -> Result<(), Message>
+        requires settled { M.settled (read_with self.old) (record (config self.old) { resolvers = [] }) self.old.resolvers.items }
+        requires nothing { found_in found.old ≡ nothing_found }
+        ensures config { OnOk result (config self.new ≡ (resolve_all (M.resolved (read_with self.old)) (config self.old)).config) }
+        ensures found { OnOk result (found_in found.new ≡ (resolve_all (M.resolved (read_with self.old)) (config self.old)).found) }
+        ensures done { found.new.done ≡ found.old.done }
+        ensures whole { OnOk result (AreWhole self.new.events.items self.new.point) }
+        ensures memory { IfErr result (λ message. IsOutOfMemory message) }
+    {
+        let none = Vec::new(self.events.allocator().clone()?);
+        let names = mem::replace(&mut self.resolvers, none);
+        self.resolve_each(&names, found)?;
+        self.map.consume(&mut self.events)
+    }
+
+    /// Runs resolvers, and adds what they find.
+    fn resolve_each(
+        &mut self,
+        names: &[resolve::Name],
+        found: &mut Subresult<A>,
+    ) -> Result<(), Message>
+        requires settled { M.settled (read_with self.old) (config self.old) names.now }
+        ensures config { OnOk result (config self.new ≡ (resolve_each (M.resolved (read_with self.old)) names.now (config self.old) (found_in found.old)).config) }
+        ensures found { OnOk result (found_in found.new ≡ (resolve_each (M.resolved (read_with self.old)) names.now (config self.old) (found_in found.old)).found) }
+        ensures settled { OnOk result (M.settled (read_with self.old) (config self.new) []) }
+        ensures done { found.new.done ≡ found.old.done }
+        ensures memory { IfErr result (λ message. IsOutOfMemory message) }
+    {
+        for name in names {
+            let more = M::resolve(self, *name)?;
+            add_found(found, more)?;
+        }
+        Ok(())
+    }
+}
