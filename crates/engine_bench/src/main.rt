@@ -2,22 +2,21 @@
 #![tactic(auto)]
 
 use engine_tests::count::Count;
-use markdown_engine::place::Point;
+use engine_tests::tables::Ascii;
+use markdown_engine::place::START;
 use markdown_engine::state::{Inline, Name, State};
 use markdown_engine::tokenizer::Tokenizer;
+use markdown_engine::{ParseOptions, ParseState};
 use std::io::{self, ErrorKind, Read};
-
-const START: Point = Point {
-    line: 1,
-    column: 1,
-    index: 0,
-    vs: 0,
-};
 
 fn main(rt: HostRuntime) -> io::Result<()> {
     let mut bytes = Vec::new(rt.alloc());
     rt.stdin().read_to_end(&mut bytes)?;
-    let Ok(mut tokenizer) = Tokenizer::new(rt.alloc(), &bytes, START, Count { calls: 0 }) else {
+    let options = ParseOptions::default();
+    let Ok(text) = ParseState::new(rt.alloc(), &bytes, &options, &Ascii) else {
+        return Err(ErrorKind::OutOfMemory.into());
+    };
+    let Ok(mut tokenizer) = Tokenizer::new(rt.alloc(), START, &text, Count { calls: 0 }) else {
         return Err(ErrorKind::OutOfMemory.into());
     };
     let state = State::Next(Name::Inline(Inline::DataInside));

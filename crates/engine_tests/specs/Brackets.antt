@@ -1,5 +1,6 @@
 -- A machine of balanced brackets: items, each a group in brackets or another byte. Where a group doesn't end, all from its bracket on is data.
-use Rattle.std.specs.Prelude.{◌≡◌, ℕ, ◌+◌, ◌*◌, ◌^◌, ◌<◌, ◌≤◌, Bool, true, false, List, [], ◌∷◌, Option, Some, None, ◌==◌, if◌then◌else◌, ◌⊎◌, reverse}
+use Rattle.std.specs.Prelude.{◌≡◌, ℕ, ◌+◌, ◌*◌, ◌<◌, ◌≤◌, Bool, true, false, List, [], ◌∷◌, Option, Some, None, ◌==◌, if◌then◌else◌, ◌⊎◌, reverse}
+use Rattle.engine_events.specs.declared.event.Name.{Name as EventName}
 use Rattle.engine_events.specs.declared.event.Name.TheVariants as names
 use Rattle.engine_events.specs.declared.state.Name.{Name}
 use Rattle.engine_events.specs.declared.state.Name.TheVariants.{Inline}
@@ -7,8 +8,10 @@ use Rattle.engine_events.specs.declared.state.Inline.TheVariants as inline_state
 use Rattle.engine_events.specs.declared.state.State.{State}
 use Rattle.engine_events.specs.declared.state.State.TheVariants as states
 use Rattle.markdown_engine.specs.declared.attempt.Attempt.{Attempt}
-use Rattle.markdown_engine.specs.Laws.{remaining}
+use Rattle.markdown_engine.specs.Descent.{Weighs, descent}
+use Rattle.markdown_engine.specs.Laws.{RanksAt, remaining}
 use Rattle.markdown_engine.specs.Machine.{consumed, entered, exited, plain, tries}
+use Rattle.markdown_engine.specs.Order.{AreMarks, IsTidy, LeadsOn, opened}
 use Rattle.markdown_engine.specs.Reading.{Config, Effect, Steps}
 
 -- what a state reads: items, a group, a group's end, and data
@@ -107,40 +110,61 @@ module _ {M : Type 0} (size : ℕ) where
   Stands states.Ok stack c = Level size false 0 stack (remaining size c.point) ⊎ Level size true 1 stack (remaining size c.point)
   Stands states.Nok stack c = Level size true 0 stack (remaining size c.point)
 
-  unfoldable pub brackets_valid : Config M → List Attempt → State → Type 0
-  brackets_valid c stack s = Stands s (reverse stack) c
+-- what is open: a label for each attempt at the items in a group that waits, and one more where a group's end is read
+abbrev pub with_label : State → List EventName → List EventName
+with_label (states.Error m) open_names = open_names
+with_label (states.Next n) open_names = open_names
+with_label (states.Retry n) open_names = open_names
+with_label states.Ok open_names = open_names
+with_label states.Nok open_names = names.Label ∷ open_names
 
--- how many calls there can be, where so much is left
-abbrev pub cost : Part → ℕ → ℕ
-cost Items l = 20 * 4 ^ l
-cost Rest l = l + 2
-cost Group l = 5 * 4 ^ l + 8
-cost Close l = 2
+abbrev pub labels : List Attempt → List EventName
+labels [] = []
+labels (a ∷ more) = with_label a.nok (labels more)
 
--- how many calls an attempt may lead to
-abbrev pub waits_for : Part → ℕ → ℕ
-waits_for Items l = 5 * 4 ^ l + l + 2
-waits_for Rest l = 2
-waits_for Group l = 2
-waits_for Close l = 2
+abbrev pub labels_at : Part → List Attempt → List EventName
+labels_at Items stack = labels stack
+labels_at Group stack = labels stack
+labels_at Close stack = names.Label ∷ labels stack
+labels_at Rest stack = labels stack
 
-abbrev pub waits : State → ℕ → ℕ
-waits (states.Error m) l = 2
-waits (states.Next n) l = waits_for (part n) l
-waits (states.Retry n) l = 2
-waits states.Ok l = 2
-waits states.Nok l = 2
+abbrev pub Fits : List EventName → List Attempt → Type 0
+Fits open_names stack = open_names ≡ labels stack
 
-abbrev pub all_wait : ℕ → List Attempt → ℕ
-all_wait size [] = 0
-all_wait size (a ∷ more) = waits a.ok (remaining size a.point) + all_wait size more
+module _ {M : Type 0} where
+  abbrev pub IsOpen : State → List Attempt → Config M → Type 0
+  IsOpen (states.Error m) stack c = Unit {0}
+  IsOpen (states.Next n) stack c = opened [] c.events ≡ labels_at (part n) stack
+  IsOpen (states.Retry n) stack c = (opened [] c.events ≡ labels_at (part n) stack) × LeadsOn c
+  IsOpen states.Ok stack c = opened [] c.events ≡ labels stack
+  IsOpen states.Nok stack c = Unit {0}
 
-abbrev pub now : State → ℕ → ℕ
-now (states.Error m) l = 0
-now (states.Next n) l = cost (part n) l
-now (states.Retry n) l = cost (part n) l
-now states.Ok l = 1
-now states.Nok l = 1
+  pub record IsOrdered (s : State) (stack : List Attempt) (c : Config M) : Type 0 where
+    pub tidy : IsTidy c
+    pub marks : AreMarks Fits c.events stack
+    pub open_names : IsOpen s stack c
 
-unfoldable pub brackets_rank : {M : Type 0} → ℕ → Config M → List Attempt → State → ℕ
-brackets_rank size c stack s = now s (remaining size c.point) + all_wait size (reverse stack)
+  unfoldable pub brackets_valid : ℕ → Config M → List Attempt → State → Type 0
+  brackets_valid size c stack s = Stands size s (reverse stack) c × IsOrdered s (reverse stack) c
+
+-- the height of a part above what is left
+abbrev pub height : Part → ℕ
+height Items = 3
+height Group = 2
+height Close = 1
+height Rest = 1
+
+module _ {M : Type 0} where
+  abbrev pub brackets_weight : ℕ → Weighs M
+  brackets_weight size c (states.Error m) = 0
+  brackets_weight size c (states.Next n) = 4 * remaining size c.point + height (part n)
+  brackets_weight size c (states.Retry n) = 4 * remaining size c.point + height (part n)
+  brackets_weight size c states.Ok = 0
+  brackets_weight size c states.Nok = 0
+
+-- after a group reading goes on in less, and after its content with its end; without a group the rest is read
+abbrev pub brackets_waits : ℕ → Attempt → ℕ
+brackets_waits size a = 4 * remaining size a.point + 1
+
+abbrev pub brackets_rank : {M : Type 0} → ℕ → RanksAt M
+brackets_rank size = descent 2 (brackets_weight size) (brackets_waits size)

@@ -1,7 +1,5 @@
 -- The machine of brackets is lawful.
-use Rattle.std.proofs.Common.{◌≡◌, ℕ, ◌+◌, ◌*◌, ◌^◌, ◌<◌, ◌≤◌, ◌++◌, [], ◌∷◌, map, List, Bool, true, false, refl, sym, ap, subst, arith, inl, inr, Option, Some, None, reverse, zero, suc, add-one, ◌==◌, if◌then◌else◌, append-nil}
-use Rattle.std.proofs.Math.Nat.{pow-suc, pow-le-pow_right}
-use Rattle.std.proofs.lemmas.List.{reverse-append}
+use Rattle.std.proofs.Common.{◌≡◌, ℕ, ◌+◌, ◌*◌, ◌<◌, ◌≤◌, ◌++◌, [], ◌∷◌, map, List, Bool, true, false, refl, sym, subst, arith, inl, inr, Option, Some, None, reverse, ◌==◌, if◌then◌else◌, append-nil, length}
 use Rattle.engine_events.specs.declared.event.Event.{Event}
 use Rattle.engine_events.specs.declared.event.Name.TheVariants as names
 use Rattle.engine_events.specs.declared.place.Point.{Point}
@@ -11,13 +9,20 @@ use Rattle.engine_events.specs.declared.state.State.TheVariants as states
 use Rattle.markdown_engine.specs.declared.attempt.Attempt.{Attempt}
 use Rattle.markdown_engine.specs.declared.virtual_text.VirtualByte.{VirtualByte}
 use Rattle.markdown_engine.specs.Reading.{Config, Frame, Effect, mark, moved, handed, resumed}
-use Rattle.markdown_engine.specs.Machine.{entered, exited, consumed, plain, tries}
-use Rattle.markdown_engine.specs.Laws.{IsFed, IsFront, Nested, MovesOn, OnlyAdds, Keeps, Falls, remaining}
-use Rattle.engine_tests.specs.Brackets.{Part, Items, Group, Close, Rest, part, items_state, group_state, close_state, rest_state, items, rest, group, close, step_of, brackets_step, brackets_valid, brackets_rank, IsAhead, Level, in_group, least, Stands, cost, waits, all_wait, now}
-
-by_test : {A : Type 0} (P : A → Type 0) (t : Bool) (x y : A) → P x → P y → P (if t then x else y)
-by_test P true x y h k = h
-by_test P false x y h k = k
+use Rattle.engine_events.specs.declared.event.Content.{Content}
+use Rattle.engine_events.specs.declared.event.Content.TheVariants as contents
+use Rattle.markdown_engine.specs.Chains.{first_state}
+use Rattle.markdown_engine.specs.OrderLaws.{fresh_tidy}
+use Rattle.engine_tests.specs.declared.brackets.Brackets.{Brackets}
+use Rattle.markdown_engine.specs.Machine.{fresh, entered, exited, consumed, plain, tries}
+use Rattle.markdown_engine.specs.Resolving.{Leaves, ResolvesAt, Unresolved, resolves_nothing, settles_whole}
+use Rattle.markdown_engine.specs.ResolvingLaws.{closes_unresolved, falls_unresolved, keeps_unresolved, resolves_unresolved, tidies_unresolved}
+use Rattle.markdown_engine.specs.Descent.{AllBelow, DescendsAt}
+use Rattle.markdown_engine.specs.DescentLaws.{descends}
+use Rattle.markdown_engine.specs.Laws.{IsFed, IsFront, Nested, MovesOn, OnlyAdds, KeepsAt, FallsAt, TidiesAt, ClosesAt, remaining}
+use Rattle.markdown_engine.specs.Order.{IsInnermost, Reaches, opened}
+use Rattle.engine_tests.specs.Brackets.{Part, Items, Group, Close, Rest, part, items_state, group_state, close_state, rest_state, items, rest, group, close, step_of, brackets_step, brackets_valid, brackets_rank, brackets_waits, brackets_weight, IsAhead, IsOrdered, Level, in_group, labels, labels_at, height, least, Stands}
+use Rattle.engine_tests.specs.BracketsOrderLaws.{by_test, called_orders, fed_orders, moved_orders, no_more, nok_orders, ok_orders, one_more}
 
 same_front : (a : List Event) → IsFront a a
 same_front a = ([], sym (append-nil a))
@@ -77,12 +82,6 @@ module _ (size : ℕ) where
   further [] l k h v = v
   further (a ∷ more) l k h v = let p = v.1 in (v.0, omega arith, v.2)
 
-no_more : (stack : List Attempt) → reverse (stack ++ []) ≡ reverse stack
-no_more stack = ap reverse (append-nil stack)
-
-one_more : (stack : List Attempt) (a : Attempt) → reverse (stack ++ a ∷ []) ≡ a ∷ reverse stack
-one_more stack a = reverse-append stack (a ∷ [])
-
 module _ {M : Type 0} (size : ℕ) (stack : List Attempt) where
   Fine : Effect M → Type 0
   Fine e = Stands size e.state (reverse (stack ++ map mark e.pushed)) e.config
@@ -139,159 +138,219 @@ module _ {M : Type 0} (size : ℕ) (stack : List Attempt) where
 
   called_fine : (c : Config M) (n : Name) → brackets_valid size c stack (states.Retry n) → (let e = brackets_step c n in brackets_valid size e.config (stack ++ map mark e.pushed) e.state)
   unfolding Fine brackets_valid brackets_step
-  called_fine c n h = part_fine (part n) c h.0 h.1
+  called_fine c n h = (part_fine (part n) c h.0.0 h.0.1, called_orders stack c n h.1)
+
+  fed_stands : (c : Config M) (n : Name) (p : Point) (v : Option VirtualByte) → IsFed size c.point p v → Stands size (states.Next n) (reverse stack) c → Stands size (states.Retry n) (reverse stack) (handed c p v)
+  fed_stands c n p None fed h = (later size (in_group (part n)) (least (part n)) (reverse stack) (remaining size c.point) (remaining size p) fed.forward h, λ b e. absurd (let f : None ≡ Some b = e in cc))
+  fed_stands c n p (Some w) fed h = (later size (in_group (part n)) (least (part n)) (reverse stack) (remaining size c.point) (remaining size p) fed.forward h, λ b e. (fed.read w refl).falls)
 
   fed_fine : (c : Config M) (n : Name) (p : Point) (v : Option VirtualByte) → IsFed size c.point p v → brackets_valid size c stack (states.Next n) → brackets_valid size (handed c p v) stack (states.Retry n)
   unfolding brackets_valid
-  fed_fine c n p None fed h = (later size (in_group (part n)) (least (part n)) (reverse stack) (remaining size c.point) (remaining size p) fed.forward h, λ b e. absurd (let f : None ≡ Some b = e in cc))
-  fed_fine c n p (Some w) fed h = (later size (in_group (part n)) (least (part n)) (reverse stack) (remaining size c.point) (remaining size p) fed.forward h, λ b e. (fed.read w refl).falls)
+  fed_fine c n p v fed h = (fed_stands c n p v fed h.0, fed_orders (reverse stack) size c n p v fed h.1)
 
-  moved_fine : (c : Config M) (s : State) (p : Point) → MovesOn s → remaining size p ≤ remaining size c.point → brackets_valid size c stack s → brackets_valid size (moved p c) stack s
+  moved_stands : (c : Config M) (s : State) (p : Point) → MovesOn s → remaining size p ≤ remaining size c.point → Stands size s (reverse stack) c → Stands size s (reverse stack) (moved p c)
+  moved_stands c (states.Error m) p on low h = h
+  moved_stands c (states.Next n) p on low h = later size (in_group (part n)) (least (part n)) (reverse stack) (remaining size c.point) (remaining size p) low h
+  moved_stands c (states.Retry n) p on low h = absurd on
+  moved_stands c states.Ok p on low (inl h) = inl (later size false 0 (reverse stack) (remaining size c.point) (remaining size p) low h)
+  moved_stands c states.Ok p on low (inr h) = inr (later size true 1 (reverse stack) (remaining size c.point) (remaining size p) low h)
+  moved_stands c states.Nok p on low h = later size true 0 (reverse stack) (remaining size c.point) (remaining size p) low h
+
+  moved_fine : (c : Config M) (s : State) (p : Point) → MovesOn s → remaining size p ≤ remaining size c.point → Reaches c.point p → brackets_valid size c stack s → brackets_valid size (moved p c) stack s
   unfolding brackets_valid
-  moved_fine c (states.Error m) p on low h = h
-  moved_fine c (states.Next n) p on low h = later size (in_group (part n)) (least (part n)) (reverse stack) (remaining size c.point) (remaining size p) low h
-  moved_fine c (states.Retry n) p on low h = absurd on
-  moved_fine c states.Ok p on low (inl h) = inl (later size false 0 (reverse stack) (remaining size c.point) (remaining size p) low h)
-  moved_fine c states.Ok p on low (inr h) = inr (later size true 1 (reverse stack) (remaining size c.point) (remaining size p) low h)
-  moved_fine c states.Nok p on low h = later size true 0 (reverse stack) (remaining size c.point) (remaining size p) low h
+  moved_fine c s p on low order h = (moved_stands c s p on low h.0, moved_orders (reverse stack) c s p on order h.1)
 
   -- an attempt that went well goes on in the state that it names
-  goes_on : (a : Attempt) (c : Config M) (n : Name) → a.check ≡ false → a.ok ≡ states.Next n → Level size (in_group (part n)) (least (part n)) (reverse stack) (remaining size c.point) → brackets_valid size (resumed a c true) stack a.ok
+  goes_on : (a : Attempt) (c : Config M) (n : Name) → a.check ≡ false → a.ok ≡ states.Next n → labels (a ∷ reverse stack) ≡ labels_at (part n) (reverse stack) → Level size (in_group (part n)) (least (part n)) (reverse stack) (remaining size c.point) → IsOrdered states.Ok (a ∷ reverse stack) c → brackets_valid size (resumed a c true) stack a.ok
   unfolding brackets_valid
-  goes_on a c n p q l = rw p (rw q l)
+  goes_on a c n p q e l o = let ordered = ok_orders (reverse stack) a c n p q e o in (rw p (rw q l), ordered)
 
-  popped_ok : (a : Attempt) (c : Config M) → Stands size states.Ok (a ∷ reverse stack) c → brackets_valid size (resumed a c true) stack a.ok
+  popped_ok : (a : Attempt) (c : Config M) → Stands size states.Ok (a ∷ reverse stack) c → IsOrdered states.Ok (a ∷ reverse stack) c → brackets_valid size (resumed a c true) stack a.ok
   unfolding part
-  popped_ok a c (inl l) = goes_on a c close_state l.0.check l.0.ok (later size true 1 (reverse stack) (remaining size a.point) (remaining size c.point) l.1 l.2)
-  popped_ok a c (inr l) = let below = l.1 in goes_on a c items_state l.0.check l.0.ok (later size false 0 (reverse stack) (remaining size a.point) (remaining size c.point) (omega arith) l.2)
+  popped_ok a c (inl l) o = goes_on a c close_state l.0.check l.0.ok (rw l.0.nok refl) (later size true 1 (reverse stack) (remaining size a.point) (remaining size c.point) l.1 l.2) o
+  popped_ok a c (inr l) o = let below = l.1 in goes_on a c items_state l.0.check l.0.ok (rw l.0.nok refl) (later size false 0 (reverse stack) (remaining size a.point) (remaining size c.point) (omega arith) l.2) o
 
-  popped_nok : (a : Attempt) (c : Config M) → Stands size states.Nok (a ∷ reverse stack) c → brackets_valid size (resumed a c false) stack a.nok
+  popped_nok : (a : Attempt) (c : Config M) → Stands size states.Nok (a ∷ reverse stack) c → IsOrdered states.Nok (a ∷ reverse stack) c → brackets_valid size (resumed a c false) stack a.nok
   unfolding brackets_valid part
-  popped_nok a c l = rw l.0.nok l.2
+  popped_nok a c l o = (rw l.0.nok l.2, nok_orders (reverse stack) a c rest_state l.0.nok (rw l.0.nok refl) o)
 
-  was : (s : State) (a : Attempt) (c : Config M) → brackets_valid size c (stack ++ a ∷ []) s → Stands size s (a ∷ reverse stack) c
+  was : (s : State) (a : Attempt) (c : Config M) → brackets_valid size c (stack ++ a ∷ []) s → Stands size s (a ∷ reverse stack) c × IsOrdered s (a ∷ reverse stack) c
   unfolding brackets_valid
-  was s a c h = subst (λ (z : List Attempt). Stands size s z c) (one_more stack a) h
+  was s a c h = subst (λ (z : List Attempt). Stands size s z c × IsOrdered s z c) (one_more stack a) h
 
 no_error : {M : Type 0} (size : ℕ) (c : Config M) (stack : List Attempt) (m : _) → brackets_valid size c stack (states.Error m) → ⊥
 unfolding brackets_valid
-no_error size c stack m h = h
+no_error size c stack m h = h.0
 
-pub brackets_keeps : {M : Type 0} → Keeps (brackets_valid {M = M}) brackets_step
-brackets_keeps {M = M} size = record {
+brackets_held : {M : Type 0} (size : ℕ) → KeepsAt size (brackets_valid {M = M} size) brackets_step
+brackets_held {M = M} size = record {
   fed = λ c stack n p v fed h. fed_fine size stack c n p v fed h;
-  moved = λ c stack s p on low h. moved_fine size stack c s p on low h;
+  moved = λ c stack s p on low order h. moved_fine size stack c s p on low order h;
   called = λ c stack n h. called_fine size stack c n h;
-  ok = λ c stack a h. popped_ok size stack a c (was size stack states.Ok a c h);
-  nok = λ c stack a h. popped_nok size stack a c (was size stack states.Nok a c h);
+  ok = λ c stack a h. let w = was size stack states.Ok a c h in popped_ok size stack a c w.0 w.1;
+  nok = λ c stack a h. let w = was size stack states.Nok a c h in popped_nok size stack a c w.0 w.1;
   no_error = λ c stack m h. no_error size c stack m h;
 }
 
 -- The rank
 
-power : (k l : ℕ) → k < l → 4 ^ k * 4 ≤ 4 ^ l
-power k l h =
-    let z : 0 < 4 = omega arith in
-    let p : 4 ^ (k + 1) ≡ 4 ^ k * 4 = rw add-one (pow-suc 4 k) in
-    let q : 4 ^ (k + 1) ≤ 4 ^ l = pow-le-pow_right z (omega arith) in
-    omega arith
+module _ {M : Type 0} (size : ℕ) where
+  record Descends (w : ℕ) (e : Effect M) : Type 0 where
+    lower : brackets_weight size e.config e.state < w
+    fewer : length e.pushed < 2
+    below : AllBelow (brackets_waits size) w (map mark e.pushed)
 
-at_least : (k : ℕ) → k + 1 ≤ 4 ^ k
-at_least zero = omega arith
-at_least (suc k) = let h = at_least k in let p = pow-suc 4 k in omega arith
+  plain_descends : (w : ℕ) (d : Config M) (s : State) → brackets_weight size d s < w → Descends w (plain d s)
+  plain_descends w d s h = record { lower = h; fewer = omega arith; below = tt }
 
-rises : (k l : ℕ) → k ≤ l → 4 ^ k ≤ 4 ^ l
-rises k l h = let z : 0 < 4 = omega arith in pow-le-pow_right z h
+  tries_descends : (w : ℕ) (ok nok : State) (d : Config M) (s : State) → brackets_weight size d s < w → 4 * remaining size d.point + 1 < w → Descends w (tries ok nok d s)
+  tries_descends w ok nok d s h k = record { lower = h; fewer = omega arith; below = (k, tt) }
 
-cost_rises : (p : Part) (k l : ℕ) → k ≤ l → cost p k ≤ cost p l
-cost_rises Items k l h = let q = rises k l h in omega arith
-cost_rises Group k l h = let q = rises k l h in omega arith
-cost_rises Close k l h = omega arith
-cost_rises Rest k l h = omega arith
+  module _ (c : Config M) (ahead : IsAhead size c) where
+    items_descends : (b : Option ℕ) → c.current ≡ b → let w = 4 * remaining size c.point + 3 in Descends w (items b c)
+    unfolding items part
+    items_descends None e = plain_descends _ c states.Ok (omega arith)
+    items_descends (Some b) e =
+        let less = ahead b e in
+        let w = 4 * remaining size c.point + 3 in
+        by_test (Descends w) (b == 40) (tries (states.Next items_state) (states.Next rest_state) c (states.Retry group_state)) (if b == 41 then plain c states.Ok else plain (consumed c) (states.Next items_state))
+        (tries_descends w (states.Next items_state) (states.Next rest_state) c (states.Retry group_state) (omega arith) (omega arith))
+        (by_test (Descends w) (b == 41) (plain c states.Ok) (plain (consumed c) (states.Next items_state)) (plain_descends w c states.Ok (omega arith)) (plain_descends w (consumed c) (states.Next items_state) (omega arith)))
 
-wait_one : (size : ℕ) (stack : List Attempt) (a : Attempt) → all_wait size (reverse (stack ++ a ∷ [])) ≡ waits a.ok (remaining size a.point) + all_wait size (reverse stack)
-wait_one size stack a = ap (all_wait size) (one_more stack a)
+    rest_descends : (b : Option ℕ) → c.current ≡ b → let w = 4 * remaining size c.point + 1 in Descends w (rest b c)
+    unfolding rest part
+    rest_descends None e = plain_descends _ c states.Ok (omega arith)
+    rest_descends (Some b) e = let less = ahead b e in plain_descends _ (consumed c) (states.Next rest_state) (omega arith)
 
-module _ {M : Type 0} (size : ℕ) (stack : List Attempt) where
-  Lower : ℕ → Effect M → Type 0
-  Lower k e = now e.state (remaining size e.config.point) + all_wait size (reverse (stack ++ map mark e.pushed)) < k + all_wait size (reverse stack)
+    group_descends : (b : Option ℕ) → c.current ≡ b → let w = 4 * remaining size c.point + 2 in Descends w (group b c)
+    unfolding group part
+    group_descends None e = plain_descends _ c states.Nok (omega arith)
+    group_descends (Some b) e =
+        let less = ahead b e in
+        let w = 4 * remaining size c.point + 2 in
+        let d = consumed (entered names.Label None c) in
+        by_test (Descends w) (b == 40) (tries (states.Next close_state) states.Nok d (states.Next items_state)) (plain c states.Nok)
+        (tries_descends w (states.Next close_state) states.Nok d (states.Next items_state) (omega arith) (omega arith))
+        (plain_descends w c states.Nok (omega arith))
 
-  plain_lower : (k : ℕ) (d : Config M) (s : State) → now s (remaining size d.point) < k → Lower k (plain d s)
-  unfolding Lower
-  plain_lower k d s h = rw (no_more stack) (omega arith)
+    close_descends : (b : Option ℕ) → let w = 4 * remaining size c.point + 1 in Descends w (close b c)
+    unfolding close
+    close_descends None = plain_descends _ c states.Nok (omega arith)
+    close_descends (Some b) =
+        let w = 4 * remaining size c.point + 1 in
+        let d = exited names.Label (consumed c) in
+        by_test (Descends w) (b == 41) (plain d states.Ok) (plain c states.Nok) (plain_descends w d states.Ok (omega arith)) (plain_descends w c states.Nok (omega arith))
 
-  tries_lower : (k : ℕ) (ok nok : State) (d : Config M) (s : State) → now s (remaining size d.point) + waits ok (remaining size d.point) < k → Lower k (tries ok nok d s)
-  unfolding Lower
-  tries_lower k ok nok d s h = let f : Frame M = record { check = false; ok = ok; nok = nok; start = d } in rw (one_more stack (mark f)) (omega arith)
+    part_descends : (p : Part) → Descends (4 * remaining size c.point + height p) (step_of p c)
+    part_descends Items = items_descends c.current refl
+    part_descends Group = group_descends c.current refl
+    part_descends Close = close_descends c.current
+    part_descends Rest = rest_descends c.current refl
 
-  items_lower : (b : Option ℕ) (c : Config M) → c.current ≡ b → IsAhead size c → Lower (cost Items (remaining size c.point)) (items b c)
-  unfolding items part
-  items_lower None c e ahead = let q = at_least (remaining size c.point) in plain_lower (cost Items (remaining size c.point)) c states.Ok (omega arith)
-  items_lower (Some b) c e ahead =
-      let l = remaining size c.point in
-      let k = remaining size c.next in
-      let less : k < l = ahead b e in
-      let p = power k l less in
-      let q = at_least l in
-      let r = at_least k in
-      by_test (Lower (cost Items l)) (b == 40) (tries (states.Next items_state) (states.Next rest_state) c (states.Retry group_state)) (if b == 41 then plain c states.Ok else plain (consumed c) (states.Next items_state))
-      (tries_lower (cost Items l) (states.Next items_state) (states.Next rest_state) c (states.Retry group_state) (omega arith))
-      (by_test (Lower (cost Items l)) (b == 41) (plain c states.Ok) (plain (consumed c) (states.Next items_state)) (plain_lower (cost Items l) c states.Ok (omega arith)) (plain_lower (cost Items l) (consumed c) (states.Next items_state) (omega arith)))
+  call_descends : (c : Config M) (stack : List Attempt) (n : Name) → brackets_valid size c stack (states.Retry n) → Descends (brackets_weight size c (states.Retry n)) (brackets_step c n)
+  unfolding brackets_step brackets_valid
+  call_descends c stack n h = part_descends c h.0.1 (part n)
 
-  rest_lower : (b : Option ℕ) (c : Config M) → c.current ≡ b → IsAhead size c → Lower (cost Rest (remaining size c.point)) (rest b c)
-  unfolding rest part
-  rest_lower None c e ahead = plain_lower (cost Rest (remaining size c.point)) c states.Ok (omega arith)
-  rest_lower (Some b) c e ahead = let less = ahead b e in plain_lower (cost Rest (remaining size c.point)) (consumed c) (states.Next rest_state) (omega arith)
+  ok_descends : (a : Attempt) (c : Config M) (stack : List Attempt) → Stands size states.Ok (a ∷ stack) c → brackets_weight size (resumed a c true) a.ok ≤ brackets_waits size a
+  unfolding part
+  ok_descends a c stack (inl l) = let low = l.1 in rw l.0.check (rw l.0.ok (omega arith))
+  ok_descends a c stack (inr l) = let low = l.1 in rw l.0.check (rw l.0.ok (omega arith))
 
-  group_lower : (b : Option ℕ) (c : Config M) → c.current ≡ b → IsAhead size c → Lower (cost Group (remaining size c.point)) (group b c)
-  unfolding group part
-  group_lower None c e ahead = plain_lower (cost Group (remaining size c.point)) c states.Nok (omega arith)
-  group_lower (Some b) c e ahead =
-      let l = remaining size c.point in
-      let less = ahead b e in
-      let p = power (remaining size c.next) l less in
-      let d = consumed (entered names.Label None c) in
-      by_test (Lower (cost Group l)) (b == 40) (tries (states.Next close_state) states.Nok d (states.Next items_state)) (plain c states.Nok)
-      (tries_lower (cost Group l) (states.Next close_state) states.Nok d (states.Next items_state) (omega arith))
-      (plain_lower (cost Group l) c states.Nok (omega arith))
+  nok_descends : (a : Attempt) (c : Config M) (stack : List Attempt) → Stands size states.Nok (a ∷ stack) c → brackets_weight size (resumed a c false) a.nok ≤ brackets_waits size a
+  unfolding part
+  nok_descends a c stack l = rw l.0.nok (omega arith)
 
-  close_lower : (b : Option ℕ) (c : Config M) → Lower (cost Close (remaining size c.point)) (close b c)
-  unfolding close
-  close_lower None c = plain_lower (cost Close (remaining size c.point)) c states.Nok (omega arith)
-  close_lower (Some b) c =
-      let d = exited names.Label (consumed c) in
-      by_test (Lower (cost Close (remaining size c.point))) (b == 41) (plain d states.Ok) (plain c states.Nok) (plain_lower (cost Close (remaining size c.point)) d states.Ok (omega arith)) (plain_lower (cost Close (remaining size c.point)) c states.Nok (omega arith))
+  brackets_descend : DescendsAt size (brackets_valid {M = M} size) brackets_step 2 (brackets_weight size) (brackets_waits size)
+  brackets_descend = record {
+    fed = λ c stack n p v h fed. let low = fed.forward in omega arith;
+    called = λ c stack n h. (call_descends c stack n h).lower;
+    fewer = λ c stack n h. (call_descends c stack n h).fewer;
+    pushed = λ c stack n h. (call_descends c stack n h).below;
+    ok = λ c stack a h. ok_descends a c (reverse stack) (was size stack states.Ok a c h).0;
+    nok = λ c stack a h. nok_descends a c (reverse stack) (was size stack states.Nok a c h).0;
+  }
 
-  part_lower : (p : Part) (c : Config M) → IsAhead size c → Lower (cost p (remaining size c.point)) (step_of p c)
-  part_lower Items c ahead = items_lower c.current c refl ahead
-  part_lower Group c ahead = group_lower c.current c refl ahead
-  part_lower Close c ahead = close_lower c.current c
-  part_lower Rest c ahead = rest_lower c.current c refl ahead
+  brackets_fell : FallsAt size (brackets_valid {M = M} size) brackets_step (brackets_rank size)
+  brackets_fell = descends size (brackets_valid size) brackets_step 2 (brackets_weight size) (brackets_waits size) brackets_descend
 
-  called_lower : (c : Config M) (n : Name) → brackets_valid size c stack (states.Retry n) → (let e = brackets_step c n in brackets_rank size e.config (stack ++ map mark e.pushed) e.state < brackets_rank size c stack (states.Retry n))
-  unfolding brackets_step brackets_rank brackets_valid Lower
-  called_lower c n h = part_lower (part n) c h.1
+-- Order
 
-  fed_lower : (c : Config M) (n : Name) (p : Point) (v : Option VirtualByte) → IsFed size c.point p v → brackets_rank size (handed c p v) stack (states.Retry n) ≤ brackets_rank size c stack (states.Next n)
-  unfolding brackets_rank
-  fed_lower c n p v fed = let q = cost_rises (part n) (remaining size p) (remaining size c.point) fed.forward in omega arith
+module _ {M : Type 0} (size : ℕ) where
+  brackets_tidied : TidiesAt (brackets_valid {M = M} size)
+  unfolding brackets_valid
+  brackets_tidied c stack s h = h.1.tidy
 
-  ok_lower : (a : Attempt) (c : Config M) → Stands size states.Ok (a ∷ reverse stack) c → brackets_rank size (resumed a c true) stack a.ok < brackets_rank size c (stack ++ a ∷ []) states.Ok
-  unfolding brackets_rank part
-  ok_lower a c (inl l) = rw (wait_one size stack a) (rw l.0.check (rw l.0.ok (omega arith)))
-  ok_lower a c (inr l) =
-      let below = l.1 in
-      let p = power (remaining size c.point) (remaining size a.point) (omega arith) in
-      rw (wait_one size stack a) (rw l.0.check (rw l.0.ok (omega arith)))
+  brackets_closed : ClosesAt (brackets_valid {M = M} size)
+  unfolding brackets_valid
+  brackets_closed c true h = h.1.open_names
+  brackets_closed c false h = absurd h.0
 
-  nok_lower : (a : Attempt) (c : Config M) → Stands size states.Nok (a ∷ reverse stack) c → brackets_rank size (resumed a c false) stack a.nok < brackets_rank size c (stack ++ a ∷ []) states.Nok
-  unfolding brackets_rank part
-  nok_lower a c l = rw (wait_one size stack a) (rw l.0.nok (rw l.0.ok (omega arith)))
+  goes_well : (c : Config M) → brackets_valid size c [] states.Nok → ⊥
+  unfolding brackets_valid
+  goes_well c h = h.0
 
-pub brackets_falls : {M : Type 0} → Falls (brackets_valid {M = M}) brackets_step brackets_rank
-brackets_falls {M = M} size = record {
-  fed = λ c stack n p v h fed. fed_lower size stack c n p v fed;
-  called = λ c stack n h. called_lower size stack c n h;
-  ok = λ c stack a h. ok_lower size stack a c (was size stack states.Ok a c h);
-  nok = λ c stack a h. nok_lower size stack a c (was size stack states.Nok a c h);
-}
+-- where a group's end is read its label is the innermost
+pub close_innermost : {M : Type 0} (size : ℕ) (c : Config M) (stack : List Attempt) (n : Name) → n ≡ close_state → brackets_valid size c stack (states.Retry n) → IsInnermost names.Label c.events
+unfolding brackets_valid part
+close_innermost size c stack n e h = (labels (reverse stack), subst (λ (z : Name). opened [] c.events ≡ labels_at (part z) (reverse stack)) e h.1.open_names.0)
+
+-- No resolver is registered
+
+module _ {M : Type 0} where
+  LeavesAt : Config M → Effect M → Type 0
+  LeavesAt c e = (e.config.map ≡ c.map) × (e.config.resolvers ≡ c.resolvers)
+
+  items_leaves : (b : Option ℕ) (c : Config M) → LeavesAt c (items b c)
+  unfolding items LeavesAt
+  items_leaves None c = (refl, refl)
+  items_leaves (Some b) c = by_test (LeavesAt c) (b == 40) (tries (states.Next items_state) (states.Next rest_state) c (states.Retry group_state)) (if b == 41 then plain c states.Ok else plain (consumed c) (states.Next items_state))
+      (refl, refl) (by_test (LeavesAt c) (b == 41) (plain c states.Ok) (plain (consumed c) (states.Next items_state)) (refl, refl) (refl, refl))
+
+  rest_leaves : (b : Option ℕ) (c : Config M) → LeavesAt c (rest b c)
+  unfolding rest LeavesAt
+  rest_leaves None c = (refl, refl)
+  rest_leaves (Some b) c = (refl, refl)
+
+  group_leaves : (b : Option ℕ) (c : Config M) → LeavesAt c (group b c)
+  unfolding group LeavesAt
+  group_leaves None c = (refl, refl)
+  group_leaves (Some b) c = by_test (LeavesAt c) (b == 40) (tries (states.Next close_state) states.Nok (consumed (entered names.Label None c)) (states.Next items_state)) (plain c states.Nok) (refl, refl) (refl, refl)
+
+  close_leaves : (b : Option ℕ) (c : Config M) → LeavesAt c (close b c)
+  unfolding close LeavesAt
+  close_leaves None c = (refl, refl)
+  close_leaves (Some b) c = by_test (LeavesAt c) (b == 41) (plain (exited names.Label (consumed c)) states.Ok) (plain c states.Nok) (refl, refl) (refl, refl)
+
+  part_leaves : (p : Part) (c : Config M) → LeavesAt c (step_of p c)
+  part_leaves Items c = items_leaves c.current c
+  part_leaves Group c = group_leaves c.current c
+  part_leaves Close c = close_leaves c.current c
+  part_leaves Rest c = rest_leaves c.current c
+
+  brackets_leaves : Leaves (brackets_step {M = M})
+  unfolding brackets_step LeavesAt
+  brackets_leaves c n = part_leaves (part n) c
+
+module _ {M : Type 0} (size : ℕ) where
+  pub brackets_keeps : KeepsAt size (Unresolved (brackets_valid {M = M} size)) brackets_step
+  brackets_keeps = keeps_unresolved size (brackets_valid size) brackets_step brackets_leaves (brackets_held size)
+
+  pub brackets_falls : FallsAt size (Unresolved (brackets_valid {M = M} size)) brackets_step (brackets_rank size)
+  brackets_falls = falls_unresolved size (brackets_valid size) brackets_step (brackets_rank size) (brackets_fell size)
+
+  pub brackets_tidy : TidiesAt (Unresolved (brackets_valid {M = M} size))
+  brackets_tidy = tidies_unresolved (brackets_valid size) (brackets_tidied size)
+
+  pub brackets_closes : ClosesAt (Unresolved (brackets_valid {M = M} size))
+  brackets_closes = closes_unresolved (brackets_valid size) (brackets_closed size)
+
+  pub brackets_resolves : ResolvesAt (Unresolved (brackets_valid {M = M} size)) resolves_nothing settles_whole
+  brackets_resolves = resolves_unresolved (brackets_valid size) (goes_well size) (brackets_tidied size) (brackets_closed size)
+
+-- whatever a chain's content is, it may be read from anywhere
+pub begins_with : (size : ℕ) (machine : Brackets) (p : Point) (content : Content) → Unresolved (brackets_valid size) (fresh p machine) [] (states.Next (first_state content))
+unfolding brackets_valid part
+begins_with size machine p contents.Flow = ((tt, record { tidy = fresh_tidy p machine; marks = tt; open_names = refl }), (refl, refl))
+begins_with size machine p contents.Content = ((tt, record { tidy = fresh_tidy p machine; marks = tt; open_names = refl }), (refl, refl))
+begins_with size machine p contents.String = ((tt, record { tidy = fresh_tidy p machine; marks = tt; open_names = refl }), (refl, refl))
+begins_with size machine p contents.Text = ((tt, record { tidy = fresh_tidy p machine; marks = tt; open_names = refl }), (refl, refl))

@@ -20,13 +20,16 @@ count_at (Some b) c n = let d : Config Count = consumed c in plain (record d { m
 unfoldable pub count_step : Steps Count
 count_step c n = count_at c.current c n
 
--- no attempt is made
+-- no attempt is made, and no event added
+abbrev pub AddsNone : Config Count → List Attempt → Type 0
+AddsNone c stack = (stack ≡ []) × (c.events ≡ [])
+
 abbrev pub counts : Config Count → List Attempt → State → Type 0
 counts c stack (states.Error m) = ⊥
-counts c stack (states.Next n) = stack ≡ []
-counts c stack (states.Retry n) = stack ≡ []
-counts c stack states.Ok = stack ≡ []
-counts c stack states.Nok = stack ≡ []
+counts c stack (states.Next n) = AddsNone c stack
+counts c stack (states.Retry n) = AddsNone c stack
+counts c stack states.Ok = AddsNone c stack
+counts c stack states.Nok = ⊥
 
 -- twice what is left, and the call at hand
 abbrev pub left_at : ℕ → Option ℕ → Config Count → ℕ

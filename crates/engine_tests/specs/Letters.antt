@@ -8,6 +8,7 @@ use Rattle.markdown_engine.specs.declared.attempt.Attempt.{Attempt}
 use Rattle.markdown_engine.specs.Reading.{Config, Effect, Steps}
 use Rattle.markdown_engine.specs.Machine.{consumed, entered, exited, plain}
 use Rattle.markdown_engine.specs.Laws.{remaining}
+use Rattle.markdown_engine.specs.Order.{IsTidy, LeadsOn, opened}
 use Rattle.engine_tests.specs.declared.letters.Letters.{Letters}
 
 abbrev pub letter_at : Option ℕ → Config Letters → Name → Effect Letters
@@ -17,13 +18,18 @@ letter_at (Some b) c n = plain (exited Data (consumed (entered Data None c))) (s
 unfoldable pub letter_step : Steps Letters
 letter_step c n = letter_at c.current c n
 
--- no attempt is made
+-- no attempt is made, and nothing is open between letters
+pub record IsBetween (c : Config Letters) (stack : List Attempt) : Type 0 where
+  pub none : stack ≡ []
+  pub tidy : IsTidy c
+  pub closed : opened [] c.events ≡ []
+
 abbrev pub reads_letters : Config Letters → List Attempt → State → Type 0
 reads_letters c stack (states.Error m) = ⊥
-reads_letters c stack (states.Next n) = stack ≡ []
-reads_letters c stack (states.Retry n) = stack ≡ []
-reads_letters c stack states.Ok = stack ≡ []
-reads_letters c stack states.Nok = stack ≡ []
+reads_letters c stack (states.Next n) = IsBetween c stack
+reads_letters c stack (states.Retry n) = IsBetween c stack × LeadsOn c
+reads_letters c stack states.Ok = IsBetween c stack
+reads_letters c stack states.Nok = ⊥
 
 -- twice what is left, and the call at hand
 abbrev pub left_at : ℕ → Option ℕ → Config Letters → ℕ

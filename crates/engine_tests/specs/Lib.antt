@@ -3,5 +3,10 @@ pub mod CountingLaws
 pub mod Letters
 pub mod LettersLaws
 pub mod Brackets
+pub mod BracketsOrderLaws
 pub mod BracketsLaws
 pub mod Bracketed
+pub mod Pairs
+pub mod PairsLaws
+pub mod Wrapped
+pub mod WrappedLaws

@@ -2,27 +2,26 @@
 //!
 //! Where a group doesn't end, all from its bracket on is data. A group is attempted, and in it its
 //! items are, so that its end is looked for after them.
-ghost use Rattle.std.specs.Prelude.{◌≡◌, ◌<◌, IfOk, IfErr, length};
+ghost use Rattle.std.specs.Prelude.{◌≡◌, ◌<◌, IfOk, IfErr, MatchOption, length};
+ghost use Rattle.std.specs.Option.{option_copied};
 ghost use Rattle.markdown_options.specs.Messages.{IsOutOfMemory};
-ghost use Rattle.markdown_engine.specs.Machine.{Answers, config};
+ghost use Rattle.markdown_engine.specs.Machine.{Answers, AreCuts, config};
+ghost use Rattle.engine_events.specs.declared.event.Name.TheVariants as names;
+ghost use Rattle.markdown_engine.specs.Chains.{Subtokenized};
+ghost use Rattle.markdown_engine.specs.Order.{IsInnermost, IsBalanced, AreInOrder};
 ghost use Rattle.engine_tests.specs.Brackets.{items, rest, group, close, part, Part, Items, Group, Close, Rest, brackets_step, brackets_valid, brackets_rank};
+ghost use Rattle.markdown_engine.specs.Resolving.{Unresolved, found_in, resolves_nothing, settles_whole};
 ghost use Rattle.engine_tests.specs.Bracketed.{Bracketed};
-ghost use Rattle.engine_tests.specs.BracketsLaws.{brackets_adds, brackets_keeps, brackets_falls};
+ghost use Rattle.engine_tests.specs.BracketsLaws.{brackets_adds, brackets_keeps, brackets_falls, brackets_tidy, brackets_closes, brackets_resolves};
 
-use markdown_engine::Message;
-use markdown_engine::event::{Event, Name as EventName};
-use markdown_engine::place::Point;
+use markdown_engine::event::{Content, Event, Name as EventName};
+use markdown_engine::place::START;
 use markdown_engine::state::{Inline, Name, State};
+use markdown_engine::subresult::Subresult;
 use markdown_engine::tokenizer::{Machine, Tokenizer};
+use markdown_engine::{Message, ParseState, are_apart, are_places, resolve, subtokenize};
+use markdown_options::Tables;
 use std::alloc::Allocator;
-
-/// Where a text starts.
-const START: Point = Point {
-    line: 1,
-    column: 1,
-    index: 0,
-    vs: 0,
-};
 
 const ITEMS: State = State::Next(Name::Inline(Inline::TextStart));
 
@@ -34,14 +33,14 @@ const REST: State = State::Next(Name::Inline(Inline::DataInside));
 
 /// Reads items: at a bracket attempts a group.
 #[tactic(auto, unfolding(crate::specs::Brackets::items))]
-fn items<M, A: Allocator>(tokenizer: &mut Tokenizer<'_, M, A>) -> State
+fn items<M, T, A: Allocator>(tokenizer: &mut Tokenizer<'_, M, T, A>) -> State
     ensures { Answers (items tokenizer.old.current (config tokenizer.old)) tokenizer.old tokenizer.new result }
 {
     match tokenizer.current {
         None | Some(b')') => State::Ok,
         Some(b'(') => match tokenizer.attempt(ITEMS, REST) {
             Ok(()) => GROUP,
-            Err(message) => State::Error(message),
+            Err(_) => State::out_of_memory(),
         },
         Some(_) => {
             tokenizer.consume();
@@ -52,7 +51,7 @@ fn items<M, A: Allocator>(tokenizer: &mut Tokenizer<'_, M, A>) -> State
 
 /// Reads data, to the end.
 #[tactic(auto, unfolding(crate::specs::Brackets::rest))]
-fn rest<M, A: Allocator>(tokenizer: &mut Tokenizer<'_, M, A>) -> State
+fn rest<M, T, A: Allocator>(tokenizer: &mut Tokenizer<'_, M, T, A>) -> State
     ensures { Answers (rest tokenizer.old.current (config tokenizer.old)) tokenizer.old tokenizer.new result }
 {
     if tokenizer.current.is_none() {
@@ -64,25 +63,26 @@ fn rest<M, A: Allocator>(tokenizer: &mut Tokenizer<'_, M, A>) -> State
 
 /// Reads a group's bracket, and attempts its items.
 #[tactic(auto, unfolding(crate::specs::Brackets::group))]
-fn group<M, A: Allocator>(tokenizer: &mut Tokenizer<'_, M, A>) -> State
+fn group<M, T, A: Allocator>(tokenizer: &mut Tokenizer<'_, M, T, A>) -> State
     ensures { Answers (group tokenizer.old.current (config tokenizer.old)) tokenizer.old tokenizer.new result }
 {
     if tokenizer.current != Some(b'(') {
         return State::Nok;
     }
-    if let Err(message) = tokenizer.enter(EventName::Label) {
-        return State::Error(message);
+    if tokenizer.enter(EventName::Label).is_err() {
+        return State::out_of_memory();
     }
     tokenizer.consume();
     match tokenizer.attempt(CLOSE, State::Nok) {
         Ok(()) => ITEMS,
-        Err(message) => State::Error(message),
+        Err(_) => State::out_of_memory(),
     }
 }
 
 /// Reads a group's end.
 #[tactic(auto, unfolding(crate::specs::Brackets::close))]
-fn close<M, A: Allocator>(tokenizer: &mut Tokenizer<'_, M, A>) -> State
+fn close<M, T, A: Allocator>(tokenizer: &mut Tokenizer<'_, M, T, A>) -> State
+    requires { IsInnermost names.Label tokenizer.old.events.items }
     ensures { Answers (close tokenizer.old.current (config tokenizer.old)) tokenizer.old tokenizer.new result }
 {
     if tokenizer.current != Some(b')') {
@@ -91,7 +91,7 @@ fn close<M, A: Allocator>(tokenizer: &mut Tokenizer<'_, M, A>) -> State
     tokenizer.consume();
     match tokenizer.exit(EventName::Label) {
         Ok(()) => State::Ok,
-        Err(message) => State::Error(message),
+        Err(_) => State::out_of_memory(),
     }
 }
 
@@ -99,15 +99,19 @@ fn close<M, A: Allocator>(tokenizer: &mut Tokenizer<'_, M, A>) -> State
 #[derive(Clone, Copy, Debug, PartialEq, Eq)]
 pub struct Brackets;
 
-impl Machine for Brackets {
-    ghost step = { brackets_step };
+impl<T: Tables> Machine<T> for Brackets {
+    ghost step = { λ x. brackets_step };
 
-    ghost valid = { brackets_valid };
+    ghost valid = { λ x. Unresolved (brackets_valid (length x.bytes)) };
 
-    ghost rank = { brackets_rank };
+    ghost rank = { λ x. brackets_rank (length x.bytes) };
+
+    ghost resolved = { λ x. resolves_nothing };
+
+    ghost settled = { λ x. settles_whole };
 
     #[tactic(auto, unfolding(crate::specs::Brackets::brackets_step, crate::specs::Brackets::part))]
-    fn call<'a, A: Allocator>(tokenizer: &mut Tokenizer<'a, Self, A>, name: Name) -> State {
+    fn call<'a, A: Allocator>(tokenizer: &mut Tokenizer<'a, Self, T, A>, name: Name) -> State {
         match name {
             Name::Inline(Inline::TextStart) => items(tokenizer),
             Name::Inline(Inline::LabelStart) => group(tokenizer),
@@ -116,61 +120,99 @@ impl Machine for Brackets {
         }
     }
 
-    ghost only_adds = { brackets_adds };
+    #[tactic(auto)]
+    fn resolve<'a, A: Allocator + Clone>(
+        tokenizer: &mut Tokenizer<'a, Self, T, A>,
+        _name: resolve::Name,
+    ) -> Result<Option<Subresult<A>>, Message> {
+        Ok(None)
+    }
 
-    ghost keeps = { brackets_keeps };
+    ghost only_adds = { λ x. brackets_adds };
 
-    ghost falls = { brackets_falls };
+    ghost keeps = { λ x. brackets_keeps (length x.bytes) };
+
+    ghost falls = { λ x. brackets_falls (length x.bytes) };
+
+    ghost resolving = { λ x. brackets_resolves (length x.bytes) };
+
+    ghost tidy = { λ x. brackets_tidy (length x.bytes) };
+
+    ghost closes = { λ x. brackets_closes (length x.bytes) };
 }
 
 /// The events of a text of brackets, read at once.
 #[tactic(auto, unfolding(crate::specs::Brackets::brackets_valid, crate::specs::Brackets::part))]
-pub fn read_whole<A: Allocator + Clone>(
+pub fn read_whole<T: Tables, A: Allocator + Clone>(
     alloc: A,
-    bytes: &[u8],
+    parse_state: &ParseState<'_, T, A>,
     machine: Brackets,
 ) -> Result<Vec<Event, A>, Message>
-    ensures reads { IfOk result (λ events. Bracketed bytes.now machine events.items) }
+    ensures reads { IfOk result (λ events. Bracketed parse_state.now.bytes.now machine events.items) }
+    ensures balanced { IfOk result (λ events. IsBalanced events.items) }
+    ensures order { IfOk result (λ events. AreInOrder events.items) }
     ensures memory { IfErr result (λ message. IsOutOfMemory message) }
 {
-    let mut tokenizer = Tokenizer::new(alloc, bytes, START, machine)?;
+    let mut tokenizer = Tokenizer::new(alloc, START, parse_state, machine)?;
     match tokenizer.whole(ITEMS) {
-        State::Error(message) => Err(message),
+        State::Error(message) => Err(*message),
         _ => Ok(tokenizer.events),
     }
 }
 
-/// The same, read in two ranges: cut anywhere, inside of a tab or a line ending, too.
+/// The same, read in ranges: cut anywhere, inside of a tab or a line ending, too.
 #[tactic(auto, unfolding(crate::specs::Brackets::brackets_valid, crate::specs::Brackets::part))]
-pub fn read_in_two<A: Allocator + Clone>(
+pub fn read_in_ranges<T: Tables, A: Allocator + Clone>(
     alloc: A,
-    bytes: &[u8],
+    parse_state: &ParseState<'_, T, A>,
     machine: Brackets,
-    cut: (usize, usize),
+    cuts: &[(usize, usize)],
 ) -> Result<Vec<Event, A>, Message>
-    requires { cut.0 < length bytes.now }
-    ensures reads { IfOk result (λ events. Bracketed bytes.now machine events.items) }
+    requires { AreCuts (0, 0) cuts.now (length parse_state.now.bytes.now) }
+    ensures reads { IfOk result (λ events. Bracketed parse_state.now.bytes.now machine events.items) }
+    ensures balanced { IfOk result (λ events. IsBalanced events.items) }
+    ensures order { IfOk result (λ events. AreInOrder events.items) }
     ensures memory { IfErr result (λ message. IsOutOfMemory message) }
 {
-    let mut tokenizer = Tokenizer::new(alloc, bytes, START, machine)?;
-    match tokenizer.in_two(cut, ITEMS) {
-        State::Error(message) => Err(message),
+    let mut tokenizer = Tokenizer::new(alloc, START, parse_state, machine)?;
+    match tokenizer.in_ranges(cuts, ITEMS) {
+        State::Error(message) => Err(*message),
         _ => Ok(tokenizer.events),
     }
 }
 
-/// The events of a text of brackets, read at once and in two ranges: they are the same.
-pub fn read_both_ways<A: Allocator + Clone>(
+/// The events of a text of brackets, read at once and in ranges: they are the same.
+pub fn read_both_ways<T: Tables, A: Allocator + Clone>(
     alloc: A,
-    bytes: &[u8],
+    parse_state: &ParseState<'_, T, A>,
     machine: Brackets,
-    cut: (usize, usize),
+    cuts: &[(usize, usize)],
 ) -> Result<(Vec<Event, A>, Vec<Event, A>), Message>
-    requires { cut.0 < length bytes.now }
+    requires { AreCuts (0, 0) cuts.now (length parse_state.now.bytes.now) }
     ensures same { IfOk result (λ both. both.0.items ≡ both.1.items) }
     ensures memory { IfErr result (λ message. IsOutOfMemory message) }
 {
-    let whole = read_whole(alloc.clone()?, bytes, machine)?;
-    let parts = read_in_two(alloc, bytes, machine, cut)?;
+    let whole = read_whole(alloc.clone()?, parse_state, machine)?;
+    let parts = read_in_ranges(alloc, parse_state, machine, cuts)?;
     Ok((whole, parts))
+}
+
+/// Reads the groups of the chains that are asked for, and puts their events in place of the chunks.
+///
+/// Answers none, and leaves the events, where they aren't such that their chains can be read.
+pub fn read_groups<T: Tables, A: Allocator + Clone>(
+    events: &mut Vec<Event, A>,
+    parse_state: &ParseState<'_, T, A>,
+    machine: Brackets,
+    filter: Option<&Content>,
+) -> Result<Option<Subresult<A>>, Message>
+    ensures read { IfOk result (λ found. MatchOption found (events.new.items ≡ events.old.items)
+        (λ result. Subtokenized brackets_step resolves_nothing parse_state.now.bytes.now machine (option_copied filter.entry) events.old.items events.new.items (found_in result))) }
+    ensures memory { IfErr result (λ message. IsOutOfMemory message) }
+{
+    let alloc = events.allocator().clone()?;
+    if !are_places(parse_state.bytes, events) || !are_apart(&alloc, events, filter)? {
+        return Ok(None);
+    }
+    Ok(Some(subtokenize(events, parse_state, machine, filter)?))
 }

@@ -1,27 +1,24 @@
-use crate::brackets::{Brackets, read_both_ways, read_whole};
+use crate::brackets::{Brackets, read_both_ways, read_groups, read_whole};
 use crate::count::Count;
 use crate::letters::{Letters, read_letters};
+use crate::tables::Ascii;
 use markdown_engine::event::{Content, Event, Kind, Link, Name as EventName};
-use markdown_engine::place::Point;
-use markdown_engine::resolve;
+use markdown_engine::place::{Point, START};
 use markdown_engine::state::{Inline, Name, State};
 use markdown_engine::tokenizer::Tokenizer;
+use markdown_engine::{Message, ParseOptions, ParseState, resolve};
 use std::test::Fail;
-
-const START: Point = Point {
-    line: 1,
-    column: 1,
-    index: 0,
-    vs: 0,
-};
 
 const DATA: State = State::Next(Name::Inline(Inline::DataInside));
 
 #[test]
 fn a_tab_is_read_column_by_column(rt: HostRuntime) -> Result<(), Fail> {
-    let mut tokenizer = Tokenizer::new(rt.alloc(), b"a\tb", START, Count { calls: 0 })?;
-    let state = tokenizer.whole(DATA);
-    assert_eq!(rt; state, State::Ok);
+    let options = ParseOptions::default();
+    let text = ParseState::new(rt.alloc(), b"a\tb", &options, &Ascii)?;
+    let mut tokenizer = Tokenizer::new(rt.alloc(), START, &text, Count { calls: 0 })?;
+    let state = tokenizer.push((0, 0), (3, 0), DATA);
+    assert_eq!(rt; tokenizer.machine.calls, 5);
+    assert!(rt; !tokenizer.flush(state, true)?.done);
     assert_eq!(rt; tokenizer.machine.calls, 5);
     assert_eq!(rt; tokenizer.point.column, 6);
     Ok(())
@@ -29,7 +26,9 @@ fn a_tab_is_read_column_by_column(rt: HostRuntime) -> Result<(), Fail> {
 
 #[test]
 fn a_line_is_read_after_its_skip(rt: HostRuntime) -> Result<(), Fail> {
-    let mut tokenizer = Tokenizer::new(rt.alloc(), b"a\n> b", START, Count { calls: 0 })?;
+    let options = ParseOptions::default();
+    let text = ParseState::new(rt.alloc(), b"a\n> b", &options, &Ascii)?;
+    let mut tokenizer = Tokenizer::new(rt.alloc(), START, &text, Count { calls: 0 })?;
     let second = Point {
         line: 2,
         column: 3,
@@ -46,10 +45,12 @@ fn a_line_is_read_after_its_skip(rt: HostRuntime) -> Result<(), Fail> {
 
 #[test]
 fn a_gap_in_a_line_is_not_read(rt: HostRuntime) -> Result<(), Fail> {
-    let mut tokenizer = Tokenizer::new(rt.alloc(), b"ab\tcd", START, Count { calls: 0 })?;
+    let options = ParseOptions::default();
+    let text = ParseState::new(rt.alloc(), b"ab\tcd", &options, &Ascii)?;
+    let mut tokenizer = Tokenizer::new(rt.alloc(), START, &text, Count { calls: 0 })?;
     let first = tokenizer.push((0, 0), (1, 0), DATA);
     let state = tokenizer.push((2, 1), (5, 0), first);
-    assert_eq!(rt; tokenizer.flush((5, 0), state), State::Ok);
+    tokenizer.flush(state, false)?;
     assert_eq!(rt; tokenizer.machine.calls, 4);
     Ok(())
 }
@@ -76,8 +77,10 @@ fn linked(event: Event, previous: Option<usize>, next: Option<usize>) -> Event {
     event
 }
 
+pub const QUOTED: &[u8] = b"> ab\n> cd";
+
 /// The events of `> ab` and `> cd`: a chunk, the mark of a container, and another chunk.
-fn quoted() -> [Event; 6] {
+pub fn quoted() -> [Event; 6] {
     [
         linked(at(Kind::Enter, EventName::Data, 1, 3, 2), None, Some(4)),
         at(Kind::Exit, EventName::Data, 2, 1, 5),
@@ -90,8 +93,10 @@ fn quoted() -> [Event; 6] {
 
 #[test]
 fn a_chain_is_read_without_marks(rt: HostRuntime) -> Result<(), Fail> {
+    let options = ParseOptions::default();
+    let text = ParseState::new(rt.alloc(), QUOTED, &options, &Ascii)?;
     let mut events = quoted().to_vec(rt.alloc())?;
-    let found = read_letters(&mut events, b"> ab\n> cd", Letters, None)?;
+    let found = read_letters(&mut events, &text, Letters, None)?;
     assert!(rt; !found.ok_or("the chains fit")?.done);
     let indices = [2, 3, 3, 4, 4, 5, 5, 7, 7, 8, 8, 9];
     assert_eq!(rt; events.len(), 12);
@@ -108,8 +113,10 @@ fn a_chain_is_read_without_marks(rt: HostRuntime) -> Result<(), Fail> {
 
 #[test]
 fn chains_of_other_contents_stay(rt: HostRuntime) -> Result<(), Fail> {
+    let options = ParseOptions::default();
+    let text = ParseState::new(rt.alloc(), QUOTED, &options, &Ascii)?;
     let mut events = quoted().to_vec(rt.alloc())?;
-    let found = read_letters(&mut events, b"> ab\n> cd", Letters, Some(&Content::String))?;
+    let found = read_letters(&mut events, &text, Letters, Some(&Content::String))?;
     assert!(rt; found.ok_or("the chains fit")?.done);
     assert_eq!(rt; events.len(), 6);
     Ok(())
@@ -117,16 +124,20 @@ fn chains_of_other_contents_stay(rt: HostRuntime) -> Result<(), Fail> {
 
 #[test]
 fn chunks_that_lie_in_one_another_are_refused(rt: HostRuntime) -> Result<(), Fail> {
+    let options = ParseOptions::default();
+    let text = ParseState::new(rt.alloc(), QUOTED, &options, &Ascii)?;
     let mut events = quoted().to_vec(rt.alloc())?;
     events[4] = linked(events[4], Some(0), Some(0));
-    let found = read_letters(&mut events, b"> ab\n> cd", Letters, None)?;
+    let found = read_letters(&mut events, &text, Letters, None)?;
     assert!(rt; found.is_none());
     Ok(())
 }
 
 /// Where the groups of a text of brackets begin and end.
 fn groups(rt: &HostRuntime, bytes: &[u8]) -> Result<Vec<usize>, Fail> {
-    let events = read_whole(rt.alloc(), bytes, Brackets)?;
+    let options = ParseOptions::default();
+    let text = ParseState::new(rt.alloc(), bytes, &options, &Ascii)?;
+    let events = read_whole(rt.alloc(), &text, Brackets)?;
     let mut places = Vec::new(rt.alloc());
     for event in &events {
         places.push(event.point().index)?;
@@ -154,19 +165,27 @@ fn a_group_without_an_end_is_data(rt: HostRuntime) -> Result<(), Fail> {
 #[test]
 fn a_text_is_read_the_same_cut_anywhere(rt: HostRuntime) -> Result<(), Fail> {
     let bytes = b"(a\t(b)\r\n)(\t";
+    let options = ParseOptions::default();
+    let text = ParseState::new(rt.alloc(), bytes, &options, &Ascii)?;
     for index in 0..bytes.len() {
         for column in 0..4 {
-            let both = read_both_ways(rt.alloc(), bytes, Brackets, (index, column))?;
+            let cuts = [(index, column)];
+            let both = read_both_ways(rt.alloc(), &text, Brackets, &cuts)?;
             assert_eq!(rt; both.0.len(), 4);
             assert!(rt; both.0 == both.1);
         }
     }
+    let cuts = [(2, 0), (2, 1), (2, 2), (4, 0), (7, 0), (7, 0), (9, 0)];
+    let both = read_both_ways(rt.alloc(), &text, Brackets, &cuts)?;
+    assert!(rt; both.0 == both.1);
     Ok(())
 }
 
 #[test]
 fn a_resolver_is_registered_once(rt: HostRuntime) -> Result<(), Fail> {
-    let mut tokenizer = Tokenizer::new(rt.alloc(), b"a", START, Count { calls: 0 })?;
+    let options = ParseOptions::default();
+    let text = ParseState::new(rt.alloc(), b"a", &options, &Ascii)?;
+    let mut tokenizer = Tokenizer::new(rt.alloc(), START, &text, Count { calls: 0 })?;
     tokenizer.register_resolver(resolve::Name::Text)?;
     tokenizer.register_resolver(resolve::Name::Data)?;
     tokenizer.register_resolver_before(resolve::Name::Label)?;
@@ -176,5 +195,64 @@ fn a_resolver_is_registered_once(rt: HostRuntime) -> Result<(), Fail> {
     assert_eq!(rt; tokenizer.resolvers[0], resolve::Name::Label);
     assert_eq!(rt; tokenizer.resolvers[1], resolve::Name::Text);
     assert_eq!(rt; tokenizer.resolvers[2], resolve::Name::Data);
+    Ok(())
+}
+
+#[test]
+fn a_chunk_is_entered_and_left(rt: HostRuntime) -> Result<(), Fail> {
+    let options = ParseOptions::default();
+    let text = ParseState::new(rt.alloc(), b"a", &options, &Ascii)?;
+    let mut tokenizer = Tokenizer::new(rt.alloc(), START, &text, Count { calls: 0 })?;
+    let link = Link {
+        previous: None,
+        next: None,
+        content: Content::Text,
+    };
+    tokenizer.enter_link(EventName::Data, link)?;
+    tokenizer.exit(EventName::Data)?;
+    assert_eq!(rt; tokenizer.events.len(), 2);
+    assert_eq!(rt; tokenizer.events[0].link(), Some(link));
+    assert_eq!(rt; tokenizer.events[1].kind, Kind::Exit);
+    Ok(())
+}
+
+#[test]
+fn a_look_ahead_waits_for_its_end(rt: HostRuntime) -> Result<(), Fail> {
+    let options = ParseOptions::default();
+    let text = ParseState::new(rt.alloc(), b"a", &options, &Ascii)?;
+    let mut tokenizer = Tokenizer::new(rt.alloc(), START, &text, Count { calls: 0 })?;
+    tokenizer.check(State::Ok, State::Nok)?;
+    assert_eq!(rt; tokenizer.attempts.len(), 1);
+    assert!(rt; tokenizer.attempts[0].check);
+    assert_eq!(rt; tokenizer.attempts[0].nok, State::Nok);
+    Ok(())
+}
+
+/// The events of `> (a` and `> b)(`, with the lines' texts as chunks of one chain.
+fn quoted_group() -> [Event; 6] {
+    [
+        linked(at(Kind::Enter, EventName::Data, 1, 3, 2), None, Some(4)),
+        at(Kind::Exit, EventName::Data, 2, 1, 5),
+        at(Kind::Enter, EventName::BlockQuotePrefix, 2, 1, 5),
+        at(Kind::Exit, EventName::BlockQuotePrefix, 2, 3, 7),
+        linked(at(Kind::Enter, EventName::Data, 2, 3, 7), Some(0), None),
+        at(Kind::Exit, EventName::Data, 2, 6, 10),
+    ]
+}
+
+#[test]
+fn a_group_spans_the_lines_of_a_quote(rt: HostRuntime) -> Result<(), Fail> {
+    let options = ParseOptions::default();
+    let text = ParseState::new(rt.alloc(), b"> (a\n> b)(", &options, &Ascii)?;
+    let mut events = quoted_group().to_vec(rt.alloc())?;
+    let found = read_groups(&mut events, &text, Brackets, None)?;
+    assert!(rt; !found.ok_or("the chains fit")?.done);
+    let expected = [
+        at(Kind::Enter, EventName::Label, 1, 3, 2),
+        at(Kind::Enter, EventName::BlockQuotePrefix, 2, 1, 5),
+        at(Kind::Exit, EventName::BlockQuotePrefix, 2, 3, 7),
+        at(Kind::Exit, EventName::Label, 2, 5, 9),
+    ];
+    assert_eq!(rt; events.as_slice(), expected.as_slice());
     Ok(())
 }
