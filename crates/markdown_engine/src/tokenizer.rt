@@ -1,11 +1,11 @@
 //! The tokenizer and the machines that it runs.
-ghost use Rattle.std.specs.Prelude.{◌≡◌, ◌+◌, ◌<◌, ◌≤◌, ◌++◌, [], ◌∷◌, length, None, Some, false, true, ◌⊎◌, List, OnOk, OnErr, IfOk, IfErr};
+ghost use Rattle.std.specs.Prelude.{◌≡◌, ◌+◌, ◌<◌, ◌≤◌, ◌++◌, [], ◌∷◌, length, None, Some, false, true, ◌⊎◌, List, OnOk, OnErr, IfOk, IfErr, IsOk};
 ghost use Rattle.markdown_options.specs.Messages.{IsOutOfMemory};
 ghost use Rattle.engine_events.specs.declared.state.State.TheVariants as states;
 ghost use Rattle.markdown_engine.specs.Reading.{Steps, mark, restore, resumed, handed};
 ghost use Rattle.std.specs.BTreeMap.{insert_entry};
 ghost use Rattle.markdown_engine.specs.Machine.{config, source, read_with, Answers, Became, Around, Refused, Pushed, Reached, Ended, Flushed, entered, exited, consumed, begun, to_run_first, to_run_last};
-ghost use Rattle.markdown_engine.specs.Resolvers.{AreOnce};
+ghost use Rattle.markdown_engine.specs.Resolvers.{AreOnce, is_registered};
 ghost use Rattle.markdown_engine.specs.VirtualText.{is_before, line_start};
 ghost use Rattle.markdown_engine.specs.Laws.{Holds, Ranks, Adds, Keeps, Falls, Tidies, Closes};
 ghost use Rattle.markdown_engine.specs.Context.{Context};
@@ -311,6 +311,7 @@ impl<'a, M, T, A: Allocator> Tokenizer<'a, M, T, A> {
     pub fn register_resolver(&mut self, name: resolve::Name) -> Result<(), Message>
         ensures became { OnOk result (Became (to_run_last name (config self.old)) self.old self.new) }
         ensures once { OnOk result (AreOnce self.old.resolvers.items → AreOnce self.new.resolvers.items) }
+        ensures there { is_registered name self.old.resolvers.items ≡ true → IsOk result }
         ensures err { OnErr result (config self.new ≡ config self.old) }
         ensures parse_state { self.new.parse_state ≡ self.old.parse_state }
         ensures skips { self.new.skips ≡ self.old.skips }
@@ -329,6 +330,7 @@ impl<'a, M, T, A: Allocator> Tokenizer<'a, M, T, A> {
     pub fn register_resolver_before(&mut self, name: resolve::Name) -> Result<(), Message>
         ensures became { OnOk result (Became (to_run_first name (config self.old)) self.old self.new) }
         ensures once { OnOk result (AreOnce self.old.resolvers.items → AreOnce self.new.resolvers.items) }
+        ensures there { is_registered name self.old.resolvers.items ≡ true → IsOk result }
         ensures err { OnErr result (config self.new ≡ config self.old) }
         ensures parse_state { self.new.parse_state ≡ self.old.parse_state }
         ensures skips { self.new.skips ≡ self.old.skips }
