@@ -11,7 +11,7 @@ use Rattle.engine_chunks.specs.Chunks.{chunks}
 use Rattle.engine_chunks.specs.Parts.{counts, divided}
 use Rattle.markdown_engine.specs.declared.tokenizer.Tokenizer.{Tokenizer}
 use Rattle.markdown_engine.specs.Chains.{Chain, chain_content, chains_from, with_chain, chunks_of, AreApart, IsPlace, ArePlaces, place_at, after_chunk, unskipped, with_chunks, end_of, chain_text, first_state, Divides, ReadsChain, MayBegin, is_empty}
-use Rattle.markdown_engine.specs.ChainLaws.{apart_room}
+use Rattle.markdown_engine.proofs.ChainLaws.{apart_room}
 use Rattle.markdown_engine.specs.Laws.{HoldsAt}
 use Rattle.markdown_engine.specs.Machine.{config, fresh, source, Completed}
 use Rattle.markdown_engine.specs.Reading.{Config, Outcome, Steps}

@@ -5,5 +5,7 @@ pub mod Push
 pub mod Order
 pub mod Falls
 pub mod Resolves
+pub mod ResolverLaws
+pub mod ChainLaws
 pub mod ChainSteps
 pub mod Total

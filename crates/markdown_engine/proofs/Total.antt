@@ -8,7 +8,7 @@ use Rattle.markdown_engine.specs.declared.attempt.Attempt.{Attempt}
 use Rattle.markdown_engine.specs.VirtualText.{Source, Text, byte_before, place_in, text_to}
 use Rattle.markdown_engine.specs.Reading.{Config, Steps, mark, feed, resumed, chosen, ended}
 use Rattle.markdown_engine.specs.Laws.{HoldsAt, RanksAt, OnlyAdds, KeepsAt, FallsAt, IsFed}
-use Rattle.markdown_engine.specs.OutcomeLaws.{HasOutcome, HasRun}
+use Rattle.markdown_engine.specs.Outcomes.{HasOutcome, HasRun}
 use Rattle.markdown_engine.proofs.Outcomes.{ends, outcome_pop, outcome_retry, outcome_next}
 use Rattle.markdown_engine.proofs.Falls.{is_fed}
 

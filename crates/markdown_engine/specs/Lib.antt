@@ -10,10 +10,8 @@ pub mod Machine
 pub mod Chains
 pub mod OrderLaws
 pub mod ReadingLaws
-pub mod ResolverLaws
-pub mod OutcomeLaws
+pub mod Outcomes
 pub mod ResolvingLaws
 pub mod Descent
 pub mod DescentLaws
 pub mod Standing
-pub mod ChainLaws

@@ -395,7 +395,7 @@ impl<'a, M: Machine<T>, T: Tables, A: Allocator> Tokenizer<'a, M, T, A> {
     ghost use Rattle.std.specs.Prelude.{◌≡◌, ◌≤◌, ◌<◌, [], length, true, false, ◌⊎◌};
     ghost use Rattle.markdown_engine.specs.Machine.{config, source, read_with, Refused, Opened, Pushed, PushedFrom, Reached, Ended, Flushed, ReadWhole, AreCuts};
     ghost use Rattle.markdown_engine.specs.VirtualText.{text_to, byte_before, place_in};
-    ghost use Rattle.markdown_engine.specs.OutcomeLaws.{HasOutcome, HasRun};
+    ghost use Rattle.markdown_engine.specs.Outcomes.{HasOutcome, HasRun};
 
     /// Where reading goes on: at the start of a line that has a skip, after it.
     fn place(&self) -> Point
@@ -430,11 +430,15 @@ impl<'a, M: Machine<T>, T: Tables, A: Allocator> Tokenizer<'a, M, T, A> {
         ensures reached { Reached to self.new result }
         ensures moves_on { MovesOn result }
         ensures ends { end ≡ true → Refused result ⊎ Ended self.new result }
+        ensures failed { Refused result → self.new.failed ≡ true }
     {
         let mut next = state;
         'turns: loop {
             match next {
-                State::Error(_) => return next,
+                State::Error(_) => {
+                    self.failed = true;
+                    return next;
+                }
                 State::Ok => match self.attempts.pop() {
                     None => return next,
                     Some(attempt) => {
@@ -519,6 +523,7 @@ impl<'a, M: Machine<T>, T: Tables, A: Allocator> Tokenizer<'a, M, T, A> {
         ensures parse_state { self.new.parse_state.now ≡ self.old.parse_state.now }
         ensures total { Refused state ⊎ HasOutcome (text_to (source self.old) to) (M.step (read_with self.old)) (config self.old) self.old.attempts.items state }
         ensures whole { Refused result ⊎ AreWhole self.new.events.items self.new.point }
+        ensures failed { Refused result → self.new.failed ≡ true }
     {
         self.read(to, true, state)
     }
@@ -530,6 +535,7 @@ impl<'a, M: Machine<T>, T: Tables, A: Allocator> Tokenizer<'a, M, T, A> {
         ensures reads { Refused result ⊎ ReadWhole (source self.old) (M.step (read_with self.old)) state self.old self.new result }
         ensures total { HasRun (text_to (source self.old) (length self.old.parse_state.now.bytes.now, 0)) (M.step (read_with self.old)) (config self.old) state }
         ensures whole { Refused result ⊎ AreWhole self.new.events.items self.new.point }
+        ensures failed { Refused result → self.new.failed ≡ true }
     {
         let to = (self.parse_state.bytes.len(), 0);
         self.finish(to, state)
@@ -543,6 +549,7 @@ impl<'a, M: Machine<T>, T: Tables, A: Allocator> Tokenizer<'a, M, T, A> {
         requires valid { M.valid (read_with self.old) (config self.old) [] state }
         ensures reads { Refused result ⊎ ReadWhole (source self.old) (M.step (read_with self.old)) state self.old self.new result }
         ensures whole { Refused result ⊎ AreWhole self.new.events.items self.new.point }
+        ensures failed { Refused result → self.new.failed ≡ true }
     {
         let mut next = state;
         for cut in cuts {
@@ -571,12 +578,14 @@ impl<'a, M: Machine<T>, T: Tables, A: Allocator + Clone> Tokenizer<'a, M, T, A> 
         requires valid { M.valid (read_with self.old) (config self.old) [] state }
         ensures reads { Refused result ⊎ ReadWhole (with_skip (source self.old) point) (M.step (read_with self.old)) state self.old self.new result }
         ensures whole { Refused result ⊎ AreWhole self.new.events.items self.new.point }
+        ensures failed { Refused result → self.new.failed ≡ true }
     {
         let first = self.read((cut, 0), false, state);
         if let State::Error(_) = first {
             return first;
         }
         if self.define_skip(point).is_err() {
+            self.failed = true;
             return State::out_of_memory();
         }
         let to = (self.parse_state.bytes.len(), 0);

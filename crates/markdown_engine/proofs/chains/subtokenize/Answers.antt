@@ -4,7 +4,7 @@ use Rattle.engine_events.specs.declared.event.Content.{Content}
 use Rattle.engine_events.specs.declared.event.Event.{Event}
 use Rattle.engine_edits.specs.Edits.{Placed, edits_of}
 use Rattle.engine_edits.specs.Replacement.{IsOrdered}
-use Rattle.markdown_engine.specs.ChainLaws.{divides_ordered, links_lead}
+use Rattle.markdown_engine.proofs.ChainLaws.{divides_ordered, links_lead}
 use Rattle.markdown_engine.specs.Chains.{Divides, chains}
 use Rattle.markdown_engine.specs.Context.{context}
 use Rattle.markdown_engine.specs.Resolving.{found_in, nothing_found}
