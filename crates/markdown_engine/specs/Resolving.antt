@@ -91,6 +91,6 @@ Leaves {M} step = (c : Config M) (n : Name) → ((step c n).config.map ≡ c.map
 abbrev pub resolves_nothing : {M : Type 0} → Resolves M
 resolves_nothing c n = record { config = c; found = nothing_found }
 
--- no resolver is to run
+-- whatever is to run, there is no edit
 abbrev pub settles_whole : {M : Type 0} → SettlesAt M
-settles_whole c names = (names ≡ []) × (c.map ≡ []) × AreWhole c.events c.point
+settles_whole c names = (c.map ≡ []) × AreWhole c.events c.point

@@ -87,8 +87,8 @@ module _ {M : Type 0} (valid : HoldsAt M) where
   pub resolves_unresolved : ((c : Config M) → valid c [] states.Nok → ⊥) → TidiesAt valid → ClosesAt valid → ResolvesAt (Unresolved valid) resolves_nothing settles_whole
   resolves_unresolved well tidies closes = record {
     well = λ c h. well c h.0;
-    begins = λ c h. let t = tidies c [] states.Ok h.0 in (h.1.1, h.1.0, ((t.nested, closes c true h.0), t.order));
-    keeps = λ c n ns h. absurd (let e : n ∷ ns ≡ [] = h.0 in cc);
-    ordered = λ c h. no_edits c.map (length c.events) h.1;
-    whole = λ c h. unedited c.map c.events c.point h.1 h.2;
+    begins = λ c h. let t = tidies c [] states.Ok h.0 in (h.1.0, ((t.nested, closes c true h.0), t.order));
+    keeps = λ c n ns h. h;
+    ordered = λ c h. no_edits c.map (length c.events) h.0;
+    whole = λ c h. unedited c.map c.events c.point h.0 h.1;
   }
