@@ -1,8 +1,8 @@
 //! Reads standard input by a machine that consumes every byte, and prints how many steps it took.
 #![tactic(auto)]
 
-use engine_tests::count::Count;
-use engine_tests::tables::Ascii;
+use tests_engine::count::Count;
+use tests_engine::tables::Ascii;
 use markdown_engine::place::START;
 use markdown_engine::state::{Inline, Name, State};
 use markdown_engine::tokenizer::Tokenizer;

@@ -10,16 +10,16 @@ use Rattle.std.proofs.lemmas.List.Concat.{flat_map-append}
 use Rattle.markdown_options.specs.declared.line_ending.LineEnding.{LineEnding}
 use Rattle.markdown_options.specs.declared.line_ending.LineEnding.TheVariants.{CarriageReturnLineFeed, CarriageReturn, LineFeed}
 use Rattle.markdown_options.specs.LineEndings.{ending_bytes}
-use Rattle.markdown_definition.specs.declared.beside.Kind.TheVariants.{Whitespace}
-use Rattle.markdown_definition.specs.Lines.{TextLine, text_line, in_first_line, after_return, lines, ending_text}
-use Rattle.markdown_definition.specs.Columns.{code_byte}
-use Rattle.markdown_definition.specs.Blocks.{own_lines}
-use Rattle.markdown_definition.specs.Content.{is_eol, content_text, line_text}
-use Rattle.markdown_definition.specs.ParagraphLines.{HaveNoEnding}
-use Rattle.markdown_definition.specs.InlineCode.{inline_content}
-use Rattle.markdown_definition.specs.Rows.{whole_line, whole_lines}
-use Rattle.markdown_definition.proofs.CodeBytes.{code_bytes}
-use Rattle.markdown_definition.proofs.OwnLines.{lines_more, with_last_ending}
+use Rattle.definition_text.specs.declared.beside.Kind.TheVariants.{Whitespace}
+use Rattle.definition_text.specs.Lines.{TextLine, text_line, in_first_line, after_return, lines, ending_text}
+use Rattle.definition_text.specs.Columns.{code_byte}
+use Rattle.definition_text.specs.BlockLines.{own_lines}
+use Rattle.definition_text.specs.Content.{is_eol, content_text, line_text}
+use Rattle.block_rows.specs.ParagraphLines.{HaveNoEnding}
+use Rattle.definition_text.specs.InlineCode.{inline_content}
+use Rattle.block_rows.specs.Rows.{whole_line, whole_lines}
+use Rattle.definition_text.proofs.CodeBytes.{code_bytes}
+use Rattle.block_rows.proofs.OwnLines.{lines_more, with_last_ending}
 use Rattle.inline_content.specs.View.{marked}
 use Rattle.inline_content.proofs.Lined.{AreApart, Agree, content_is, head_clear}
 

@@ -7,17 +7,17 @@ use Rattle.std.proofs.lemmas.List.{append-nil, length-append, map-append}
 use Rattle.markdown_options.specs.declared.line_ending.LineEnding.{LineEnding}
 use Rattle.markdown_options.specs.declared.line_ending.LineEnding.TheVariants.{CarriageReturnLineFeed, CarriageReturn, LineFeed}
 use Rattle.markdown_options.specs.LineEndings.{ending_bytes}
-use Rattle.markdown_definition.specs.declared.beside.Kind.{Kind}
-use Rattle.markdown_definition.specs.declared.beside.Kind.TheVariants.{Whitespace, Punctuation, Other}
-use Rattle.markdown_definition.specs.Lines.{ending_text}
-use Rattle.markdown_definition.specs.Columns.{code_byte}
-use Rattle.markdown_definition.specs.Blocks.{BlockLine, own_lines}
-use Rattle.markdown_definition.specs.Content.{is_eol, line_ending_code, ending_code, content_codes, content_of, content_text, line_text}
-use Rattle.markdown_definition.specs.ParagraphLines.{HaveNoEnding, AreLines}
-use Rattle.markdown_definition.specs.InlineCode.{with_kinds, inline_content, inline_code, first_kind, next_kind}
-use Rattle.markdown_definition.proofs.ContentBytes.{codes_in_line}
-use Rattle.link_parts.proofs.Cuts.{first_code}
-use Rattle.link_definitions.proofs.Contents.{in_line}
+use Rattle.definition_text.specs.declared.beside.Kind.{Kind}
+use Rattle.definition_text.specs.declared.beside.Kind.TheVariants.{Whitespace, Punctuation, Other}
+use Rattle.definition_text.specs.Lines.{ending_text}
+use Rattle.definition_text.specs.Columns.{code_byte}
+use Rattle.definition_text.specs.BlockLines.{BlockLine, own_lines}
+use Rattle.definition_text.specs.Content.{is_eol, line_ending_code, ending_code, content_codes, content_of, content_text, line_text}
+use Rattle.block_rows.specs.ParagraphLines.{HaveNoEnding, AreLines}
+use Rattle.definition_text.specs.InlineCode.{with_kinds, inline_content, inline_code, first_kind, next_kind}
+use Rattle.definition_text.proofs.ContentBytes.{codes_in_line}
+use Rattle.inline_links.proofs.Cuts.{first_code}
+use Rattle.block_definitions.proofs.Contents.{in_line}
 use Rattle.inline_content.specs.declared.mark.Mark.{Mark}
 use Rattle.inline_content.specs.Marks.{kind_at}
 use Rattle.inline_content.specs.View.{width, line_left, kind_after, kind_before, view_from, marked}

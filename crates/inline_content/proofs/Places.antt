@@ -3,12 +3,12 @@ use Rattle.std.proofs.Common.{◌≡◌, ℕ, zero, suc, ◌+◌, ◌<◌, ◌�
 use Rattle.std.specs.Char.{encode_utf8}
 use Rattle.std.proofs.lemmas.Bool.{cases_Bool, cases_eq, cond-true, cond-false, eqb-true, ne_eqb, or_cases, true≢false}
 use Rattle.std.proofs.lemmas.List.{append-nil, take_at, drop_at, get_or_at, length-append, drop-drop}
-use Rattle.markdown_definition.specs.declared.beside.Kind.TheVariants.{Whitespace}
-use Rattle.markdown_definition.specs.Lines.{ends_line}
-use Rattle.markdown_definition.specs.Content.{is_eol, content_codes}
-use Rattle.markdown_definition.specs.InlineCode.{first_kind, character_kind}
-use Rattle.link_parts.specs.Codes.{IsCut}
-use Rattle.link_parts.proofs.Cuts.{cut_at, two_bytes}
+use Rattle.definition_text.specs.declared.beside.Kind.TheVariants.{Whitespace}
+use Rattle.definition_text.specs.Lines.{ends_line}
+use Rattle.definition_text.specs.Content.{is_eol, content_codes}
+use Rattle.definition_text.specs.InlineCode.{first_kind, character_kind}
+use Rattle.inline_links.specs.Codes.{IsCut}
+use Rattle.inline_links.proofs.Cuts.{cut_at, two_bytes}
 use Rattle.inline_content.specs.declared.mark.Mark.{Mark}
 use Rattle.inline_content.specs.Marks.{kind_at}
 use Rattle.inline_content.specs.View.{width, line_left, kind_between}

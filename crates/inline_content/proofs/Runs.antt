@@ -7,12 +7,12 @@ use Rattle.std.proofs.lemmas.List.Sums.{prefix_len_passes, prefix_len-le-length}
 use Rattle.std.specs.Str.{IsUtf8, IsCharBoundary}
 use Rattle.std.proofs.lemmas.Str.{IsCharBoundary-after_ascii}
 use Rattle.markdown_options.specs.declared.configuration.Constructs.{Constructs}
-use Rattle.markdown_definition.specs.declared.beside.Kind.{Kind}
-use Rattle.markdown_definition.specs.declared.beside.Kind.TheVariants.{Whitespace}
-use Rattle.markdown_definition.specs.Content.{is_eol, content_codes}
-use Rattle.markdown_definition.specs.InlineCode.{InlineCode, codes_of, first_kind, inline_code}
-use Rattle.markdown_definition.specs.Attention.{is_marker, run_between, run_size, run_at}
-use Rattle.link_parts.specs.Codes.{IsRest}
+use Rattle.definition_text.specs.declared.beside.Kind.{Kind}
+use Rattle.definition_text.specs.declared.beside.Kind.TheVariants.{Whitespace}
+use Rattle.definition_text.specs.Content.{is_eol, content_codes}
+use Rattle.definition_text.specs.InlineCode.{InlineCode, codes_of, first_kind, inline_code}
+use Rattle.definition_inline.specs.Attention.{is_marker, run_between, run_size, run_at}
+use Rattle.inline_links.specs.Codes.{IsRest}
 use Rattle.inline_content.specs.declared.mark.Mark.{Mark}
 use Rattle.inline_content.specs.Marks.{kind_at}
 use Rattle.inline_content.specs.View.{line_left, kind_after, kind_between, view_from, marked}

@@ -2,9 +2,9 @@
 use Rattle.std.proofs.Common.{◌≡◌, ℕ, zero, suc, ◌+◌, ◌-◌, ◌<◌, Bool, true, List, [], ◌∷◌, ◌++◌, refl, ap, ◌∙◌, get_or, length, drop, append_assoc, arith}
 use Rattle.std.proofs.lemmas.Bool.{cond-true}
 use Rattle.std.proofs.lemmas.List.{length-append}
-use Rattle.markdown_definition.specs.declared.beside.Kind.{Kind}
-use Rattle.markdown_definition.specs.Content.{is_eol, content_codes}
-use Rattle.markdown_definition.specs.InlineCode.{InlineCode, codes_of}
+use Rattle.definition_text.specs.declared.beside.Kind.{Kind}
+use Rattle.definition_text.specs.Content.{is_eol, content_codes}
+use Rattle.definition_text.specs.InlineCode.{InlineCode, codes_of}
 use Rattle.inline_content.specs.declared.mark.Mark.{Mark}
 use Rattle.inline_content.specs.declared.content.Content.{Content}
 use Rattle.inline_content.specs.Marks.{kind_at}

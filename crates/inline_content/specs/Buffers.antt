@@ -1,6 +1,6 @@
 -- The codes that the content in a buffer stands for.
 use Rattle.std.specs.Prelude.{ℕ, Bool, List, string_bytes}
-use Rattle.markdown_definition.specs.InlineCode.{InlineCode}
+use Rattle.definition_text.specs.InlineCode.{InlineCode}
 use Rattle.inline_content.specs.declared.buffer.ContentBuffer.{ContentBuffer}
 use Rattle.inline_content.specs.View.{marked}
 

@@ -2,8 +2,8 @@
 use Rattle.std.specs.Prelude.{◌≡◌, ◌<◌, ◌==◌, ℕ, true, List, length, slice_index}
 use Rattle.std.specs.List.{prefix_len}
 use Rattle.markdown_options.specs.declared.configuration.Constructs.{Constructs}
-use Rattle.markdown_definition.specs.Attention.{is_marker}
-use Rattle.attention.specs.declared.run.Run.{Run}
+use Rattle.definition_inline.specs.Attention.{is_marker}
+use Rattle.inline_runs.specs.declared.run.Run.{Run}
 
 -- bytes begin with this run, as long as it gets
 pub record StartsRun (on : Constructs) (bytes : List ℕ) (run : Run) : Type 0 where

@@ -1,10 +1,10 @@
 -- The marks of lines.
 use Rattle.std.specs.Prelude.{ℕ, ◌+◌, List, [], ◌∷◌, ◌++◌, length}
-use Rattle.markdown_definition.specs.declared.beside.Kind.{Kind}
-use Rattle.markdown_definition.specs.declared.beside.Kind.TheVariants.{Whitespace, Punctuation, Other}
-use Rattle.markdown_definition.specs.Blocks.{BlockLine}
-use Rattle.markdown_definition.specs.Content.{line_text}
-use Rattle.markdown_definition.specs.ParagraphLines.{HaveNoEnding, AreLines}
+use Rattle.definition_text.specs.declared.beside.Kind.{Kind}
+use Rattle.definition_text.specs.declared.beside.Kind.TheVariants.{Whitespace, Punctuation, Other}
+use Rattle.definition_text.specs.BlockLines.{BlockLine}
+use Rattle.definition_text.specs.Content.{line_text}
+use Rattle.block_rows.specs.ParagraphLines.{HaveNoEnding, AreLines}
 use Rattle.inline_content.specs.declared.mark.Mark.{Mark}
 
 abbrev pub mark_of : ℕ → Kind → List Mark

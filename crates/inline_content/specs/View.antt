@@ -1,9 +1,9 @@
 -- The codes that a content stands for, and what stands beside them (CommonMark 6.2).
 use Rattle.std.specs.Prelude.{ℕ, ◌+◌, ◌-◌, Bool, if◌then◌else◌, ◌==◌, List, [], ◌∷◌, ◌++◌, drop, length}
-use Rattle.markdown_definition.specs.declared.beside.Kind.{Kind}
-use Rattle.markdown_definition.specs.declared.beside.Kind.TheVariants.{Whitespace}
-use Rattle.markdown_definition.specs.Content.{is_eol, content_codes}
-use Rattle.markdown_definition.specs.InlineCode.{InlineCode, inline_code, first_kind, next_kind}
+use Rattle.definition_text.specs.declared.beside.Kind.{Kind}
+use Rattle.definition_text.specs.declared.beside.Kind.TheVariants.{Whitespace}
+use Rattle.definition_text.specs.Content.{is_eol, content_codes}
+use Rattle.definition_text.specs.InlineCode.{InlineCode, inline_code, first_kind, next_kind}
 use Rattle.inline_content.specs.declared.mark.Mark.{Mark}
 use Rattle.inline_content.specs.declared.content.Content.{Content}
 use Rattle.inline_content.specs.Marks.{kind_at}

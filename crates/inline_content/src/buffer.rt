@@ -6,8 +6,8 @@ ghost use Rattle.inline_content.specs.Marks.{mark_place};
 
 use crate::content::Content;
 use crate::mark::{Mark, push_mark};
-use link_definitions::content::{push_ending, push_line};
-use markdown_definition::Piece;
+use block_definitions::content::{push_ending, push_line};
+use block_rows::Piece;
 use std::alloc::{AllocError, Allocator};
 
 /// The content of the lines of a block. It can be used again for another block, with no new memory
@@ -34,10 +34,10 @@ impl<A: Allocator + Clone> ContentBuffer<A> {
 }
 
 impl<A: Allocator> ContentBuffer<A> {
-    ghost use Rattle.markdown_definition.specs.declared.beside.Kind.TheVariants.{Whitespace};
-    ghost use Rattle.markdown_definition.specs.Blocks.{own_lines};
-    ghost use Rattle.markdown_definition.specs.Rows.{piece_lines};
-    ghost use Rattle.markdown_definition.specs.InlineCode.{inline_content};
+    ghost use Rattle.definition_text.specs.declared.beside.Kind.TheVariants.{Whitespace};
+    ghost use Rattle.definition_text.specs.BlockLines.{own_lines};
+    ghost use Rattle.block_rows.specs.Rows.{piece_lines};
+    ghost use Rattle.definition_text.specs.InlineCode.{inline_content};
     ghost use Rattle.inline_content.specs.View.{content_view};
     ghost use Rattle.inline_content.specs.Buffers.{buffer_view};
     ghost use Rattle.inline_content.specs.Lines.{AreContentLines};

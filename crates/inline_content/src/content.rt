@@ -4,7 +4,7 @@ ghost use Rattle.std.specs.List.Sorted.{IsNonDecreasingBy};
 ghost use Rattle.inline_content.specs.Marks.{kind_at, mark_place};
 
 use crate::mark::Mark;
-use markdown_definition::Kind;
+use definition_text::Kind;
 
 /// A content: its bytes, and what stands before its lines in the text.
 #[derive(Clone, Copy)]

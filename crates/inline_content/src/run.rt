@@ -3,23 +3,23 @@
 //!     run ::= '*'+ | '_'+, as long as it gets
 ghost use Rattle.std.specs.Prelude.{◌≡◌, ◌≤◌, ◌<◌, ◌==◌, ℕ, List, IfSome, MatchOption, length, take, drop, slice_index};
 ghost use Rattle.std.specs.List.{prefix_len};
-ghost use Rattle.markdown_definition.specs.declared.beside.Kind.TheVariants.{Whitespace};
-ghost use Rattle.markdown_definition.specs.Attention.{is_marker};
-ghost use Rattle.markdown_definition.specs.Content.{content_codes};
-ghost use Rattle.markdown_definition.specs.InlineCode.{character_kind, first_kind};
+ghost use Rattle.definition_text.specs.declared.beside.Kind.TheVariants.{Whitespace};
+ghost use Rattle.definition_inline.specs.Attention.{is_marker};
+ghost use Rattle.definition_text.specs.Content.{content_codes};
+ghost use Rattle.definition_text.specs.InlineCode.{character_kind, first_kind};
 ghost use Rattle.std.specs.Option.{option_map};
 ghost use Rattle.std.specs.Str.{IsCharBoundary};
-ghost use Rattle.markdown_definition.specs.Attention.{run_at};
-ghost use Rattle.link_parts.specs.Codes.{IsRest};
-ghost use Rattle.attention.specs.View.{run_view};
+ghost use Rattle.definition_inline.specs.Attention.{run_at};
+ghost use Rattle.inline_links.specs.Codes.{IsRest};
+ghost use Rattle.inline_runs.specs.View.{run_view};
 ghost use Rattle.inline_content.specs.Marks.{kind_at};
 ghost use Rattle.inline_content.specs.Ends.{EndsWith};
 ghost use Rattle.inline_content.specs.Fronts.{StartsRun};
 ghost use Rattle.inline_content.specs.View.{line_left, kind_between, view_at};
 
 use crate::content::Content;
-use attention::{Run, run_between};
-use markdown_definition::Kind;
+use inline_runs::{Run, run_between};
+use definition_text::Kind;
 use markdown_options::{Constructs, Tables};
 
 impl<'a> Content<'a> {

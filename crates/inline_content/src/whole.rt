@@ -1,11 +1,11 @@
 //! The content of whole lines, which stand right after another in the text (CommonMark 4.8).
 ghost use Rattle.std.specs.Prelude.{◌≡◌, ℕ, Bool, [], take};
 ghost use Rattle.std.specs.Str.{IsCharBoundary};
-ghost use Rattle.markdown_definition.specs.declared.beside.Kind.TheVariants.{Whitespace};
-ghost use Rattle.markdown_definition.specs.Blocks.{own_lines};
-ghost use Rattle.markdown_definition.specs.Content.{content_text};
-ghost use Rattle.markdown_definition.specs.Rows.{whole_lines};
-ghost use Rattle.markdown_definition.specs.InlineCode.{inline_content};
+ghost use Rattle.definition_text.specs.declared.beside.Kind.TheVariants.{Whitespace};
+ghost use Rattle.definition_text.specs.BlockLines.{own_lines};
+ghost use Rattle.definition_text.specs.Content.{content_text};
+ghost use Rattle.block_rows.specs.Rows.{whole_lines};
+ghost use Rattle.definition_text.specs.InlineCode.{inline_content};
 ghost use Rattle.inline_content.specs.View.{content_view};
 
 use crate::content::Content;

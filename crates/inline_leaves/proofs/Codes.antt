@@ -4,12 +4,12 @@ use Rattle.std.proofs.lemmas.Bool.{cases_Bool, cond-false, cond-true, eqb-true, 
 use Rattle.std.proofs.lemmas.List.{drop_at, take_at, length-take-le, length-append, length-drop}
 use Rattle.std.proofs.lemmas.List.Sums.{prefix_len_passes, prefix_len-le-length}
 use Rattle.std.specs.List.{prefix_len, take_while}
-use Rattle.markdown_definition.specs.Letters.{after_all}
-use Rattle.markdown_definition.specs.Content.{content_codes}
+use Rattle.definition_text.specs.Bytes.{after_all}
+use Rattle.definition_text.specs.Content.{content_codes}
 use Rattle.std.specs.Str.{IsCharBoundary, IsUtf8}
 use Rattle.std.proofs.lemmas.Str.{IsCharBoundary-after_ascii}
-use Rattle.link_parts.specs.Codes.{IsCut}
-use Rattle.link_parts.proofs.Cuts.{codes_some, cut_at}
+use Rattle.inline_links.specs.Codes.{IsCut}
+use Rattle.inline_links.proofs.Cuts.{codes_some, cut_at}
 use Rattle.inline_leaves.specs.Leaves.{IsAfter, IsEnd, size_before}
 
 -- ---- the first code

@@ -3,10 +3,10 @@ use Rattle.std.proofs.Common.{◌≡◌, ℕ, ◌<◌, List, [], ◌∷◌, Bool
 use Rattle.std.proofs.lemmas.Bool.{cond-false, ne_eqb, or_from}
 use Rattle.markdown_options.specs.declared.line_ending.LineEnding.{LineEnding}
 use Rattle.markdown_options.specs.declared.line_ending.LineEnding.TheVariants.{CarriageReturnLineFeed, CarriageReturn, LineFeed}
-use Rattle.markdown_definition.specs.Content.{content_codes, line_ending_code, is_eol}
-use Rattle.markdown_definition.specs.Strings.{begins_with_eol}
-use Rattle.markdown_definition.specs.HardBreak.{ends_inner_line, ends_here}
-use Rattle.link_parts.proofs.Cuts.{codes_some}
+use Rattle.definition_text.specs.Content.{content_codes, line_ending_code, is_eol}
+use Rattle.definition_inline.specs.Strings.{begins_with_eol}
+use Rattle.definition_inline.specs.HardBreak.{ends_inner_line, ends_here}
+use Rattle.inline_links.proofs.Cuts.{codes_some}
 
 pub ending_is_eol : (ending : LineEnding) → is_eol (line_ending_code ending) ≡ true
 ending_is_eol LineFeed = refl

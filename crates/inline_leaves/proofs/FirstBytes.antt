@@ -3,16 +3,16 @@ use Rattle.std.proofs.Common.{◌≡◌, ◌⊎◌, ℕ, ◌<◌, List, [], ◌�
 use Rattle.std.specs.Prelude.{nat_le}
 use Rattle.std.proofs.lemmas.Bool.{cases_Bool, cond-false, cond-true, eqb-true, eqb-false, ne_eqb, and_left, and_right, or_from}
 use Rattle.markdown_options.specs.declared.configuration.Constructs.{Constructs}
-use Rattle.markdown_definition.specs.Autolink.{autolink_at}
-use Rattle.markdown_definition.specs.CharacterEscape.{escape_at}
-use Rattle.markdown_definition.specs.CharacterReference.{reference_at, reference_form, reference_of}
-use Rattle.markdown_definition.specs.CodeText.{code_text_at}
-use Rattle.markdown_definition.specs.Columns.{is_white, indent}
-use Rattle.markdown_definition.specs.Content.{content_codes, is_eol}
-use Rattle.markdown_definition.specs.HardBreak.{escaped_break_at, line_end_at, line_spaces_at}
-use Rattle.markdown_definition.specs.HtmlText.{html_text_at}
-use Rattle.markdown_definition.specs.Inline.{Leaf, or_else}
-use Rattle.markdown_definition.specs.Runs.{run}
+use Rattle.definition_inline.specs.Autolink.{autolink_at}
+use Rattle.definition_inline.specs.CharacterEscape.{escape_at}
+use Rattle.definition_inline.specs.CharacterReference.{reference_at, reference_form, reference_of}
+use Rattle.definition_inline.specs.CodeText.{code_text_at}
+use Rattle.definition_text.specs.Columns.{is_white, indent}
+use Rattle.definition_text.specs.Content.{content_codes, is_eol}
+use Rattle.definition_inline.specs.HardBreak.{escaped_break_at, line_end_at, line_spaces_at}
+use Rattle.definition_inline.specs.HtmlText.{html_text_at}
+use Rattle.definition_inline.specs.Inline.{Leaf, or_else}
+use Rattle.definition_text.specs.Runs.{run}
 use Rattle.inline_leaves.specs.Scanned.{leaf_in}
 use Rattle.inline_leaves.proofs.Codes.{at_return, plain_code}
 

@@ -1,7 +1,7 @@
 -- Texts that contents begin with.
 use Rattle.std.proofs.Common.{◌≡◌, ℕ, List, [], ◌∷◌, ◌++◌, true, eqb, refl, sym, ap, ◌∙◌, length, drop}
 use Rattle.std.proofs.lemmas.Bool.{eqb-true, and_parts, false≢true}
-use Rattle.markdown_definition.specs.Letters.{begins_with}
+use Rattle.definition_text.specs.Bytes.{begins_with}
 
 -- bytes that begin with a text are that text and others
 pub begun : (text xs : List ℕ) → begins_with text xs ≡ true → xs ≡ text ++ drop (length text) xs

@@ -3,12 +3,12 @@ use Rattle.std.proofs.Common.{◌≡◌, ℕ, zero, suc, ◌+◌, ◌-◌, ◌<�
 use Rattle.std.proofs.lemmas.Bool.{cases_Bool, cases_order, cond-false, cond-true, ne_eqb, eq-eqb, lt-ltb, le-ltb, ltb-true, ltb-false}
 use Rattle.std.proofs.lemmas.List.Sums.{prefix_len-le-length}
 use Rattle.std.specs.List.{prefix_len}
-use Rattle.markdown_definition.specs.Runs.{run}
-use Rattle.markdown_definition.specs.CodeText.{run_of}
+use Rattle.definition_text.specs.Runs.{run}
+use Rattle.definition_inline.specs.CodeText.{run_of}
 use Rattle.inline_leaves.specs.LastRuns.{last_end}
 use Rattle.inline_leaves.specs.Leaves.{IsRun}
 use Rattle.inline_leaves.specs.declared.backticks.LastRun.{LastRun}
-use Rattle.inline_leaves.proofs.CodeSpans.{past_here, run_there}
+use Rattle.inline_leaves.proofs.CodeTextLemmas.{past_here, run_there}
 
 -- ---- a list of runs
 

@@ -1,11 +1,11 @@
-pub mod Autolinks
-pub mod Breaks
-pub mod CodeSpans
+pub mod AutolinkLemmas
+pub mod HardBreakLemmas
+pub mod CodeTextLemmas
 pub mod Codes
 pub mod Endings
 pub mod FirstBytes
 pub mod Fronts
-pub mod HtmlTexts
+pub mod HtmlTextLemmas
 pub mod LastRuns
-pub mod References
+pub mod CharacterReferenceLemmas
 pub mod Searching

@@ -6,14 +6,14 @@ use Rattle.std.proofs.lemmas.Bool.{cases_Bool, cond-false, cond-true, false≢tr
 use Rattle.std.proofs.lemmas.List.{drop-drop, length-append, length-drop}
 use Rattle.std.proofs.lemmas.Option.{none-some}
 use Rattle.markdown_options.specs.declared.configuration.Constructs.{Constructs}
-use Rattle.markdown_definition.specs.Content.{content_codes}
-use Rattle.markdown_definition.specs.Letters.{begins_with, begins_with_letter}
-use Rattle.markdown_definition.specs.HtmlText.{after_first, comment_rest, cdata, html_text_at}
-use Rattle.link_parts.specs.Codes.{IsRest}
-use Rattle.inline_leaves.specs.Html.{html_after}
+use Rattle.definition_text.specs.Content.{content_codes}
+use Rattle.definition_text.specs.Bytes.{begins_with, begins_with_letter}
+use Rattle.definition_inline.specs.HtmlText.{after_first, comment_rest, cdata, html_text_at}
+use Rattle.inline_links.specs.Codes.{IsRest}
+use Rattle.inline_leaves.specs.HtmlText.{html_after}
 use Rattle.inline_leaves.specs.Searched.{Lacks}
 use Rattle.inline_leaves.proofs.Fronts.{begun}
-use Rattle.inline_leaves.proofs.HtmlTexts.{AreBytes, html_off, html_other, html_none}
+use Rattle.inline_leaves.proofs.HtmlTextLemmas.{AreBytes, html_off, html_other, html_none}
 
 -- what stands nowhere stands nowhere later
 later_none : (text xs : List ℕ) (k : ℕ) → after_first text xs ≡ None → after_first text (drop k xs) ≡ None

@@ -1,7 +1,7 @@
 -- Where the last run of backticks of each size ends.
 use Rattle.std.specs.Prelude.{◌≡◌, ◌<◌, ◌≤◌, ◌==◌, ℕ, false, nat_lt, if◌then◌else◌, List, [], ◌∷◌, None, drop, length}
-use Rattle.markdown_definition.specs.CodeText.{run_of}
-use Rattle.markdown_definition.specs.Runs.{run}
+use Rattle.definition_inline.specs.CodeText.{run_of}
+use Rattle.definition_text.specs.Runs.{run}
 use Rattle.inline_leaves.specs.declared.backticks.LastRun.{LastRun}
 
 -- where the last run of a size ends, by a list that is ascending by size; 0 if there is none

@@ -1,19 +1,19 @@
 -- What the answers on a content stand for.
 use Rattle.inline_leaves.specs.declared.byte_class.ByteClass.{ByteClass}
 use Rattle.inline_leaves.specs.declared.byte_class.ByteClass.TheVariants.{Scheme, Uri, Email, Domain}
-use Rattle.markdown_definition.specs.Autolink.{is_scheme_byte, is_uri_byte, is_email_byte, is_domain_byte}
+use Rattle.definition_inline.specs.Autolink.{is_scheme_byte, is_uri_byte, is_email_byte, is_domain_byte}
 use Rattle.std.specs.Prelude.{Bool, if◌then◌else◌, ◌&&◌, ◌≡◌, ◌<◌, ◌≤◌, ◌+◌, ◌-◌, ℕ, true, List, [], ◌∷◌, Option, None, Some, drop, length, map, slice_index, take}
 use Rattle.markdown_options.specs.declared.configuration.Constructs.{Constructs}
-use Rattle.markdown_definition.specs.HardBreak.{is_trailing_break}
-use Rattle.markdown_definition.specs.Columns.{is_white}
-use Rattle.markdown_definition.specs.Columns as columns
-use Rattle.markdown_definition.specs.Content.{content_codes, line_ending_code}
-use Rattle.markdown_definition.specs.CharacterReference.{number_of, numbered_text}
+use Rattle.definition_inline.specs.HardBreak.{is_trailing_break}
+use Rattle.definition_text.specs.Columns.{is_white}
+use Rattle.definition_text.specs.Columns as columns
+use Rattle.definition_text.specs.Content.{content_codes, line_ending_code}
+use Rattle.definition_inline.specs.CharacterReference.{number_of, numbered_text}
 use Rattle.inline_leaves.specs.declared.autolink.Address.{Address}
-use Rattle.markdown_definition.specs.CodeText.{code_text}
-use Rattle.markdown_definition.specs.Inline as inline
-use Rattle.markdown_definition.specs.Inline.{Inline}
-use Rattle.link_parts.specs.Codes.{IsCut}
+use Rattle.definition_inline.specs.CodeText.{code_text}
+use Rattle.definition_inline.specs.Inline as inline
+use Rattle.definition_inline.specs.Inline.{Inline}
+use Rattle.inline_links.specs.Codes.{IsCut}
 use Rattle.inline_leaves.specs.declared.leaf.Leaf.{Leaf}
 use Rattle.inline_leaves.specs.declared.space.Ending.{Ending}
 use Rattle.inline_leaves.specs.declared.leaf.LeafPart.{LeafPart}

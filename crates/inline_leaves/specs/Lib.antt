@@ -1,5 +1,5 @@
 pub mod Leaves
-pub mod Html
+pub mod HtmlText
 pub mod Scanned
 pub mod Searched
 pub mod LastRuns

@@ -1,8 +1,8 @@
 -- What a content begins with, whichever labels are defined.
 use Rattle.std.specs.Prelude.{ℕ, false, List, Option}
 use Rattle.markdown_options.specs.declared.configuration.Constructs.{Constructs}
-use Rattle.markdown_definition.specs.Inline.{Leaf}
-use Rattle.markdown_definition.specs.Scan.{InlineContext, leaf_at}
+use Rattle.definition_inline.specs.Inline.{Leaf}
+use Rattle.definition_inline.specs.Scan.{InlineContext, leaf_at}
 
 -- a context with no label
 abbrev pub without_labels : Constructs → (List ℕ → Option (List ℕ)) → InlineContext

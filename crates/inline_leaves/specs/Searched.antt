@@ -1,6 +1,6 @@
 -- What a content's end lacks.
 use Rattle.std.specs.Prelude.{◌≡◌, ◌-◌, ℕ, List, None, drop, length}
-use Rattle.markdown_definition.specs.HtmlText.{after_first}
+use Rattle.definition_inline.specs.HtmlText.{after_first}
 
 -- a text stands nowhere in so many bytes at a content's end
 abbrev pub Lacks : List ℕ → List ℕ → ℕ → Type 0

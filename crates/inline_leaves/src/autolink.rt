@@ -8,14 +8,14 @@
 //!     label    ::= letter_or_digit ((letter_or_digit | '-'){0,61} letter_or_digit)?
 ghost use Rattle.std.specs.Prelude.{◌≡◌, IfSome, drop};
 ghost use Rattle.std.specs.Option.{option_map};
-ghost use Rattle.markdown_definition.specs.Autolink.{autolink_at, autolink_after, closed_autolink, uri_end, email_end, domain_end, is_domain, is_domain_label};
-ghost use Rattle.markdown_definition.specs.Content.{content_codes};
+ghost use Rattle.definition_inline.specs.Autolink.{autolink_at, autolink_after, closed_autolink, uri_end, email_end, domain_end, is_domain, is_domain_label};
+ghost use Rattle.definition_text.specs.Content.{content_codes};
 ghost use Rattle.inline_leaves.specs.Leaves.{found_leaf, address_leaf, IsAddress, IsAfter, IsPlain};
 
 use crate::byte_class::{ByteClass, begins_with_letter, prefix_size};
 use crate::cut::{cut_after, text_between};
 use crate::leaf::{Leaf, LeafPart};
-use link_parts::part::from;
+use inline_links::part::from;
 use markdown_options::Constructs;
 
 /// A URI or an email address.

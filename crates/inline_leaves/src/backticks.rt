@@ -4,13 +4,13 @@
 ghost use Rattle.std.specs.Prelude.{◌≡◌, ◌<◌, ℕ, IfOk, IfSome, OnOk, drop, false, if◌then◌else◌, ◌==◌, nat_lt};
 ghost use Rattle.std.specs.List.{prefix_len};
 ghost use Rattle.std.specs.Option.{option_map};
-ghost use Rattle.markdown_definition.specs.CodeText.{run_of};
-ghost use Rattle.markdown_definition.specs.Runs.{run};
+ghost use Rattle.definition_inline.specs.CodeText.{run_of};
+ghost use Rattle.definition_text.specs.Runs.{run};
 ghost use Rattle.inline_leaves.specs.Leaves.{IsRun};
 ghost use Rattle.inline_leaves.specs.LastRuns.{last_end, AreLastRuns};
 ghost use Rattle.inline_leaves.specs.declared.backticks.LastRun.{LastRun as SeenRun};
 
-use link_parts::part::from;
+use inline_links::part::from;
 use std::alloc::{AllocError, Allocator};
 
 /// The last run of backticks of its size.

@@ -1,7 +1,7 @@
 //! Classes of bytes, and how far they reach.
 ghost use Rattle.std.specs.Prelude.{◌≡◌};
 ghost use Rattle.std.specs.List.{prefix_len};
-ghost use Rattle.markdown_definition.specs.Letters.{begins_with_letter};
+ghost use Rattle.definition_text.specs.Bytes.{begins_with_letter};
 ghost use Rattle.inline_leaves.specs.Leaves.{is_of, IsPlain};
 
 /// A class of bytes.

@@ -4,9 +4,9 @@
 //!
 //! Both runs have the same number of backticks, and the text has no run of as many.
 ghost use Rattle.std.specs.Prelude.{◌≡◌, IfOk, IfSome};
-ghost use Rattle.markdown_definition.specs.CodeText.{code_text_at};
-ghost use Rattle.markdown_definition.specs.Content.{content_codes};
-ghost use Rattle.link_parts.specs.Codes.{IsRest};
+ghost use Rattle.definition_inline.specs.CodeText.{code_text_at};
+ghost use Rattle.definition_text.specs.Content.{content_codes};
+ghost use Rattle.inline_links.specs.Codes.{IsRest};
 ghost use Rattle.inline_leaves.specs.Leaves.{found_leaf, IsAfter};
 
 use crate::backticks::run_size;

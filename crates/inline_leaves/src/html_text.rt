@@ -9,17 +9,17 @@
 //! A text ends where what closes it stands first. In a tag a line ending is white space.
 ghost use Rattle.std.specs.Prelude.{◌≡◌, ◌≤◌, IfSome, drop, length, false};
 ghost use Rattle.std.specs.Option.{option_map};
-ghost use Rattle.markdown_definition.specs.HtmlText.{after_first, comment, instruction, declaration, cdata, html_text_at};
-ghost use Rattle.markdown_definition.specs.Content.{content_codes};
-ghost use Rattle.html_lines.specs.Views.{place_of};
+ghost use Rattle.definition_inline.specs.HtmlText.{after_first, comment, instruction, declaration, cdata, html_text_at};
+ghost use Rattle.definition_text.specs.Content.{content_codes};
+ghost use Rattle.inline_tags.specs.Views.{place_of};
 ghost use Rattle.inline_leaves.specs.Leaves.{found_leaf, IsAfter};
-ghost use Rattle.inline_leaves.specs.Html.{line_feed, is_end, tag_after, open_after, closing_after, html_after, IsClosed, ClosesText};
+ghost use Rattle.inline_leaves.specs.HtmlText.{line_feed, is_end, tag_after, open_after, closing_after, html_after, IsClosed, ClosesText};
 
 use crate::byte_class::begins_with_letter;
 use crate::cut::{cut_after, text_before};
 use crate::leaf::{Leaf, LeafPart};
-use html_lines::tags::{Place, next};
-use link_parts::part::from;
+use inline_tags::tags::{Place, next};
+use inline_links::part::from;
 use markdown_options::Constructs;
 
 /// Raw HTML (CommonMark 6.6).

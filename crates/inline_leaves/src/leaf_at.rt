@@ -1,16 +1,16 @@
 //! What a content begins with (CommonMark 6).
 ghost use Rattle.std.specs.Prelude.{◌≡◌, IfOk, IfSome};
-ghost use Rattle.markdown_definition.specs.Content.{content_codes};
-ghost use Rattle.link_parts.specs.Codes.{IsRest};
+ghost use Rattle.definition_text.specs.Content.{content_codes};
+ghost use Rattle.inline_links.specs.Codes.{IsRest};
 ghost use Rattle.inline_leaves.specs.Leaves.{found_leaf, IsAfter};
 ghost use Rattle.inline_leaves.specs.Scanned.{leaf_in};
 
 use crate::autolink::autolink_at;
 use crate::code_text::code_text_at;
-use crate::escape::escape_at;
+use crate::character_escape::escape_at;
 use crate::leaf::Leaf;
-use crate::line_break::{escaped_break_at, line_end_at, line_spaces_at};
-use crate::reference::reference_at;
+use crate::hard_break::{escaped_break_at, line_end_at, line_spaces_at};
+use crate::character_reference::reference_at;
 use crate::searches::Searches;
 use markdown_options::{Constructs, Tables};
 use std::alloc::{AllocError, Allocator};

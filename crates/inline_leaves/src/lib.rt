@@ -6,12 +6,12 @@ pub mod backticks;
 pub mod byte_class;
 pub mod code_text;
 pub mod cut;
-pub mod escape;
+pub mod character_escape;
 pub mod html_text;
 pub mod leaf;
 pub mod leaf_at;
-pub mod line_break;
-pub mod reference;
+pub mod hard_break;
+pub mod character_reference;
 pub mod searches;
 pub mod space;
 #[cfg(test)]

@@ -1,9 +1,9 @@
 //! Searches to the end of a content that found nothing, so that none is made twice.
 ghost use Rattle.std.specs.Prelude.{◌≡◌, ◌≤◌, ◌-◌, [], ◌∷◌, None, drop, length, true};
 ghost use Rattle.std.specs.Option.{ForSome};
-ghost use Rattle.markdown_definition.specs.HtmlText.{after_first};
-ghost use Rattle.link_parts.specs.Codes.{IsRest};
-ghost use Rattle.inline_leaves.specs.Html.{html_after, ClosesText};
+ghost use Rattle.definition_inline.specs.HtmlText.{after_first};
+ghost use Rattle.inline_links.specs.Codes.{IsRest};
+ghost use Rattle.inline_leaves.specs.HtmlText.{html_after, ClosesText};
 ghost use Rattle.inline_leaves.specs.LastRuns.{AreLastRuns};
 ghost use Rattle.inline_leaves.specs.Searched.{Lacks};
 
@@ -11,7 +11,7 @@ use crate::backticks::{LastRun, closing_run, last_end, last_runs};
 use crate::byte_class::begins_with_letter;
 use crate::html_text::{html_text_at, text_end};
 use crate::leaf::Leaf;
-use link_parts::part::from;
+use inline_links::part::from;
 use markdown_options::Constructs;
 use std::alloc::{AllocError, Allocator};
 
@@ -38,10 +38,10 @@ pub struct Searches<'a, A: Allocator> {
 impl<'a, A: Allocator + Clone> Searches<'a, A> {
     ghost use Rattle.std.specs.Prelude.{◌<◌, IfOk, IfSome, false};
     ghost use Rattle.std.specs.Option.{option_map};
-    ghost use Rattle.markdown_definition.specs.CodeText.{run_of};
-    ghost use Rattle.markdown_definition.specs.Runs.{run};
-    ghost use Rattle.markdown_definition.specs.HtmlText.{html_text_at};
-    ghost use Rattle.markdown_definition.specs.Content.{content_codes};
+    ghost use Rattle.definition_inline.specs.CodeText.{run_of};
+    ghost use Rattle.definition_text.specs.Runs.{run};
+    ghost use Rattle.definition_inline.specs.HtmlText.{html_text_at};
+    ghost use Rattle.definition_text.specs.Content.{content_codes};
     ghost use Rattle.inline_leaves.specs.Leaves.{found_leaf, IsAfter, IsRun};
 
     /// Before any search in a content.

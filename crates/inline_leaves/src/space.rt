@@ -3,10 +3,10 @@
 //!     ending ::= CR LF | CR | LF
 ghost use Rattle.std.specs.Prelude.{◌≡◌, MatchOption, false};
 ghost use Rattle.std.specs.List.{prefix_len};
-ghost use Rattle.markdown_definition.specs.Columns.{is_white};
-ghost use Rattle.markdown_definition.specs.Content.{content_codes};
-ghost use Rattle.markdown_definition.specs.Strings.{begins_with_eol};
-ghost use Rattle.markdown_definition.specs.HardBreak.{ends_inner_line, ends_here};
+ghost use Rattle.definition_text.specs.Columns.{is_white};
+ghost use Rattle.definition_text.specs.Content.{content_codes};
+ghost use Rattle.definition_inline.specs.Strings.{begins_with_eol};
+ghost use Rattle.definition_inline.specs.HardBreak.{ends_inner_line, ends_here};
 ghost use Rattle.inline_leaves.specs.Leaves.{ReadsEnding, IsWhite};
 
 use markdown_options::LineEnding;

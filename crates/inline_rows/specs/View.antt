@@ -2,12 +2,12 @@
 use Rattle.std.specs.Prelude.{ℕ, List, [], ◌∷◌, map}
 use Rattle.std.specs.List.{flat_map}
 use Rattle.std.specs.Option.{option_map}
-use Rattle.markdown_definition.specs.Content.{content_codes}
-use Rattle.markdown_definition.specs.Inline.{linked, Inline, Data}
-use Rattle.markdown_definition.specs.Inline as inline
-use Rattle.markdown_definition.specs.InlineRows as rows
+use Rattle.definition_text.specs.Content.{content_codes}
+use Rattle.definition_inline.specs.Inline.{linked, Inline, Data}
+use Rattle.definition_inline.specs.Inline as inline
+use Rattle.inline_rows.specs.InlineRows as rows
 use Rattle.inline_leaves.specs.Leaves.{parts_of}
-use Rattle.attention.specs.View.{span_view}
+use Rattle.inline_runs.specs.View.{span_view}
 use Rattle.inline_rows.specs.declared.row.Linked.{Linked}
 use Rattle.inline_rows.specs.declared.row.LinkTarget.{LinkTarget}
 use Rattle.inline_rows.specs.declared.row.LinkTarget.TheVariants.{Resource, Definition}

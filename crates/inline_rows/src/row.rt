@@ -1,5 +1,5 @@
 //! A row of inline structure.
-use attention::Span;
+use inline_runs::Span;
 use inline_leaves::LeafPart;
 
 /// Where a link or an image leads, as it is written (CommonMark 6.3).

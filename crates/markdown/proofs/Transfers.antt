@@ -8,8 +8,8 @@ use Rattle.std.proofs.KnownBytes.{Appends-nil, Appends-kept, Appends-trans, Cons
 use Rattle.std.proofs.lemmas.List.{length-append, take_all}
 use Rattle.std.proofs.Math.Seq.{take-add}
 use Rattle.markdown_options.specs.declared.configuration.Options.{Options}
-use Rattle.markdown_definition.specs.Html.{html}
-use Rattle.builtin_tables.specs.Builtin.{builtin_tables}
+use Rattle.definition_page.specs.Html.{html}
+use Rattle.markdown_tables.specs.Builtin.{builtin_tables}
 use Rattle.markdown.specs.Run.{AppendsBeginning}
 
 -- the next write goes on where the last one ended

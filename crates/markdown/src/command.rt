@@ -3,8 +3,8 @@ ghost use Rattle.std.specs.Prelude.{◌≡◌, ◌≤◌, ◌↔◌, IfSome, OnO
 ghost use Rattle.std.specs.Io.KnownBytes.{Appends, Keeps};
 ghost use Rattle.markdown.specs.Plain.{options_of, plain_options, dangerous_options};
 ghost use Rattle.markdown_options.specs.Built.{is_built};
-ghost use Rattle.markdown_definition.specs.Html.{html};
-ghost use Rattle.builtin_tables.specs.Builtin.{builtin_tables};
+ghost use Rattle.definition_page.specs.Html.{html};
+ghost use Rattle.markdown_tables.specs.Builtin.{builtin_tables};
 ghost use Rattle.markdown.specs.Run.{AppendsBeginning};
 ghost use Rattle.markdown.specs.Watched.{device, has_failed};
 ghost use Rattle.markdown.specs.Words.{is_command, is_plain, is_dangerous};

@@ -3,19 +3,19 @@ ghost use Rattle.std.specs.Prelude.{◌≡◌, ◌/◌, ◌≤◌, ◌↔◌, Is
 ghost use Rattle.markdown_options.specs.Built.{is_built};
 ghost use Rattle.markdown_options.specs.Messages.{IsOutOfMemory};
 ghost use Rattle.markdown_options.specs.Defaults.{default_options};
-ghost use Rattle.markdown_definition.specs.Html.{html, marked_html, default_ending};
-ghost use Rattle.builtin_tables.specs.Builtin.{builtin_tables};
-ghost use Rattle.inline_text.specs.Texts.{text_tables};
+ghost use Rattle.definition_page.specs.Html.{html, marked_html, default_ending};
+ghost use Rattle.markdown_tables.specs.Builtin.{builtin_tables};
+ghost use Rattle.html_text.specs.Texts.{text_tables};
 
-use block_tree::block_rows;
-use builtin_tables::Builtin;
-use inline_text::Texts;
-use link_table::{definition_contents, document_definitions};
-use markdown_definition::Kind;
+use block_parser::block_rows;
+use markdown_tables::Builtin;
+use html_text::Texts;
+use block_targets::{definition_contents, document_definitions};
+use definition_text::Kind;
 use markdown_options::{LineEnding, Message, Options, Tables};
 use std::alloc::{AllocError, Allocator};
 use text_lines::{Lines, without_mark};
-use tree_html::print_rows;
+use html_page::print_rows;
 
 /// The longest text that is read, in bytes.
 pub const SIZE_MAX: usize = usize::MAX / 8;

@@ -1,11 +1,5 @@
-//! The written definition of Markdown to HTML, and the rows that the tree road hands on.
+//! The written definition of Markdown to HTML, under one name.
 #![tactic(auto)]
 
-pub mod beside;
-pub mod container;
-pub mod laws;
-pub mod row;
-
-pub use beside::{Beside, Kind};
-pub use container::{Container, Item};
-pub use row::{Piece, Row};
+pub use definition_block::{Container, Item};
+pub use definition_text::{Beside, Kind};

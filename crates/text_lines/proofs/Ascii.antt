@@ -5,8 +5,8 @@ use Rattle.std.proofs.lemmas.Str.{IsCharBoundary-after_ascii, IsCharBoundary-sta
 use Rattle.std.specs.Str.{IsCharBoundary, IsUtf8}
 use Rattle.std.specs.List.{position_or_len}
 use Rattle.std.proofs.lemmas.List.Sums.{prefix_len-le-length, passes_at_first}
-use Rattle.markdown_definition.specs.Lines.{ends_line}
-use Rattle.markdown_definition.specs.Columns.{is_white}
+use Rattle.definition_text.specs.Lines.{ends_line}
+use Rattle.definition_text.specs.Columns.{is_white}
 
 pub ends_line_ascii : (b : ℕ) → ends_line b ≡ true → b < 128
 ends_line_ascii b h =

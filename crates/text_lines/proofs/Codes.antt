@@ -3,7 +3,7 @@ use Rattle.std.proofs.Common.{◌≡◌, ℕ, ◌+◌, ◌<◌, suc, zero, List,
 use Rattle.std.specs.Prelude.{replicate}
 use Rattle.std.specs.List.{list_all, prefix_len}
 use Rattle.std.proofs.lemmas.Bool.{cases_Bool, cond-true, cond-false, ne_eqb, eqb-true}
-use Rattle.markdown_definition.specs.Columns.{codes_from, whole, is_white, is_blank, is_byte, is_tab_column, bytes_of, block_codes, tab_column, columns_after_tab}
+use Rattle.definition_text.specs.Columns.{codes_from, whole, is_white, is_blank, is_byte, is_tab_column, bytes_of, block_codes, tab_column, columns_after_tab}
 
 -- ---- columns of a tab are white, and no bytes
 

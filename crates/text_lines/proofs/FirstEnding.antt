@@ -3,7 +3,7 @@ use Rattle.std.proofs.Common.{◌≡◌, ℕ, Bool, true, false, List, Option, N
 use Rattle.std.specs.Prelude.{unwrap_or}
 use Rattle.std.specs.List.{position_or_len}
 use Rattle.std.proofs.lemmas.List.Sums.{position_or_len_is}
-use Rattle.markdown_definition.specs.Lines.{ends_line}
+use Rattle.definition_text.specs.Lines.{ends_line}
 use Rattle.memchr.specs.Find.{IsFirstByte, is_byte2}
 
 not_true : (b : Bool) → (b ≡ true → ⊥) → b ≡ false

@@ -6,7 +6,7 @@ use Rattle.std.specs.List.{position_or_len, prefix_len}
 use Rattle.std.proofs.lemmas.List.Sums.{passes_at_first}
 use Rattle.markdown_options.specs.declared.line_ending.LineEnding.{LineEnding}
 use Rattle.markdown_options.specs.declared.line_ending.LineEnding.TheVariants.{CarriageReturnLineFeed, CarriageReturn, LineFeed}
-use Rattle.markdown_definition.specs.Lines.{text_line, lines, first_of, first_line, ends_line, in_first_line}
+use Rattle.definition_text.specs.Lines.{text_line, lines, first_of, first_line, ends_line, in_first_line}
 use Rattle.text_lines.specs.Endings.{BeginsOtherwise, BeginsWithEnding}
 
 -- no byte begins an ending

@@ -1,7 +1,7 @@
 -- A byte order mark at the start of a text.
 use Rattle.std.proofs.Common.{◌≡◌, ◌≢◌, ℕ, false, List, [], ◌∷◌, ◌&&◌, eqb, inl, inr, refl}
 use Rattle.std.proofs.lemmas.Bool.{eqb-true, cases_Bool, and_parts}
-use Rattle.markdown_definition.specs.Lines.{has_mark}
+use Rattle.definition_text.specs.Lines.{has_mark}
 
 -- a text that doesn't begin with these bytes has no mark
 pub no_mark : (text : List ℕ) → ((rest : List ℕ) → text ≢ 239 ∷ 187 ∷ 191 ∷ rest) → has_mark text ≡ false

@@ -2,7 +2,7 @@
 use Rattle.std.specs.Prelude.{List}
 use Rattle.text_lines.specs.declared.line.Lines.{Lines}
 use Rattle.text_lines.specs.declared.line.Line.{Line}
-use Rattle.markdown_definition.specs.Lines.{TextLine, text_line, lines}
+use Rattle.definition_text.specs.Lines.{TextLine, text_line, lines}
 
 abbrev pub rest_lines : Lines → List TextLine
 rest_lines s = lines s.rest.now

@@ -1,7 +1,7 @@
 //! Spaces and tabs (CommonMark 2.1).
 ghost use Rattle.std.specs.Prelude.{◌≡◌, ◌-◌, drop, take, length};
 ghost use Rattle.std.specs.List.{list_all, prefix_len, suffix_len};
-ghost use Rattle.markdown_definition.specs.Columns.{is_white, is_blank, whole, trimmed};
+ghost use Rattle.definition_text.specs.Columns.{is_white, is_blank, whole, trimmed};
 
 /// Whether a text holds only spaces and tabs.
 pub fn is_blank(text: &str) -> bool

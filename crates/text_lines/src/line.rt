@@ -4,7 +4,7 @@
 //!     ending ::= CR LF | CR | LF
 ghost use Rattle.std.specs.Prelude.{◌≡◌, ◌<◌, ◌≤◌, ◌+◌, ◌^◌, ◌∷◌, length, drop, take, Some, None};
 ghost use Rattle.std.specs.List.{position_or_len};
-ghost use Rattle.markdown_definition.specs.Lines.{ends_line, lines, first_line, text_line};
+ghost use Rattle.definition_text.specs.Lines.{ends_line, lines, first_line, text_line};
 ghost use Rattle.text_lines.specs.Endings.{BeginsWithEnding};
 
 use markdown_options::LineEnding;
@@ -30,7 +30,7 @@ pub struct Lines<'a> {
 
 impl<'a> Lines<'a> {
     ghost use Rattle.text_lines.specs.Rest.{rest_lines};
-    ghost use Rattle.markdown_definition.specs.Lines.{lines, first_line, text_line};
+    ghost use Rattle.definition_text.specs.Lines.{lines, first_line, text_line};
 
     /// The lines of a text.
     pub fn new(text: &'a str) -> Lines<'a>

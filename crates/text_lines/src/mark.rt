@@ -1,8 +1,8 @@
 //! The byte order mark.
 ghost use Rattle.std.specs.Prelude.{◌≡◌};
-ghost use Rattle.markdown_definition.specs.Lines.{kind_before_text, without_mark};
+ghost use Rattle.definition_text.specs.Lines.{kind_before_text, without_mark};
 
-use markdown_definition::Kind;
+use definition_text::Kind;
 
 /// The kind of the character before the first line, and a text without a byte order mark at its
 /// start. The mark is a character of kind other; where there is none, the start of the text counts

@@ -2,8 +2,8 @@ use Rattle.std.proofs.Common.{length, take, sym, ap, ◌∙◌, arith, rules, re
 use Rattle.std.specs.List.{flat_map}
 use Rattle.std.specs.Str.{IsUtf8}
 use Rattle.std.proofs.lemmas.List.{length-append}
-use Rattle.markdown_definition.specs.Content.{content_text, line_text}
-use Rattle.markdown_definition.specs.Rows.{whole_lines}
+use Rattle.definition_text.specs.Content.{content_text, line_text}
+use Rattle.block_rows.specs.Rows.{whole_lines}
 use Rattle.inline_content.proofs.Utf8Bytes.{utf8_bytes}
 use Rattle.inline_content.proofs.FirstLines.{no_front, front_more, whole_end, split_text}
 use Rattle.inline_content.proofs.whole.whole_text.Goals as goal

@@ -1,7 +1,7 @@
 use Rattle.std.proofs.Common.{◌≡◌, drop}
 use denote.Text.{Utf8}
 use denote.Shadow.{shadow}
-use Rattle.markdown_definition.specs.Lines.{lines}
+use Rattle.definition_text.specs.Lines.{lines}
 use Rattle.inline_content.proofs.FirstLines.{IsFront}
 use Rattle.inline_content.proofs.whole.whole_text.Given as goal
 

@@ -1,11 +1,11 @@
 use Rattle.std.proofs.Common.{◌≡◌, ◌+◌, ◌-◌, ◌∙◌, ◌∷◌, [], Some, drop, take, sym, ap, subst, arith}
 use Rattle.std.specs.Prelude.{codes}
-use Rattle.markdown_definition.specs.Content.{content_codes}
-use Rattle.markdown_definition.specs.Letters.{begins_with}
-use Rattle.markdown_definition.specs.Inline.{leaf, Autolink}
-use Rattle.markdown_definition.specs.Autolink.{autolink_after}
+use Rattle.definition_text.specs.Content.{content_codes}
+use Rattle.definition_text.specs.Bytes.{begins_with}
+use Rattle.definition_inline.specs.Inline.{leaf, Autolink}
+use Rattle.definition_inline.specs.Autolink.{autolink_after}
 use Rattle.inline_leaves.specs.Leaves.{IsAddress, address_leaf, size_before}
-use Rattle.inline_leaves.proofs.Autolinks.{autolink_is, autolink_end, autolink_size}
+use Rattle.inline_leaves.proofs.AutolinkLemmas.{autolink_is, autolink_end, autolink_size}
 use Rattle.inline_leaves.proofs.autolink.autolink_at.Goals as goal
 
 pub returns-in_default-clause-read : goal.returns-in_default-clause-read

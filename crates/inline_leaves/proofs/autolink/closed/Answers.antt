@@ -1,11 +1,11 @@
 use Rattle.std.proofs.Common.{◌∙◌, drop, sym, ap, subst}
 use Rattle.std.specs.Prelude.{codes}
 use Rattle.std.specs.Option.{IfSome, option_map}
-use Rattle.markdown_definition.specs.Content.{content_codes}
-use Rattle.markdown_definition.specs.Letters.{begins_with}
-use Rattle.markdown_definition.specs.Autolink.{closed_autolink}
+use Rattle.definition_text.specs.Content.{content_codes}
+use Rattle.definition_text.specs.Bytes.{begins_with}
+use Rattle.definition_inline.specs.Autolink.{closed_autolink}
 use Rattle.inline_leaves.specs.Leaves.{IsPlain}
-use Rattle.inline_leaves.proofs.Autolinks.{closed_codes}
+use Rattle.inline_leaves.proofs.AutolinkLemmas.{closed_codes}
 use Rattle.inline_leaves.proofs.autolink.closed.Goals as goal
 
 pub returns-then-starts_with-clause-read : goal.returns-then-starts_with-clause-read

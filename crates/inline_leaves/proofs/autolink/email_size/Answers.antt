@@ -1,10 +1,10 @@
 use Rattle.std.proofs.Common.{◌≡◌, ◌+◌, ◌∙◌, Some, refl, drop, sym, ap, subst, arith}
 use Rattle.std.proofs.lemmas.List.{drop-drop}
 use Rattle.std.specs.Prelude.{codes}
-use Rattle.markdown_definition.specs.Letters.{begins_with}
-use Rattle.markdown_definition.specs.Autolink.{domain_end}
+use Rattle.definition_text.specs.Bytes.{begins_with}
+use Rattle.definition_inline.specs.Autolink.{domain_end}
 use Rattle.inline_leaves.specs.Leaves.{IsPlain}
-use Rattle.inline_leaves.proofs.Autolinks.{plain_join, plain_one, email_is}
+use Rattle.inline_leaves.proofs.AutolinkLemmas.{plain_join, plain_one, email_is}
 use Rattle.inline_leaves.proofs.autolink.email_size.Goals as goal
 
 pub returns-clause-read : goal.returns-clause-read

@@ -1,8 +1,8 @@
 use Rattle.std.proofs.Common.{◌∙◌, false, true, ap}
-use Rattle.markdown_definition.specs.Content.{content_codes}
-use Rattle.markdown_definition.specs.Inline.{or_else}
-use Rattle.markdown_definition.specs.Autolink.{closed_autolink, email_end}
-use Rattle.inline_leaves.proofs.Autolinks.{uri_found, email_found}
+use Rattle.definition_text.specs.Content.{content_codes}
+use Rattle.definition_inline.specs.Inline.{or_else}
+use Rattle.definition_inline.specs.Autolink.{closed_autolink, email_end}
+use Rattle.inline_leaves.proofs.AutolinkLemmas.{uri_found, email_found}
 use Rattle.inline_leaves.proofs.autolink.find_address.Goals as goal
 
 pub returns-in-Some-clause-read : goal.returns-in-Some-clause-read

@@ -2,7 +2,7 @@ use Rattle.std.proofs.Common.{◌≡◌, ℕ, List, [], ◌∷◌, ◌∙◌, co
 use Rattle.std.specs.List.{list_all, onto_first, slice_split}
 use Rattle.std.proofs.lemmas.Iterator.Splits.{YieldsList-from_slice_split}
 use Rattle.std.proofs.lemmas.Iterator.Search.{all_from_yields_List}
-use Rattle.markdown_definition.specs.Autolink.{between_dots, in_first, is_domain_label}
+use Rattle.definition_inline.specs.Autolink.{between_dots, in_first, is_domain_label}
 use Rattle.inline_leaves.proofs.autolink.is_domain.Goals as goal
 
 onto : (b : ℕ) (parts : List (List ℕ)) → onto_first b parts ≡ in_first b parts

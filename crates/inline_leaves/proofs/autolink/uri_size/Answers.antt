@@ -2,10 +2,10 @@ use Rattle.std.proofs.Common.{◌+◌, ◌∙◌, refl, drop, sym, ap, subst, ar
 use Rattle.std.proofs.lemmas.List.{drop-drop}
 use Rattle.std.specs.Prelude.{codes}
 use Rattle.std.specs.List.{prefix_len}
-use Rattle.markdown_definition.specs.Letters.{begins_with}
-use Rattle.markdown_definition.specs.Autolink.{is_uri_byte}
+use Rattle.definition_text.specs.Bytes.{begins_with}
+use Rattle.definition_inline.specs.Autolink.{is_uri_byte}
 use Rattle.inline_leaves.specs.Leaves.{IsPlain}
-use Rattle.inline_leaves.proofs.Autolinks.{plain_join, plain_one, uri_is}
+use Rattle.inline_leaves.proofs.AutolinkLemmas.{plain_join, plain_one, uri_is}
 use Rattle.inline_leaves.proofs.autolink.uri_size.Goals as goal
 
 pub returns-clause-read : goal.returns-clause-read

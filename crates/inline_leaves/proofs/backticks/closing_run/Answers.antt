@@ -1,8 +1,8 @@
 use Rattle.std.proofs.Common.{◌≡◌, ◌+◌, arith, eqb, drop, ap, sym, ◌∙◌, subst, length-drop}
 use Rattle.std.proofs.lemmas.Bool.{cond-true, cond-false, eq-eqb, ne_eqb}
-use Rattle.markdown_definition.specs.Runs.{run}
+use Rattle.definition_text.specs.Runs.{run}
 use Rattle.inline_leaves.specs.Leaves.{IsRun}
-use Rattle.inline_leaves.proofs.CodeSpans.{past_here}
+use Rattle.inline_leaves.proofs.CodeTextLemmas.{past_here}
 use Rattle.inline_leaves.proofs.backticks.closing_run.Goals as goal
 use Rattle.inline_leaves.proofs.backticks.closing_run.Goals.{then-run-eq0, else-run-eq0}
 

@@ -1,5 +1,5 @@
 use Rattle.std.proofs.Common.{◌≡◌, ◌≤◌, ◌-◌, length, drop, false}
-use Rattle.markdown_definition.specs.CodeText.{run_of}
+use Rattle.definition_inline.specs.CodeText.{run_of}
 use Rattle.inline_leaves.proofs.backticks.closing_run.Given as goal
 
 -- what is left has the answer

@@ -1,5 +1,5 @@
 use Rattle.std.proofs.Common.{◌∙◌, sym, ap, subst, length-drop, arith}
-use Rattle.markdown_definition.specs.Runs.{run}
+use Rattle.definition_text.specs.Runs.{run}
 use Rattle.inline_leaves.specs.Leaves.{IsRun}
 use Rattle.inline_leaves.proofs.LastRuns.{past_byte, past_kept}
 use Rattle.inline_leaves.proofs.backticks.last_runs.Goals as goal

@@ -1,5 +1,5 @@
 use Rattle.std.proofs.Common.{arith, length}
-use Rattle.inline_leaves.proofs.CodeSpans.{run_is}
+use Rattle.inline_leaves.proofs.CodeTextLemmas.{run_is}
 use Rattle.inline_leaves.proofs.backticks.run_size.Goals as goal
 
 pub returns-then-b-ne96-clause-size : goal.returns-then-b-ne96-clause-size

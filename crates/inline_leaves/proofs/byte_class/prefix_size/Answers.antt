@@ -2,7 +2,7 @@ use Rattle.std.proofs.Common.{◌≡◌, arith, length}
 use Rattle.std.proofs.lemmas.Grind.{common_steps}
 use Rattle.std.specs.List.{prefix_len}
 use Rattle.inline_leaves.specs.Leaves.{is_of}
-use Rattle.inline_leaves.proofs.Autolinks.{class_plain}
+use Rattle.inline_leaves.proofs.AutolinkLemmas.{class_plain}
 use Rattle.inline_leaves.proofs.byte_class.prefix_size.Goals as goal
 
 pub returns-then-not-is_of-clause-plain : goal.returns-then-not-is_of-clause-plain

@@ -1,12 +1,12 @@
 use Rattle.std.specs.Option.{option_map}
 use Rattle.std.proofs.Common.{◌≡◌, ◌∷◌, [], None, Some, IfSome, false, arith, drop, take, map, ap, sym, ◌∙◌, subst}
-use Rattle.markdown_definition.specs.Content.{content_codes}
-use Rattle.markdown_definition.specs.CodeText.{run_of, code_text}
-use Rattle.markdown_definition.specs.Runs.{run}
-use Rattle.markdown_definition.specs.Inline.{leaf, Data, Code}
+use Rattle.definition_text.specs.Content.{content_codes}
+use Rattle.definition_inline.specs.CodeText.{run_of, code_text}
+use Rattle.definition_text.specs.Runs.{run}
+use Rattle.definition_inline.specs.Inline.{leaf, Data, Code}
 use Rattle.inline_leaves.specs.Leaves.{IsRun, size_before}
 use Rattle.inline_leaves.proofs.Codes.{boundary_after_byte}
-use Rattle.inline_leaves.proofs.CodeSpans.{after_it, code_off, code_none, code_unclosed, code_closed, open_end, close_end, boundary_at_run}
+use Rattle.inline_leaves.proofs.CodeTextLemmas.{after_it, code_off, code_none, code_unclosed, code_closed, open_end, close_end, boundary_at_run}
 use Rattle.inline_leaves.proofs.code_text.code_text_at.Goals as goal
 use Rattle.inline_leaves.proofs.code_text.code_text_at.Goals.{then-not-on-via-then-not-on, then-not-on-via-else-not-on+then-size-eq0}
 

@@ -1,7 +1,7 @@
 use Rattle.std.proofs.Common.{◌∙◌, sym, ap}
 use Rattle.std.specs.Prelude.{codes}
-use Rattle.markdown_definition.specs.Letters.{begins_with}
-use Rattle.inline_leaves.proofs.HtmlTexts.{short_comment, dash_comment}
+use Rattle.definition_text.specs.Bytes.{begins_with}
+use Rattle.inline_leaves.proofs.HtmlTextLemmas.{short_comment, dash_comment}
 use Rattle.inline_leaves.proofs.html_text.comment.Goals as goal
 
 pub returns-then-starts_with-clause-read : goal.returns-then-starts_with-clause-read

@@ -1,12 +1,12 @@
 use Rattle.std.proofs.Common.{◌≡◌, ◌∙◌, ◌∷◌, [], None, Some, drop, sym, ap, arith, subst}
-use Rattle.markdown_definition.specs.Content.{content_codes}
-use Rattle.markdown_definition.specs.Inline.{leaf, Html}
+use Rattle.definition_text.specs.Content.{content_codes}
+use Rattle.definition_inline.specs.Inline.{leaf, Html}
 use Rattle.std.specs.Prelude.{codes}
-use Rattle.markdown_definition.specs.Letters.{begins_with}
+use Rattle.definition_text.specs.Bytes.{begins_with}
 use Rattle.inline_leaves.specs.Leaves.{size_before}
-use Rattle.inline_leaves.specs.Html.{html_after, IsClosed}
+use Rattle.inline_leaves.specs.HtmlText.{html_after, IsClosed}
 use Rattle.inline_leaves.proofs.Codes.{boundary_after_byte}
-use Rattle.inline_leaves.proofs.HtmlTexts.{are_bytes, closed_end, html_none, html_some}
+use Rattle.inline_leaves.proofs.HtmlTextLemmas.{are_bytes, closed_end, html_none, html_some}
 use Rattle.inline_leaves.proofs.html_text.html_text_at.Goals as goal
 
 pub returns-in_default-clause-read : goal.returns-in_default-clause-read

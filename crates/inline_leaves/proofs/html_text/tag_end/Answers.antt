@@ -1,8 +1,8 @@
 use Rattle.std.proofs.Common.{◌≡◌, ◌∙◌, ◌+◌, ◌-◌, get_or, sym, ap, arith}
-use Rattle.html_lines.specs.Views.{place_of}
-use Rattle.html_lines.specs.Places.{next}
-use Rattle.inline_leaves.specs.Html.{is_end}
-use Rattle.inline_leaves.proofs.HtmlTexts.{ends_at_greater}
+use Rattle.inline_tags.specs.Views.{place_of}
+use Rattle.inline_tags.specs.Places.{next}
+use Rattle.inline_leaves.specs.HtmlText.{is_end}
+use Rattle.inline_leaves.proofs.HtmlTextLemmas.{ends_at_greater}
 use Rattle.inline_leaves.proofs.html_text.tag_end.Goals as goal
 
 pub returns-in-End-clause-place : goal.returns-in-End-clause-place

@@ -1,6 +1,6 @@
 use Rattle.std.proofs.Common.{◌≡◌, drop, false}
-use Rattle.html_lines.specs.Views.{place_of}
-use Rattle.inline_leaves.specs.Html.{tag_after, is_end}
+use Rattle.inline_tags.specs.Views.{place_of}
+use Rattle.inline_leaves.specs.HtmlText.{tag_after, is_end}
 use Rattle.inline_leaves.proofs.html_text.tag_end.Given as goal
 
 -- what is left has the answer

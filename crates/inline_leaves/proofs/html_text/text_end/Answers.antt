@@ -1,6 +1,6 @@
 use Rattle.std.proofs.Common.{◌∙◌, sym, ap, arith}
-use Rattle.markdown_definition.specs.Letters.{begins_with}
-use Rattle.inline_leaves.proofs.HtmlTexts.{closed_at, first_later}
+use Rattle.definition_text.specs.Bytes.{begins_with}
+use Rattle.inline_leaves.proofs.HtmlTextLemmas.{closed_at, first_later}
 use Rattle.inline_leaves.proofs.html_text.text_end.Goals as goal
 
 pub returns-then-starts_with-clause-place : goal.returns-then-starts_with-clause-place

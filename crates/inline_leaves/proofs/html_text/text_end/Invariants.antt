@@ -1,5 +1,5 @@
 use Rattle.std.proofs.Common.{◌≡◌, drop}
-use Rattle.markdown_definition.specs.HtmlText.{after_first}
+use Rattle.definition_inline.specs.HtmlText.{after_first}
 use Rattle.inline_leaves.proofs.html_text.text_end.Given as goal
 
 -- what is left has the answer

@@ -1,8 +1,8 @@
 use Rattle.std.proofs.Common.{◌≡◌, ◌⊎◌, IfOk, sym, ap, ◌∙◌, subst, get_or, arith}
-use Rattle.markdown_definition.specs.Content.{content_codes}
-use Rattle.markdown_definition.specs.HardBreak.{escaped_break_at}
-use Rattle.markdown_definition.specs.HtmlText.{html_text_at}
-use Rattle.markdown_definition.specs.Inline.{or_else}
+use Rattle.definition_text.specs.Content.{content_codes}
+use Rattle.definition_inline.specs.HardBreak.{escaped_break_at}
+use Rattle.definition_inline.specs.HtmlText.{html_text_at}
+use Rattle.definition_inline.specs.Inline.{or_else}
 use Rattle.inline_leaves.specs.Leaves.{found_leaf}
 use Rattle.inline_leaves.proofs.FirstBytes as first
 use Rattle.inline_leaves.proofs.leaf_at.leaf_at.Goals as goal

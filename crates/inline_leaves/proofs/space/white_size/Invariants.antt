@@ -1,6 +1,6 @@
 use Rattle.std.proofs.Common.{◌≡◌, ◌+◌, drop}
 use Rattle.std.specs.List.{prefix_len}
-use Rattle.markdown_definition.specs.Columns.{is_white}
+use Rattle.definition_text.specs.Columns.{is_white}
 use Rattle.inline_leaves.proofs.space.white_size.Given as goal
 
 -- the bytes so far are white

@@ -2,8 +2,8 @@ use Rattle.std.proofs.Common.{IfSome, inl, inr, subst}
 use Rattle.std.specs.Io.KnownBytes.{Appends}
 use Rattle.std.proofs.lemmas.Bool.{cases_Bool}
 use Rattle.markdown_options.specs.declared.configuration.Options.{Options}
-use Rattle.markdown_definition.specs.Html.{html}
-use Rattle.builtin_tables.specs.Builtin.{builtin_tables}
+use Rattle.definition_page.specs.Html.{html}
+use Rattle.markdown_tables.specs.Builtin.{builtin_tables}
 use Rattle.markdown.specs.Faults.{is_write_error}
 use Rattle.std.specs.Prelude.{map, string_bytes}
 use Rattle.markdown.specs.Plain.{options_of}

@@ -2,21 +2,21 @@ use Rattle.std.proofs.Common.{List, ap, sym, ◌∙◌, refl, subst, ℕ, ◌<�
 use Rattle.std.proofs.lemmas.Result.{IfOk-weaker}
 use Rattle.markdown_options.specs.declared.line_ending.LineEnding.{LineEnding}
 use Rattle.markdown_options.specs.LineEndings.{ending_bytes}
-use Rattle.markdown_definition.specs.declared.row.Row.{Row}
-use Rattle.markdown_definition.specs.declared.row.Piece.{Piece}
-use Rattle.markdown_definition.specs.Document.{document}
-use Rattle.markdown_definition.specs.Pieces.{layout}
-use Rattle.markdown_definition.specs.Html.{document_pieces}
-use Rattle.markdown_definition.specs.Targets.{document_definitions}
-use Rattle.markdown_definition.specs.Tree.{blocks}
-use Rattle.markdown_definition.specs.Rows.{Shown, piece_lines, shown}
+use Rattle.block_rows.specs.declared.row.Row.{Row}
+use Rattle.block_rows.specs.declared.row.Piece.{Piece}
+use Rattle.definition_page.specs.Document.{document}
+use Rattle.definition_page.specs.Pieces.{layout}
+use Rattle.definition_page.specs.Html.{document_pieces}
+use Rattle.definition_page.specs.Targets.{document_definitions}
+use Rattle.definition_block.specs.Tree.{blocks}
+use Rattle.block_rows.specs.Rows.{Shown, piece_lines, shown}
 use Rattle.std.specs.Prelude.{map}
 use Rattle.inline_rows.specs.View.{linked_view}
 use Rattle.inline_rows.specs.declared.row.Linked.{Linked}
-use Rattle.inline_text.specs.Texts.{HasDefinitions, text_tables}
-use Rattle.tree_html.specs.Printable.{ArePrintable}
-use Rattle.tree_html.proofs.RowsOf.{printable_rows_of}
-use Rattle.tree_html.proofs.Printable.{blocks_printable}
+use Rattle.html_text.specs.Texts.{HasDefinitions, text_tables}
+use Rattle.html_page.specs.Printable.{ArePrintable}
+use Rattle.html_page.proofs.RowsOf.{printable_rows_of}
+use Rattle.html_page.proofs.Printable.{blocks_printable}
 use Rattle.markdown.proofs.convert.print.Goals as goal
 
 pub print_rows-requires-clause-printable : goal.print_rows-requires-clause-printable

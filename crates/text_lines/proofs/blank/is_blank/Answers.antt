@@ -1,6 +1,6 @@
 use Rattle.std.proofs.Common.{sym, ap, ◌∙◌}
 use Rattle.std.specs.List.{list_all}
-use Rattle.markdown_definition.specs.Columns.{is_white}
+use Rattle.definition_text.specs.Columns.{is_white}
 use Rattle.text_lines.proofs.Codes.{blank_codes}
 use Rattle.text_lines.proofs.blank.is_blank.Goals as goal
 

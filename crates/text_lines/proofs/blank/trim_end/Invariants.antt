@@ -1,6 +1,6 @@
 use Rattle.std.proofs.Common.{◌≡◌, ◌≤◌, ◌<◌, ◌+◌, length, take, get_or, true}
 use Rattle.std.specs.List.{suffix_len}
-use Rattle.markdown_definition.specs.Columns.{is_white}
+use Rattle.definition_text.specs.Columns.{is_white}
 use Rattle.text_lines.proofs.blank.trim_end.Given as goal
 
 -- what was cut off so far is of the suffix of spaces and tabs

@@ -1,7 +1,7 @@
 use Rattle.std.proofs.Common.{◌≡◌, ◌≤◌, length, get_or, false, drop, sym, ap, ◌∙◌, arith}
 use Rattle.std.proofs.lemmas.List.{drop_all}
 use Rattle.std.proofs.lemmas.List.Sums.{prefix_len_is}
-use Rattle.markdown_definition.specs.Columns.{is_white}
+use Rattle.definition_text.specs.Columns.{is_white}
 use Rattle.text_lines.proofs.Ascii.{boundary_after, space_ascii}
 use Rattle.text_lines.proofs.blank.trim_start.Goals as goal
 

@@ -1,5 +1,5 @@
 use Rattle.std.proofs.Common.{◌≡◌, ◌<◌, ℕ, get_or, true}
-use Rattle.markdown_definition.specs.Columns.{is_white}
+use Rattle.definition_text.specs.Columns.{is_white}
 use Rattle.text_lines.proofs.blank.trim_start.Given as goal
 
 -- every byte so far is a space or a tab

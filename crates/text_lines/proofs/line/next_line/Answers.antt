@@ -2,7 +2,7 @@ use Rattle.std.proofs.Common.{◌∷◌, sym, ◌∙◌, ap, length, arith}
 use Rattle.std.specs.List.{position_or_len}
 use Rattle.std.proofs.lemmas.List.{length-take, length-drop}
 use Rattle.text_lines.proofs.FirstLine.{first_line_is, next_lines, shorter_rest}
-use Rattle.markdown_definition.specs.Lines.{ends_line, lines, text_line}
+use Rattle.definition_text.specs.Lines.{ends_line, lines, text_line}
 use Rattle.text_lines.proofs.line.next_line.Goals as goal
 
 pub returns-clause-first : goal.returns-clause-first

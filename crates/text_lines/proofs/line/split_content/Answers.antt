@@ -1,7 +1,7 @@
 use Rattle.std.proofs.Common.{◌∙◌, ap, sym, subst}
 use Rattle.std.specs.Str.{IsCharBoundary}
 use Rattle.std.specs.List.{position_or_len}
-use Rattle.markdown_definition.specs.Lines.{ends_line}
+use Rattle.definition_text.specs.Lines.{ends_line}
 use Rattle.text_lines.proofs.Ascii.{boundary_content}
 use Rattle.text_lines.proofs.line.split_content.Goals as goal
 

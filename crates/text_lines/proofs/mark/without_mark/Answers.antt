@@ -1,6 +1,6 @@
 use Rattle.std.proofs.Common.{sym, ap, ◌∙◌}
 use Rattle.std.proofs.lemmas.Bool.{cond-false}
-use Rattle.markdown_definition.specs.Lines.{kind_before_text, without_mark}
+use Rattle.definition_text.specs.Lines.{kind_before_text, without_mark}
 use Rattle.text_lines.proofs.MarkBytes.{no_mark}
 use lib.Utf8.{encode}
 use Rattle.text_lines.proofs.mark.without_mark.Goals as goal

@@ -3,13 +3,13 @@ use Rattle.std.specs.Prelude.{map}
 use Rattle.std.specs.List.{flat_map}
 use Rattle.std.proofs.lemmas.List.{map_more, take_all, length-append}
 use Rattle.markdown_options.specs.declared.line_ending.LineEnding.{LineEnding}
-use Rattle.markdown_definition.specs.Lines.{ending_text}
-use Rattle.markdown_definition.specs.Columns.{code_byte}
-use Rattle.markdown_definition.specs.Blocks.{BlockLine, last_ending}
-use Rattle.markdown_definition.specs.Content.{content_text, line_text}
-use Rattle.markdown_definition.specs.Rows.{piece_line, piece_lines}
-use Rattle.markdown_definition.proofs.RowSteps.{no_piece}
-use Rattle.markdown_definition.proofs.OwnLines.{last_ending_more, lines_more, with_last_ending}
+use Rattle.definition_text.specs.Lines.{ending_text}
+use Rattle.definition_text.specs.Columns.{code_byte}
+use Rattle.definition_text.specs.BlockLines.{BlockLine, last_ending}
+use Rattle.definition_text.specs.Content.{content_text, line_text}
+use Rattle.block_rows.specs.Rows.{piece_line, piece_lines}
+use Rattle.block_rows.proofs.RowSteps.{no_piece}
+use Rattle.block_rows.proofs.OwnLines.{last_ending_more, lines_more, with_last_ending}
 use Rattle.inline_content.specs.Lines.{mark_of, marks_of}
 use Rattle.inline_content.specs.View.{marked}
 use Rattle.inline_content.proofs.Lined.{content_is, content_lines_apart, lines_agree, marks_more}

@@ -1,9 +1,9 @@
 use Rattle.std.proofs.Common.{◌≡◌, ◌≤◌, string_bytes, length, take}
 use Rattle.std.specs.List.{All}
 use Rattle.std.specs.List.Sorted.{IsNonDecreasingBy}
-use Rattle.markdown_definition.specs.Blocks.{last_ending}
-use Rattle.markdown_definition.specs.Rows.{piece_lines}
-use Rattle.markdown_definition.specs.Content.{content_text}
+use Rattle.definition_text.specs.BlockLines.{last_ending}
+use Rattle.block_rows.specs.Rows.{piece_lines}
+use Rattle.definition_text.specs.Content.{content_text}
 use Rattle.inline_content.specs.declared.mark.Mark.{Mark}
 use Rattle.inline_content.specs.Lines.{marks_of}
 use Rattle.inline_content.specs.Marks.{mark_place}

@@ -2,10 +2,10 @@ use Rattle.std.proofs.Common.{◌≡◌, ℕ, ◌<◌, ◌==◌, true, false, So
 use Rattle.std.specs.List.{prefix_len}
 use Rattle.std.specs.Str.{IsUtf8}
 use Rattle.std.proofs.lemmas.Bool.{eqb-true, true≢false}
-use Rattle.markdown_definition.specs.declared.beside.Kind.TheVariants.{Whitespace}
-use Rattle.markdown_definition.specs.Content.{content_codes}
-use Rattle.markdown_definition.specs.InlineCode.{first_kind}
-use Rattle.markdown_definition.specs.Attention.{Run, is_marker, run_between}
+use Rattle.definition_text.specs.declared.beside.Kind.TheVariants.{Whitespace}
+use Rattle.definition_text.specs.Content.{content_codes}
+use Rattle.definition_text.specs.InlineCode.{first_kind}
+use Rattle.definition_inline.specs.Attention.{Run, is_marker, run_between}
 use Rattle.inline_content.specs.View.{line_left}
 use Rattle.inline_content.proofs.Runs.{no_run, a_run, run_boundary}
 use Rattle.inline_content.proofs.content.Content.run_at.Goals.{then-is_empty-via-then-is_empty, then-is_empty-via-else-is_empty+then-not-is_marker}

@@ -1,6 +1,6 @@
 use Rattle.std.proofs.Common.{◌≡◌, None, sym, subst, arith}
-use Rattle.inline_leaves.specs.Html.{html_after}
-use Rattle.inline_leaves.proofs.HtmlTexts.{are_bytes}
+use Rattle.inline_leaves.specs.HtmlText.{html_after}
+use Rattle.inline_leaves.proofs.HtmlTextLemmas.{are_bytes}
 use Rattle.inline_leaves.proofs.Searching.{html_lacks}
 use Rattle.inline_leaves.proofs.searches.Searches.html_text_at.Goals as goal
 

@@ -1,9 +1,9 @@
 use Rattle.std.proofs.Common.{◌∙◌, sym, ap, subst}
 use Rattle.std.specs.Prelude.{codes}
 use Rattle.std.proofs.lemmas.Bool.{leb-true}
-use Rattle.link_parts.specs.Codes.{IsRest}
-use Rattle.markdown_definition.specs.Letters.{begins_with_letter}
-use Rattle.markdown_definition.specs.HtmlText.{after_first}
+use Rattle.inline_links.specs.Codes.{IsRest}
+use Rattle.definition_text.specs.Bytes.{begins_with_letter}
+use Rattle.definition_inline.specs.HtmlText.{after_first}
 use Rattle.inline_leaves.proofs.Searching.{rest_after_text, no_declaration_end}
 use Rattle.inline_leaves.proofs.searches.Searches.lacks_end.Goals as goal
 

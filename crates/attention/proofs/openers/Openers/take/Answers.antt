@@ -1,7 +1,0 @@
-use Rattle.std.proofs.Common.{◌-◌, ap, sym, ◌∙◌, map}
-use Rattle.std.proofs.lemmas.List.{take-map}
-use Rattle.attention.specs.Floors.{opener_view}
-use Rattle.attention.proofs.openers.Openers.take.Goals as goal
-
-pub returns-clause-openers : goal.returns-clause-openers
-returns-clause-openers g c = ap (map opener_view) c.truncate.ensures.items ∙ sym (take-map opener_view (c.args.count - 1) c.args.self.now.openers.items)

@@ -1,7 +1,0 @@
-use Rattle.std.proofs.Common.{sym}
-use Rattle.block_lines.specs.View.{rest_of}
-use Rattle.block_lines.proofs.Items.{bullet_none}
-use Rattle.block_lines.proofs.list_item.bullet.Goals as goal
-
-pub returns-in_default : goal.returns-in_default
-returns-in_default c = sym (bullet_none (rest_of c.args.rest) c.in_default.ensures)

@@ -1,5 +1,0 @@
-pub mod Marks
-pub mod View
-pub mod Markers
-pub mod Headings
-pub mod Fences

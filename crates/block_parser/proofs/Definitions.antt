@@ -1,0 +1,135 @@
+-- Definitions that are cut from the front of the open paragraph.
+use Rattle.std.proofs.Common.{◌≡◌, ◌∷◌, [], ◌<◌, ◌≤◌, ℕ, zero, suc, if◌then◌else◌, Bool, true, false, List, Option, None, Some, refl, sym, ap, ◌∙◌, subst, take, drop, length, arith}
+use Rattle.std.proofs.lemmas.Bool.{cond-true, cond-false}
+use Rattle.std.proofs.lemmas.List.{length-map}
+use Rattle.markdown_options.specs.declared.line_ending.LineEnding.{LineEnding}
+use Rattle.markdown_options.specs.declared.configuration.Constructs.{Constructs}
+use Rattle.block_rows.specs.declared.row.Row.TheVariants as row
+use Rattle.block_rows.specs.declared.row.Piece.{Piece}
+use Rattle.definition_text.specs.BlockLines.{BlockLine, last_ending, last_ending_or, own_lines}
+use Rattle.definition_block.specs.Tree.{Blocks, Nil, join, Definition, Text, is_some_line}
+use Rattle.std.specs.Option.{option_map}
+use Rattle.definition_text.specs.Columns.{code_byte}
+use Rattle.definition_text.specs.Content.{content_of, content_text}
+use Rattle.definition_inline.specs.Definition.{definition, definition_at}
+use Rattle.definition_block.specs.Definitions.{Cut, cut_into, cut_most, cut, defined, lines_before}
+use Rattle.block_rows.specs.ParagraphLines.{AreLines}
+use Rattle.block_rows.specs.Rows.{Single, definition_on, definition_shown, row_shown, block_rows, piece_line, piece_lines}
+use Rattle.block_rows.proofs.DefinitionLines.{definition_cuts}
+use Rattle.definition_inline.proofs.LinkRenaming.{renamed_definition, definition_renamed, code_byte-renames}
+use Rattle.block_definitions.specs.declared.front.DefinitionEnd.{DefinitionEnd}
+use Rattle.block_definitions.specs.Ends.{EndsAt}
+use Rattle.block_definitions.proofs.Contents.{content_is}
+use Rattle.block_definitions.proofs.Cuts.{cut_all, cut_none, cut_one}
+use Rattle.block_parser.specs.declared.parser.Parser.{Parser}
+use Rattle.block_parser.specs.Spine.{Level, spine}
+use Rattle.block_parser.specs.View.{HasRead}
+use Rattle.block_parser.proofs.Trees.{join-assoc, join-nil}
+
+-- ---- whether any are cut
+
+pub cut_on : (on : Constructs) (ls : List BlockLine) → on.definition ≡ true → cut on ls ≡ cut_all ls
+cut_on on ls h = cond-true on.definition _ _ h
+
+pub cut_off : (on : Constructs) (ls : List BlockLine) → on.definition ≡ false → cut on ls ≡ cut_into Nil ls
+cut_off on ls h = cond-false on.definition _ _ h
+
+either : (b : Bool) (x y : Cut) → x ≡ y → (if b then x else y) ≡ y
+either true x y h = h
+either false x y h = refl
+
+pub cut_not : (on : Constructs) (ls : List BlockLine) → definition_at (content_of (own_lines ls)) ≡ None → cut on ls ≡ cut_into Nil ls
+cut_not on ls none = either on.definition (cut_all ls) (cut_into Nil ls) (cut_none ls none)
+
+-- whether lines are left after them
+pub more_left : (on : Constructs) (ls : List BlockLine) (pieces : List Piece) → on.definition ≡ true → ls ≡ piece_lines pieces
+    → is_some_line (cut_most (length pieces) (piece_lines pieces)).left ≡ is_some_line (cut on ls).left
+more_left on ls pieces is same =
+    ap (λ n. is_some_line (cut_most n (piece_lines pieces)).left) (sym (length-map pieces piece_line))
+    ∙ ap (λ xs. is_some_line (cut_all xs).left) (sym same)
+    ∙ ap (λ (x : Cut). is_some_line x.left) (sym (cut_on on ls is))
+
+-- ---- the ending of the last line
+
+last_drop : (e : Option LineEnding) (n : ℕ) (ls : List BlockLine) → n < length ls → last_ending (drop n ls) ≡ last_ending_or e ls
+last_drop e n [] h = absurd (omega (arith, h))
+last_drop e zero (l ∷ ls) h = refl
+last_drop e (suc n) (l ∷ ls) h = last_drop l.ending n ls (omega (arith, h))
+
+-- it is that of what is left, if anything is
+pub last_left : (n : ℕ) (ls : List BlockLine) → n < length ls → last_ending ls ≡ last_ending (drop n ls)
+last_left n ls h = sym (last_drop None n ls h)
+
+-- ---- one after another
+
+-- so many were cut, and these lines are left, whose content stands at a place of that of all
+pub record Cutting {A : Type 0} (now : Parser A) (content : List ℕ) (around : List Level) (kids : Blocks) (ls : List BlockLine) : Type 0 where
+  pub definitions : Blocks
+  pub left : List BlockLine
+  pub reads : HasRead now (spine around (join kids definitions) (Text left))
+  pub clean : AreLines left
+  pub rest : content ≡ content_text left
+  pub same : cut_all ls ≡ cut_into (join definitions (cut_all left).definitions) (cut_all left).left
+
+pub none_yet : {A : Type 0} (p : Parser A) (content : List ℕ) (around : List Level) (kids : Blocks) (ls : List BlockLine)
+    → HasRead p (spine around kids (Text ls)) → AreLines ls → content ≡ content_text ls → Cutting p content around kids ls
+none_yet p content around kids ls h clean is = record {
+  definitions = Nil;
+  left = ls;
+  reads = subst (λ (bs : Blocks). HasRead p (spine around bs (Text ls))) (sym (join-nil kids)) h;
+  clean = clean;
+  rest = is;
+  same = refl;
+}
+
+-- where a definition ends, by equations
+pub ends_as : (content content2 : List ℕ) (ls ls2 : List BlockLine) (end : DefinitionEnd) → content ≡ content2 → ls2 ≡ ls → EndsAt content ls end → EndsAt content2 ls2 end
+ends_as content content2 ls ls2 end c l h =
+    subst (λ (x : List ℕ). EndsAt x ls2 end) c (subst (λ (x : List BlockLine). EndsAt content x end) (sym l) h)
+
+-- the first of a paragraph's lines
+first_lines : (n : ℕ) (ls : List BlockLine) → AreLines ls → 1 ≤ n → AreLines (take n ls)
+first_lines zero ls h some = absurd (omega (arith, some))
+first_lines (suc n) [] h some = tt
+first_lines (suc zero) (line ∷ []) h some = h
+first_lines (suc (suc n)) (line ∷ []) h some = h
+first_lines (suc zero) (line ∷ next ∷ others) h some = (h.0, h.1)
+first_lines (suc (suc n)) (line ∷ next ∷ others) h some = (h.0, h.1, h.2, first_lines (suc n) (next ∷ others) h.3 (omega arith))
+
+-- the row of a definition
+pub row_of_definition : (content : List ℕ) (ls : List BlockLine) (end : DefinitionEnd) → AreLines ls → (h : EndsAt content ls end)
+    → block_rows (Definition h.read.label h.read.destination h.read.title) ≡ row_shown (row.Definition end.lines) ls ∷ []
+row_of_definition content ls end clean h =
+    let count = lines_before h.read.rest ls in
+    let cuts = definition_cuts ls h.read clean h.found in
+    let own = take count ls in
+    let own_clean = first_lines count ls clean cuts.some in
+    let read : definition_on own ≡ Some (renamed_definition code_byte (definition h.read.label h.read.destination h.read.title [])) =
+    ap definition_at (content_is own own_clean) ∙ definition_renamed code_byte code_byte-renames (content_of (own_lines own)) ∙ ap (option_map (renamed_definition code_byte)) cuts.again in
+    ap (λ o. Single (definition_shown o) ∷ []) (sym read)
+    ∙ ap (λ n. row_shown (row.Definition n) ls ∷ []) (sym h.count)
+
+pub one_more : {A : Type 0} (p q : Parser A) (content : List ℕ) (around : List Level) (kids : Blocks) (ls : List BlockLine) (k : Cutting p content around kids ls) (end : DefinitionEnd)
+    (h : EndsAt content k.left end) → HasRead q (spine around (join (join kids k.definitions) (defined h.read (take end.lines k.left))) (Text (drop end.lines k.left)))
+    → Cutting q (drop end.bytes content) around kids ls
+one_more p q content around kids ls k end h reads =
+    let more = defined h.read (take end.lines k.left) in
+    let others = cut_all (drop end.lines k.left) in
+    record {
+      definitions = join k.definitions more;
+      left = drop end.lines k.left;
+      reads = subst (λ (bs : Blocks). HasRead q (spine around bs (Text (drop end.lines k.left)))) (join-assoc kids k.definitions more) reads;
+      clean = h.clean;
+      rest = h.left;
+      same =
+          k.same ∙ ap (λ (x : Cut). cut_into (join k.definitions x.definitions) x.left) (cut_one content k.left end h)
+          ∙ ap (λ (bs : Blocks). cut_into bs others.left) (sym (join-assoc k.definitions more others.definitions));
+    }
+
+-- no more
+pub all_cut : {A : Type 0} (on : Constructs) (p : Parser A) (content : List ℕ) (around : List Level) (kids : Blocks) (ls : List BlockLine) (k : Cutting p content around kids ls)
+    → on.definition ≡ true → definition_at (content_of (own_lines k.left)) ≡ None → HasRead p (spine around (join kids (cut on ls).definitions) (Text (cut on ls).left))
+all_cut on p content around kids ls k is none =
+    subst (λ (x : Cut). HasRead p (spine around (join kids x.definitions) (Text x.left)))
+    (ap (λ (bs : Blocks). cut_into bs k.left) (sym (join-nil k.definitions)) ∙ ap (λ (x : Cut). cut_into (join k.definitions x.definitions) x.left) (sym (cut_none k.left none)) ∙ sym k.same ∙ sym (cut_on on ls is))
+    k.reads

@@ -1,0 +1,256 @@
+-- A line in the containers that are open.
+use Rattle.std.proofs.Common.{◌≡◌, ℕ, ◌+◌, ◌<◌, Bool, true, false, ◌&&◌, ◌==◌, List, [], ◌∷◌, ◌++◌, Option, None, Some, refl, sym, ap, ◌∙◌, subst, length, get_or, take, arith}
+use Rattle.std.proofs.lemmas.Bool.{ne_eqb, eq-eqb}
+use Rattle.std.proofs.lemmas.List.{append-nil}
+use Rattle.std.specs.Prelude.{map, if◌then◌else◌}
+use Rattle.markdown_options.specs.declared.line_ending.LineEnding.{LineEnding}
+use Rattle.markdown_options.specs.declared.configuration.Constructs.{Constructs}
+use Rattle.definition_text.specs.declared.beside.Beside.{Beside}
+use Rattle.definition_block.specs.declared.container.Container.{Container}
+use Rattle.block_rows.specs.declared.row.Row.{Row}
+use Rattle.block_rows.specs.declared.row.Row.TheVariants as row
+use Rattle.definition_text.specs.Columns.{Rest}
+use Rattle.definition_block.specs.Containers.{continues}
+use Rattle.definition_block.specs.CodeFenced.{Fence}
+use Rattle.definition_inline.specs.Definition.{Definition as LinkDefinition}
+use Rattle.definition_text.specs.BlockLines.{BlockLine, last_ending_or}
+use Rattle.definition_block.specs.Tree.{Block, Paragraph, Heading, Break, IndentedCode, FencedCode, Html, Definition, Holds, Items, Ending, Blank, Blocks, Nil, Cons, join, all_endings, front, trailing, Text, Indented, Fenced, OpenHtml, Opening, Leaf, Inside, Tree, beside_in, grow, goes_on, new, began_blank, is_nothing, is_one_blank}
+use Rattle.block_rows.specs.Rows.{definition_on, definition_shown, BlockRow, Single, rows_of}
+use Rattle.block_parser.specs.Spine.{Level, level, Spine, spine, spine_at, spine_of, grown, containers_of}
+use Rattle.block_parser.specs.Waits.{is_one_blank_row}
+use Rattle.block_parser.specs.Shows.{InText, InIndented, InFenced, InHtml, state_of, lone, is_nil, Written}
+use Rattle.block_parser.specs.View.{Descent, leaf_grown}
+use Rattle.block_parser.proofs.Trees.{join-nil}
+use Rattle.block_parser.proofs.Closing.{opening_depth, length-around, length-containers}
+
+-- ---- the container at a depth
+
+get-append : {X : Type 0} (xs : List X) (x : X) (ys : List X) (d : X) → get_or (xs ++ x ∷ ys) (length xs) d ≡ x
+get-append [] x ys d = refl
+get-append (z ∷ xs) x ys d = get-append xs x ys d
+
+abbrev inner_containers : Opening → List Container
+inner_containers (Leaf leaf) = []
+inner_containers (Inside c kids inner) = c ∷ inner_containers inner
+
+containers-at : (around : List Level) (kids : Blocks) (now : Opening) → containers_of (spine_at around kids now).around ≡ containers_of around ++ inner_containers now
+containers-at around kids (Leaf leaf) = sym (append-nil (containers_of around))
+containers-at around kids (Inside c inner_kids inner) =
+    containers-at (level c kids ∷ around) inner_kids inner ∙ append-one (containers_of around) c (inner_containers inner)
+  where
+    append-one : (xs : List Container) (x : Container) (ys : List Container) → (xs ++ x ∷ []) ++ ys ≡ xs ++ x ∷ ys
+    append-one [] x ys = refl
+    append-one (z ∷ xs) x ys = ap (λ w. z ∷ w) (append-one xs x ys)
+
+pub container-at : (around : List Level) (kids inner_kids : Blocks) (c d : Container) (inner : Opening)
+    → get_or (containers_of (spine_at around kids (Inside c inner_kids inner)).around) (length around) d ≡ c
+container-at around kids inner_kids c d inner =
+    ap (λ cs. get_or cs (length around) d) (containers-at around kids (Inside c inner_kids inner))
+    ∙ ap (λ n. get_or (containers_of around ++ c ∷ inner_containers inner) n d) (sym (length-containers around))
+    ∙ get-append (containers_of around) c (inner_containers inner) d
+
+-- ---- one container more
+
+abbrev pub Began : Tree → ℕ → Bool → Type 0
+Began t depth b = (around : List Level) (kids inner_kids : Blocks) (c : Container) (inner : Opening) → depth ≡ length around → spine_at around kids (Inside c inner_kids inner) ≡ spine_of t → b ≡ began_blank inner_kids inner
+
+module _ (on : Constructs) (beside : Beside) (line : Rest) (t : Tree) (depth : ℕ) (rest : Rest) (here : Beside) (containers : List Container)
+    (opened : containers ≡ containers_of (spine_of t).around) (lt : depth < length containers) (c : Container) (is : c ≡ get_or containers depth c) (b : Bool) (began : Began t depth b) where
+  goes-inside : (after : Rest) → continues on c b rest ≡ Some after → (around : List Level) (kids : Blocks) (now : Opening) → depth ≡ length around → spine_at around kids now ≡ spine_of t
+      → grown [] t.done (grow on beside t.now line) ≡ grown around kids (grow on here now rest) → Descent on beside line t 0 (depth + 1) after (beside_in c rest here)
+  goes-inside after h around kids (Leaf leaf) deep same grows =
+      absurd (omega (arith, ap length opened, length-containers (spine_of t).around, ap (λ (s : Spine). length s.around) same))
+  goes-inside after h around kids (Inside inner_c inner_kids inner) deep same grows =
+      let same_c : c ≡ inner_c =
+      is ∙ ap (λ cs. get_or cs depth c) (opened ∙ ap (λ (s : Spine). containers_of s.around) (sym same)) ∙ ap (λ n. get_or (containers_of (spine_at around kids (Inside inner_c inner_kids inner)).around) n c) deep
+      ∙ container-at around kids inner_kids inner_c c inner in
+      let goes : continues on inner_c (began_blank inner_kids inner) rest ≡ Some after =
+      ap (λ x. continues on x (began_blank inner_kids inner) rest) (sym same_c) ∙ ap (λ x. continues on c x rest) (sym (began around kids inner_kids inner_c inner deep same)) ∙ h in
+      record {
+        around = level inner_c kids ∷ around;
+        kids = inner_kids;
+        now = inner;
+        deep = omega (arith, deep);
+        same = same;
+        grows =
+            grows
+            ∙ ap (λ o. grown around kids (goes_on o on inner_c inner_kids inner here rest (grow on (beside_in inner_c rest here) inner))) goes
+            ∙ ap (λ (bs : Blocks). spine_at (level inner_c bs ∷ around) (join inner_kids (grow on (beside_in inner_c rest here) inner after).done) (grow on (beside_in inner_c rest here) inner after).now) (join-nil kids)
+            ∙ ap (λ x. grown (level inner_c kids ∷ around) inner_kids (grow on (beside_in x rest here) inner after)) (sym same_c);
+        stuck = λ wrong. absurd (omega arith);
+      }
+
+  pub goes_inside : (after : Rest) → continues on c b rest ≡ Some after → Descent on beside line t 0 depth rest here → Descent on beside line t 0 (depth + 1) after (beside_in c rest here)
+  goes_inside after h d = goes-inside after h d.around d.kids d.now d.deep d.same d.grows
+
+  stays-outside : continues on c b rest ≡ None → (around : List Level) (kids : Blocks) (now : Opening) → depth ≡ length around → spine_at around kids now ≡ spine_of t
+      → grow on here now rest ≡ new (length rest) on false now here rest
+  stays-outside h around kids (Leaf leaf) deep same =
+      absurd (omega (arith, ap length opened, length-containers (spine_of t).around, ap (λ (s : Spine). length s.around) same))
+  stays-outside h around kids (Inside inner_c inner_kids inner) deep same =
+      let same_c : c ≡ inner_c =
+      is ∙ ap (λ cs. get_or cs depth c) (opened ∙ ap (λ (s : Spine). containers_of s.around) (sym same)) ∙ ap (λ n. get_or (containers_of (spine_at around kids (Inside inner_c inner_kids inner)).around) n c) deep
+      ∙ container-at around kids inner_kids inner_c c inner in
+      let stops : continues on inner_c (began_blank inner_kids inner) rest ≡ None =
+      ap (λ x. continues on x (began_blank inner_kids inner) rest) (sym same_c) ∙ ap (λ x. continues on c x rest) (sym (began around kids inner_kids inner_c inner deep same)) ∙ h in
+      ap (λ o. goes_on o on inner_c inner_kids inner here rest (grow on (beside_in inner_c rest here) inner)) stops
+
+  pub stays_outside : continues on c b rest ≡ None → Descent on beside line t 0 depth rest here → Descent on beside line t (length containers) depth rest here
+  stays_outside h d = record { around = d.around; kids = d.kids; now = d.now; deep = d.deep; same = d.same; grows = d.grows; stuck = λ lt. stays-outside h d.around d.kids d.now d.deep d.same }
+
+-- ---- whether a container began with a blank line
+
+abbrev is_blank_rows : List BlockRow → Bool
+is_blank_rows (Single (Blank ending) ∷ []) = true
+is_blank_rows rows = false
+
+blank-rows : (bs : Blocks) → is_one_blank bs ≡ (is_nil (front bs) && is_blank_rows (rows_of (trailing bs)))
+blank-rows Nil = refl
+blank-rows (Cons (Paragraph ls) Nil) = refl
+blank-rows (Cons (Heading rank ls) Nil) = refl
+blank-rows (Cons Break Nil) = refl
+blank-rows (Cons (IndentedCode ls) Nil) = refl
+blank-rows (Cons (FencedCode info closed ls) Nil) = refl
+blank-rows (Cons (Html ls) Nil) = refl
+blank-rows (Cons (Definition label destination title) Nil) = refl
+blank-rows (Cons (Holds c kids) Nil) = refl
+blank-rows (Cons (Items items) Nil) = refl
+blank-rows (Cons (Ending ending) Nil) = refl
+blank-rows (Cons (Blank ending) Nil) = refl
+blank-rows (Cons b (Cons c bs)) = none b ∙ parts b c (all_endings (Cons b (Cons c bs))) refl
+  where
+    none : (b : Block) → is_one_blank (Cons b (Cons c bs)) ≡ false
+    none (Paragraph ls) = refl
+    none (Heading rank ls) = refl
+    none Break = refl
+    none (IndentedCode ls) = refl
+    none (FencedCode info closed ls) = refl
+    none (Html ls) = refl
+    none (Definition label destination title) = refl
+    none (Holds c kids) = refl
+    none (Items items) = refl
+    none (Ending ending) = refl
+    none (Blank ending) = refl
+
+    parts : (b c : Block) (x : Bool) → all_endings (Cons b (Cons c bs)) ≡ x → false ≡ (is_nil (if x then Nil else Cons b (front (Cons c bs))) && is_blank_rows (rows_of (if x then Cons b (Cons c bs) else trailing (Cons c bs))))
+    parts b c false h = refl
+    parts (Ending e) (Ending f) true h = refl
+    parts (Ending e) (Blank f) true h = refl
+    parts (Blank e) (Ending f) true h = refl
+    parts (Blank e) (Blank f) true h = refl
+    parts b c true h = cc
+
+and-swap : (a b : Bool) → (a && b) ≡ (b && a)
+and-swap true true = refl
+and-swap true false = refl
+and-swap false true = refl
+and-swap false false = refl
+
+-- a definition is no ending
+not-blank : (o : Option LinkDefinition) (rows : List BlockRow) → is_blank_rows (Single (definition_shown o) ∷ rows) ≡ false
+not-blank None rows = refl
+not-blank (Some d) rows = refl
+
+one-row : (waiting : List Row) → is_one_blank_row waiting ≡ is_blank_rows (map lone waiting)
+one-row [] = refl
+one-row (row.Paragraph n ∷ []) = refl
+one-row (row.Heading rank ∷ []) = refl
+one-row (row.Break ∷ []) = refl
+one-row (row.IndentedCode n ∷ []) = refl
+one-row (row.FencedCode n ∷ []) = refl
+one-row (row.UnclosedCode n ∷ []) = refl
+one-row (row.WholeParagraph n ∷ []) = refl
+one-row (row.SetextHeading rank n ∷ []) = refl
+one-row (row.Html n ∷ []) = refl
+one-row (row.Definition n ∷ []) = sym (not-blank (definition_on (take n [])) [])
+one-row (row.EnterQuote ∷ []) = refl
+one-row (row.EnterItem marker number ∷ []) = refl
+one-row (row.Exit ∷ []) = refl
+one-row (row.Ending ending ∷ []) = refl
+one-row (row.Blank ending ∷ []) = refl
+one-row (a ∷ b ∷ rows) = two a
+  where
+    two : (a : Row) → is_one_blank_row (a ∷ b ∷ rows) ≡ is_blank_rows (lone a ∷ (lone b ∷ map lone rows))
+    two (row.Paragraph n) = refl
+    two (row.Heading rank) = refl
+    two row.Break = refl
+    two (row.IndentedCode n) = refl
+    two (row.FencedCode n) = refl
+    two (row.UnclosedCode n) = refl
+    two (row.WholeParagraph n) = refl
+    two (row.SetextHeading rank n) = refl
+    two (row.Html n) = refl
+    two (row.Definition n) = sym (not-blank (definition_on (take n [])) (lone b ∷ map lone rows))
+    two row.EnterQuote = refl
+    two (row.EnterItem marker number) = refl
+    two row.Exit = refl
+    two (row.Ending ending) = refl
+    two (row.Blank ending) = refl
+
+-- only the innermost container can have begun so
+pub began_is : (rows waiting : List Row) (bare : Bool) (pool : List BlockLine) (containers : List Container) (around : List Level) (kids inner_kids : Blocks) (c : Container) (inner : Opening)
+    → let s = spine_at around kids (Inside c inner_kids inner) in
+    (left : List BlockLine) → Written rows waiting bare pool s.around s.kids left → containers ≡ containers_of s.around
+    → ((length around + 1 == length containers) && is_nothing (Leaf s.leaf) && (bare && is_one_blank_row waiting)) ≡ began_blank inner_kids inner
+began_is rows waiting bare pool containers around kids inner_kids c (Leaf leaf) left h opened =
+    let last : (length around + 1 == length containers) ≡ true = eq-eqb (length around + 1) (length containers) (omega (arith, ap length opened, length-containers (level c kids ∷ around))) in
+    ap (λ x. x && is_nothing (Leaf leaf) && (bare && is_one_blank_row waiting)) last
+    ∙ and-swap (is_nothing (Leaf leaf)) (bare && is_one_blank_row waiting)
+    ∙ ap (λ x. x && is_nothing (Leaf leaf))
+    (ap (λ x. x && is_one_blank_row waiting) h.is_bare ∙ ap (λ x. is_nil (front inner_kids) && x) (one-row waiting ∙ ap is_blank_rows h.waiting_shown) ∙ sym (blank-rows inner_kids))
+began_is rows waiting bare pool containers around kids inner_kids c (Inside inner_c others inner) left h opened =
+    let more = length-around (level inner_c inner_kids ∷ (level c kids ∷ around)) others inner in
+    let deeper : (length around + 1 == length containers) ≡ false =
+    ne_eqb (length around + 1) (length containers) (λ e. omega (arith, e, ap length opened, length-containers (spine_at around kids (Inside c inner_kids (Inside inner_c others inner))).around, more)) in
+    ap (λ x. x && is_nothing (Leaf (spine_at around kids (Inside c inner_kids (Inside inner_c others inner))).leaf) && (bare && is_one_blank_row waiting)) deeper
+    ∙ sym (and-swap (is_one_blank inner_kids) false)
+
+-- ---- a line in all containers
+
+pub no_deeper : (containers : List Container) (around : List Level) (kids : Blocks) (now : Opening) → containers ≡ containers_of (spine_at around kids now).around → length containers ≡ length around → opening_depth now ≡ 0
+no_deeper containers around kids now opened all =
+    omega (arith, ap length opened, all, length-containers (spine_at around kids now).around, length-around around kids now)
+
+module _ (P Q : Spine → Type 0) (on : Constructs) (e : Beside) (r : Rest) where
+  pub text_grows : (around : List Level) (kids : Blocks) (now : Opening) → opening_depth now ≡ 0 → InText ≡ state_of (spine_at around kids now).leaf
+      → Q (grown around kids (new (length r) on true now e r)) → Q (grown around kids (grow on e now r))
+  text_grows around kids (Leaf (Text ls)) none is h = h
+  text_grows around kids (Leaf (Indented ls pending)) none is h = let wrong : InText ≡ InIndented _ _ = is in cc
+  text_grows around kids (Leaf (Fenced f opening ls)) none is h = let wrong : InText ≡ InFenced _ _ = is in cc
+  text_grows around kids (Leaf (OpenHtml kind ls)) none is h = let wrong : InText ≡ InHtml _ _ = is in cc
+  text_grows around kids (Inside c inner_kids inner) none is h = absurd (omega (arith, none))
+
+  pub indented_grows : ((around : List Level) (kids : Blocks) (ls pending : List BlockLine) → P (spine around kids (Indented ls pending)) → Q (grown around kids (leaf_grown on e r (Leaf (Indented ls pending)))))
+      → (count : ℕ) (last : Option LineEnding) (around : List Level) (kids : Blocks) (now : Opening) → opening_depth now ≡ 0 → InIndented count last ≡ state_of (spine_at around kids now).leaf
+      → P (spine_at around kids now) → Q (grown around kids (grow on e now r))
+  indented_grows grows count last around kids (Leaf (Text ls)) none is h = let wrong : InIndented count last ≡ InText = is in cc
+  indented_grows grows count last around kids (Leaf (Indented ls pending)) none is h = grows around kids ls pending h
+  indented_grows grows count last around kids (Leaf (Fenced f opening ls)) none is h = let wrong : InIndented count last ≡ InFenced _ _ = is in cc
+  indented_grows grows count last around kids (Leaf (OpenHtml kind ls)) none is h = let wrong : InIndented count last ≡ InHtml _ _ = is in cc
+  indented_grows grows count last around kids (Inside c inner_kids inner) none is h = absurd (omega (arith, none))
+
+  pub fenced_grows : (f : Fence) → ((around : List Level) (kids : Blocks) (opening : Option LineEnding) (ls : List BlockLine) → P (spine around kids (Fenced f opening ls)) → Q (grown around kids (leaf_grown on e r (Leaf (Fenced f opening ls)))))
+      → (last : Option LineEnding) (around : List Level) (kids : Blocks) (now : Opening) → opening_depth now ≡ 0 → InFenced f last ≡ state_of (spine_at around kids now).leaf
+      → P (spine_at around kids now) → Q (grown around kids (grow on e now r))
+  fenced_grows f grows last around kids (Leaf (Text ls)) none is h = let wrong : InFenced f last ≡ InText = is in cc
+  fenced_grows f grows last around kids (Leaf (Indented ls pending)) none is h = let wrong : InFenced f last ≡ InIndented _ _ = is in cc
+  fenced_grows f grows last around kids (Leaf (Fenced fence opening ls)) none is h =
+      let same : InFenced f last ≡ InFenced fence (last_ending_or opening ls) = is in
+      let is_fence : fence ≡ f = cc in
+      subst (λ (x : Fence). Q (grown around kids (grow on e (Leaf (Fenced x opening ls)) r))) (sym is_fence)
+      (grows around kids opening ls (subst (λ (x : Fence). P (spine around kids (Fenced x opening ls))) is_fence h))
+  fenced_grows f grows last around kids (Leaf (OpenHtml kind ls)) none is h = let wrong : InFenced f last ≡ InHtml _ _ = is in cc
+  fenced_grows f grows last around kids (Inside c inner_kids inner) none is h = absurd (omega (arith, none))
+
+  pub html_grows : (kind : ℕ) → ((around : List Level) (kids : Blocks) (ls : List BlockLine) → P (spine around kids (OpenHtml kind ls)) → Q (grown around kids (leaf_grown on e r (Leaf (OpenHtml kind ls)))))
+      → (last : Option LineEnding) (around : List Level) (kids : Blocks) (now : Opening) → opening_depth now ≡ 0 → InHtml kind last ≡ state_of (spine_at around kids now).leaf
+      → P (spine_at around kids now) → Q (grown around kids (grow on e now r))
+  html_grows kind grows last around kids (Leaf (Text ls)) none is h = let wrong : InHtml kind last ≡ InText = is in cc
+  html_grows kind grows last around kids (Leaf (Indented ls pending)) none is h = let wrong : InHtml kind last ≡ InIndented _ _ = is in cc
+  html_grows kind grows last around kids (Leaf (Fenced f opening ls)) none is h = let wrong : InHtml kind last ≡ InFenced _ _ = is in cc
+  html_grows kind grows last around kids (Leaf (OpenHtml other ls)) none is h =
+      let same : InHtml kind last ≡ InHtml other (last_ending_or None ls) = is in
+      let is_kind : other ≡ kind = cc in
+      subst (λ (x : ℕ). Q (grown around kids (grow on e (Leaf (OpenHtml x ls)) r))) (sym is_kind)
+      (grows around kids ls (subst (λ (x : ℕ). P (spine around kids (OpenHtml x ls))) is_kind h))
+  html_grows kind grows last around kids (Inside c inner_kids inner) none is h = absurd (omega (arith, none))

@@ -1,0 +1,156 @@
+-- Containers that start on a line.
+use Rattle.std.proofs.Common.{◌≡◌, ℕ, zero, suc, ◌+◌, ◌≤◌, ◌<◌, Bool, true, false, if◌then◌else◌, ◌&&◌, ◌||◌, ◌==◌, not, leb, List, [], ◌∷◌, Option, None, Some, refl, sym, ap, ◌∙◌, subst, length, drop, take, arith}
+use Rattle.std.proofs.lemmas.List.{length-drop}
+use Rattle.std.specs.Prelude.{min}
+use Rattle.std.specs.List.{prefix_len}
+use Rattle.markdown_options.specs.declared.configuration.Constructs.{Constructs}
+use Rattle.definition_text.specs.declared.beside.Beside.{Beside}
+use Rattle.definition_block.specs.declared.container.Container.{Container}
+use Rattle.definition_text.specs.Columns.{Rest, bare, indent}
+use Rattle.definition_text.specs.Indents.{small_indent}
+use Rattle.definition_block.specs.Started.{Started}
+use Rattle.definition_block.specs.ThematicBreak.{is_break}
+use Rattle.definition_block.specs.BlockQuote.{after_byte, after_mark, quote_prefix}
+use Rattle.definition_block.specs.ListItem.{Marker, marker_of, is_digit, number_of, bullet, delimiter, ordered, marker, gap, is_item, item, item_after, item_start}
+use Rattle.definition_block.specs.Containers.{quote_or, starts}
+use Rattle.definition_block.specs.Tree.{Blocks, Nil, join, Opening, Inside, Tree, tree, nothing, after, has_text, leaf_line, beside_in, start, new, with_paragraph}
+use Rattle.definition_block.specs.Definitions.{cut_into, cut_most}
+use Rattle.block_parser.specs.Spine.{Level, level, spine_at, grown}
+use Rattle.block_parser.specs.View.{new_inside}
+use Rattle.block_parser.proofs.Trees.{choose_if, join-nil}
+
+-- ---- what starts a container makes the rest shorter
+
+abbrev RestShorter : ℕ → Option Rest → Type 0
+RestShorter n None = Unit {0}
+RestShorter n (Some rest) = length rest < n
+
+abbrev MarkerShorter : ℕ → Option Marker → Type 0
+MarkerShorter n None = Unit {0}
+MarkerShorter n (Some m) = length m.rest < n
+
+abbrev Shorter : ℕ → Option Started → Type 0
+Shorter n None = Unit {0}
+Shorter n (Some s) = length s.rest < n
+
+bare-shorter : (rest : Rest) → length (bare rest) ≤ length rest
+bare-shorter rest = omega (arith, length-drop (indent rest) rest)
+
+byte-shorter : (n byte : ℕ) (rest : Rest) → length rest ≤ n → RestShorter n (after_byte byte rest)
+byte-shorter n byte [] le = tt
+byte-shorter n byte (code ∷ codes) le = choose_if (RestShorter n) (code == byte) (Some codes) None (λ h. omega (arith, le)) (λ h. tt)
+
+mark-shorter : (n : ℕ) (o : Option Rest) → RestShorter n o → RestShorter n (after_mark o)
+mark-shorter n None h = h
+mark-shorter n (Some rest) h = omega (arith, h, length-drop (min 1 (indent rest)) rest)
+
+quote-shorter : (on : Constructs) (rest : Rest) → RestShorter (length rest) (quote_prefix on rest)
+quote-shorter on rest =
+    choose_if (RestShorter (length rest)) (on.block_quote && small_indent on rest) (after_mark (after_byte 62 (bare rest))) None
+    (λ h. mark-shorter (length rest) (after_byte 62 (bare rest)) (byte-shorter (length rest) 62 (bare rest) (bare-shorter rest))) (λ h. tt)
+
+bullet-shorter : (n : ℕ) (rest : Rest) → length rest ≤ n → MarkerShorter n (bullet rest)
+bullet-shorter n [] le = tt
+bullet-shorter n (code ∷ codes) le =
+    choose_if (MarkerShorter n) ((code == 45) || (code == 43) || (code == 42)) (Some (marker_of code None 1 codes)) None (λ h. omega (arith, le)) (λ h. tt)
+
+delimiter-shorter : (n number digits : ℕ) (rest : Rest) → length rest ≤ n → MarkerShorter n (delimiter number digits rest)
+delimiter-shorter n number digits [] le = tt
+delimiter-shorter n number digits (code ∷ codes) le =
+    choose_if (MarkerShorter n) ((code == 46) || (code == 41)) (Some (marker_of code (Some number) (digits + 1) codes)) None (λ h. omega (arith, le)) (λ h. tt)
+
+marker-shorter : (n : ℕ) (rest : Rest) → length rest ≤ n → MarkerShorter n (marker rest)
+marker-shorter n rest le =
+    let digits = prefix_len is_digit rest in
+    choose_if (MarkerShorter n) (digits == 0) (bullet rest) (ordered digits rest) (λ h. bullet-shorter n rest le)
+    (λ h. choose_if (MarkerShorter n) (leb digits 9) (delimiter (number_of (take digits rest)) digits (drop digits rest)) None
+    (λ k. delimiter-shorter n (number_of (take digits rest)) digits (drop digits rest) (omega (arith, le, length-drop digits rest))) (λ k. tt))
+
+item-shorter : (n columns : ℕ) (interrupts : Bool) (o : Option Marker) → MarkerShorter n o → Shorter n (item_after columns interrupts o)
+item-shorter n columns interrupts None h = tt
+item-shorter n columns interrupts (Some m) h =
+    choose_if (Shorter n) (is_item interrupts m) (Some (item columns m)) None (λ k. omega (arith, h, length-drop (gap m.rest) m.rest)) (λ k. tt)
+
+item_start-shorter : (on : Constructs) (interrupts : Bool) (rest : Rest) → Shorter (length rest) (item_start on interrupts rest)
+item_start-shorter on interrupts rest =
+    choose_if (Shorter (length rest)) (on.list_item && small_indent on rest && not (is_break on rest)) (item_after (indent rest) interrupts (marker (bare rest))) None
+    (λ h. item-shorter (length rest) (indent rest) interrupts (marker (bare rest)) (marker-shorter (length rest) (bare rest) (bare-shorter rest))) (λ h. tt)
+
+either-shorter : (n : ℕ) (other : Option Started) (o : Option Rest) → Shorter n other → RestShorter n o → Shorter n (quote_or other o)
+either-shorter n other None h k = h
+either-shorter n other (Some rest) h k = k
+
+starts-shorter : (on : Constructs) (interrupts : Bool) (rest : Rest) → Shorter (length rest) (starts on interrupts rest)
+starts-shorter on interrupts rest =
+    either-shorter (length rest) (item_start on interrupts rest) (quote_prefix on rest) (item_start-shorter on interrupts rest) (quote-shorter on rest)
+
+pub start-shorter : (on : Constructs) (interrupts : Bool) (rest : Rest) (s : Started) → starts on interrupts rest ≡ Some s → length s.rest < length rest
+start-shorter on interrupts rest s is = subst (Shorter (length rest)) is (starts-shorter on interrupts rest)
+
+starts-none : (on : Constructs) (interrupts : Bool) (o : Option Started) → Shorter 0 o → o ≡ None
+starts-none on interrupts None h = refl
+starts-none on interrupts (Some s) h = absurd (omega (arith, h))
+
+-- ---- enough containers may start
+
+module _ (on : Constructs) where
+  start-same : (n : ℕ) (o : Option Started) (away : Opening) (other : Tree) (f g : Started → Tree) → Shorter n o
+      → ((s : Started) → length s.rest < n → f s ≡ g s) → start on o away other f ≡ start on o away other g
+  start-same n None away other f g h same = refl
+  start-same n (Some s) away other f g h same = ap (λ (t : Tree). after on away (tree Nil (Inside s.container t.done t.now))) (same s h)
+
+  -- what starts in the container that starts on a rest
+  abbrev inner_new : ℕ → Beside → Rest → Started → Tree
+  inner_new n beside rest s = new n on true nothing (beside_in s.container rest beside) s.rest
+
+  new-same : (m n : ℕ) (all : Bool) (away : Opening) (beside : Beside) (rest : Rest) → length rest ≤ m → length rest ≤ n
+      → new m on all away beside rest ≡ new n on all away beside rest
+  new-same zero zero all away beside rest h k = refl
+  new-same zero (suc n) all away beside [] h k =
+      sym (ap (λ o. start on o away (leaf_line on away [] beside) (inner_new n beside [])) (starts-none on (all && has_text away) _ (starts-shorter on (all && has_text away) [])))
+  new-same zero (suc n) all away beside (code ∷ codes) h k = absurd (omega (arith, h))
+  new-same (suc m) zero all away beside [] h k =
+      ap (λ o. start on o away (leaf_line on away [] beside) (inner_new m beside [])) (starts-none on (all && has_text away) _ (starts-shorter on (all && has_text away) []))
+  new-same (suc m) zero all away beside (code ∷ codes) h k = absurd (omega (arith, k))
+  new-same (suc m) (suc n) all away beside rest h k =
+      start-same (length rest) (starts on (all && has_text away) rest) away (leaf_line on away rest beside) (inner_new m beside rest) (inner_new n beside rest)
+      (starts-shorter on (all && has_text away) rest)
+      (λ s lt. new-same m n true nothing (beside_in s.container rest beside) s.rest (omega (arith, h, lt)) (omega (arith, k, lt)))
+
+module _ (on : Constructs) (beside : Beside) where
+  -- no container starts
+  pub new_none : (n : ℕ) (all : Bool) (away : Opening) (rest : Rest) → starts on (all && has_text away) rest ≡ None → new n on all away beside rest ≡ leaf_line on away rest beside
+  new_none zero all away rest h = refl
+  new_none (suc n) all away rest h = ap (λ o. start on o away (leaf_line on away rest beside) (inner_new on n beside rest)) h
+
+  -- a container starts
+  new-some : (n : ℕ) (all : Bool) (away : Opening) (rest : Rest) (s : Started) → length rest ≤ n → starts on (all && has_text away) rest ≡ Some s
+      → let t = new_inside on (beside_in s.container rest beside) s.rest in new n on all away beside rest ≡ after on away (tree Nil (Inside s.container t.done t.now))
+  new-some zero all away rest s le h = absurd (omega (arith, le, start-shorter on (all && has_text away) rest s h))
+  new-some (suc n) all away rest s le h =
+      ap (λ o. start on o away (leaf_line on away rest beside) (inner_new on n beside rest)) h
+      ∙ ap (λ (t : Tree). after on away (tree Nil (Inside s.container t.done t.now)))
+      (new-same on n (length s.rest) true nothing (beside_in s.container rest beside) s.rest (omega (arith, le, start-shorter on (all && has_text away) rest s h)) (omega arith))
+
+  pub new_some : (all : Bool) (away : Opening) (rest : Rest) (s : Started) → starts on (all && has_text away) rest ≡ Some s
+      → let t = new_inside on (beside_in s.container rest beside) s.rest in new (length rest) on all away beside rest ≡ after on away (tree Nil (Inside s.container t.done t.now))
+  new_some all away rest s h = new-some (length rest) all away rest s (omega arith) h
+
+  -- what is new is in the container that started
+  pub grown-inside : (around : List Level) (kids : Blocks) (c : Container) (t : Tree) → grown around kids (tree Nil (Inside c t.done t.now)) ≡ grown (level c kids ∷ around) Nil t
+  grown-inside around kids c t = ap (λ (bs : Blocks). spine_at (level c bs ∷ around) t.done t.now) (join-nil kids)
+
+  -- nothing is closed where nothing is open
+  closed-nothing : (b : Bool) → with_paragraph (if b then cut_most 0 [] else cut_into Nil []) ≡ Nil
+  closed-nothing true = refl
+  closed-nothing false = refl
+
+  after-nothing : (t : Tree) → after on nothing t ≡ t
+  after-nothing t = ap (λ (bs : Blocks). tree (join bs t.done) t.now) (closed-nothing on.definition)
+
+  -- one container more
+  pub inside_more : (around : List Level) (kids : Blocks) (rest : Rest) (s : Started) → starts on false rest ≡ Some s
+      → grown around kids (new_inside on beside rest) ≡ grown (level s.container kids ∷ around) Nil (new_inside on (beside_in s.container rest beside) s.rest)
+  inside_more around kids rest s is =
+      let t = new_inside on (beside_in s.container rest beside) s.rest in
+      ap (grown around kids) (new_some true nothing rest s is ∙ after-nothing (tree Nil (Inside s.container t.done t.now))) ∙ grown-inside around kids s.container t

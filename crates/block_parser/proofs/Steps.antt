@@ -1,0 +1,212 @@
+-- The steps of the definition, case by case.
+use Rattle.std.proofs.Common.{◌≡◌, ℕ, List, [], ◌∷◌, ◌++◌, Option, None, Some, Bool, if◌then◌else◌, true, false, not, ◌&&◌, ◌==◌, refl, sym, ap, ◌∙◌, subst, length, arith}
+use Rattle.std.proofs.lemmas.Bool.{cond-true, cond-false}
+use Rattle.markdown_options.specs.declared.line_ending.LineEnding.{LineEnding}
+use Rattle.markdown_options.specs.declared.configuration.Constructs.{Constructs}
+use Rattle.definition_text.specs.declared.beside.Beside.{Beside}
+use Rattle.definition_text.specs.Columns.{Rest, is_blank}
+use Rattle.definition_text.specs.Indents.{outdented}
+use Rattle.definition_block.specs.CodeIndented.{starts_code_indented}
+use Rattle.definition_block.specs.CodeFenced.{Fence, fence_start, is_fence_end, fence_line}
+use Rattle.definition_block.specs.HtmlFlow.{html_start, ends_before_blank}
+use Rattle.definition_block.specs.HeadingAtx.{Atx, heading_atx}
+use Rattle.definition_block.specs.HeadingSetext.{underline}
+use Rattle.definition_block.specs.ThematicBreak.{is_break}
+use Rattle.definition_block.specs.Definitions.{cut, cut_into, cut_most}
+use Rattle.block_rows.specs.ParagraphLines.{AreLines}
+use Rattle.definition_text.specs.BlockLines.{BlockLine, spaced_line, own_lines}
+use Rattle.definition_block.specs.Tree.{Heading, Break, FencedCode, Blank, Blocks, Nil, join, one, ended, OpenLeaf, Text, Indented, Fenced, OpenHtml, Opening, Leaf, Inside, Tree, tree, nothing, close, after, leaf_text, open_text, text_here, is_some_line, has_text, with_line, rest_line, leaf_line, begun, or_fence, or_html, or_heading, html_with, break_or_text, text_line_of, taken, turns, underlined, heading_of, new}
+use Rattle.block_parser.specs.Spine.{Level, level, Spine, spine, spine_at, grown}
+use Rattle.block_parser.specs.Turns.{IsText, headed, turned_by}
+use Rattle.block_parser.specs.View.{leaf_grown}
+use Rattle.block_parser.proofs.Trees.{join-nil}
+use Rattle.block_parser.proofs.Closing.{after_added, opening_depth}
+
+-- ---- the open leaf takes a line
+
+module _ (on : Constructs) (e : Beside) (r : Rest) where
+  abbrev other_line : OpenLeaf → Tree
+  other_line leaf = new (length r) on true (Leaf leaf) e r
+
+  pub indented_blank : (ls pending : List BlockLine) → is_blank r ≡ true
+      → leaf_grown on e r (Leaf (Indented ls pending)) ≡ tree Nil (Leaf (Indented ls (pending ++ rest_line (outdented 4 r) e ∷ [])))
+  indented_blank ls pending h = ap (λ o. taken o (other_line (Indented ls pending))) (cond-true (is_blank r) _ _ h)
+
+  pub indented_code : (ls pending : List BlockLine) → is_blank r ≡ false → starts_code_indented on r ≡ true
+      → leaf_grown on e r (Leaf (Indented ls pending)) ≡ tree Nil (Leaf (Indented (ls ++ pending ++ rest_line (outdented 4 r) e ∷ []) []))
+  indented_code ls pending h k =
+      ap (λ o. taken o (other_line (Indented ls pending))) (cond-false (is_blank r) _ _ h ∙ cond-true (starts_code_indented on r) _ _ k)
+
+  pub indented_other : (ls pending : List BlockLine) → is_blank r ≡ false → starts_code_indented on r ≡ false
+      → leaf_grown on e r (Leaf (Indented ls pending)) ≡ new (length r) on true (Leaf (Indented ls pending)) e r
+  indented_other ls pending h k =
+      ap (λ o. taken o (other_line (Indented ls pending))) (cond-false (is_blank r) _ _ h ∙ cond-false (starts_code_indented on r) _ _ k)
+
+  pub fenced_end : (f : Fence) (opening : Option LineEnding) (ls : List BlockLine) → is_fence_end on f r ≡ true
+      → leaf_grown on e r (Leaf (Fenced f opening ls)) ≡ tree (ended (FencedCode f.info true ls) e.ending) nothing
+  fenced_end f opening ls h = ap (λ o. taken o (other_line (Fenced f opening ls))) (cond-true (is_fence_end on f r) _ _ h)
+
+  pub fenced_goes_on : (f : Fence) (opening : Option LineEnding) (ls : List BlockLine) → is_fence_end on f r ≡ false
+      → leaf_grown on e r (Leaf (Fenced f opening ls)) ≡ tree Nil (Leaf (Fenced f opening (ls ++ rest_line (fence_line f r) e ∷ [])))
+  fenced_goes_on f opening ls h = ap (λ o. taken o (other_line (Fenced f opening ls))) (cond-false (is_fence_end on f r) _ _ h)
+
+-- ---- an HTML block takes a line
+
+module _ (on : Constructs) (e : Beside) (r : Rest) (kind : ℕ) (ls : List BlockLine) where
+  pub html_goes_on : (ends_before_blank kind && is_blank r) ≡ false → leaf_grown on e r (Leaf (OpenHtml kind ls)) ≡ html_with kind ls r e
+  html_goes_on h = ap (λ o. taken o (new (length r) on true (Leaf (OpenHtml kind ls)) e r)) (cond-false (ends_before_blank kind && is_blank r) _ _ h)
+
+  pub html_stops : (ends_before_blank kind && is_blank r) ≡ true → leaf_grown on e r (Leaf (OpenHtml kind ls)) ≡ new (length r) on true (Leaf (OpenHtml kind ls)) e r
+  html_stops h = ap (λ o. taken o (new (length r) on true (Leaf (OpenHtml kind ls)) e r)) (cond-true (ends_before_blank kind && is_blank r) _ _ h)
+
+-- ---- a line that the open leaf doesn't take
+
+module _ (on : Constructs) (away : Opening) (r : Rest) (e : Beside) where
+  abbrev rest_of_leaves : Option Tree → Tree
+  rest_of_leaves o = begun on o away (taken (turns on away r e.ending) (break_or_text on away r e))
+
+  abbrev html_or_heading : Option ℕ → Option Tree
+  html_or_heading o = or_html r e o (or_heading e.ending (heading_atx on r))
+
+  pub blank_leaf : is_blank r ≡ true → leaf_line on away r e ≡ after on away (tree (one (Blank e.ending)) nothing)
+  blank_leaf h = cond-true (is_blank r) _ _ h
+
+  module _ (h : is_blank r ≡ false) where
+    pub indented_leaf : (starts_code_indented on r && not (has_text away)) ≡ true
+        → leaf_line on away r e ≡ after on away (tree Nil (Leaf (Indented (rest_line (outdented 4 r) e ∷ []) [])))
+    indented_leaf k = cond-false (is_blank r) _ _ h ∙ ap rest_of_leaves (cond-true (starts_code_indented on r && not (has_text away)) _ _ k)
+
+    module _ (k : (starts_code_indented on r && not (has_text away)) ≡ false) where
+      -- no indented code begins
+      other_leaf : leaf_line on away r e ≡ rest_of_leaves (or_fence e.ending (fence_start on r) (html_or_heading (html_start on (has_text away) r)))
+      other_leaf = cond-false (is_blank r) _ _ h ∙ ap rest_of_leaves (cond-false (starts_code_indented on r && not (has_text away)) _ _ k)
+
+      pub fenced_leaf : (f : Fence) → fence_start on r ≡ Some f → leaf_line on away r e ≡ after on away (tree Nil (Leaf (Fenced f e.ending [])))
+      fenced_leaf f fence = other_leaf ∙ ap (λ o. rest_of_leaves (or_fence e.ending o (html_or_heading (html_start on (has_text away) r)))) fence
+
+      module _ (fence : fence_start on r ≡ None) where
+        -- and no fenced code
+        html_leaves : leaf_line on away r e ≡ rest_of_leaves (html_or_heading (html_start on (has_text away) r))
+        html_leaves = other_leaf ∙ ap (λ o. rest_of_leaves (or_fence e.ending o (html_or_heading (html_start on (has_text away) r)))) fence
+
+        pub html_leaf : (kind : ℕ) → html_start on (has_text away) r ≡ Some kind → leaf_line on away r e ≡ after on away (html_with kind [] r e)
+        html_leaf kind html = html_leaves ∙ ap (λ o. rest_of_leaves (html_or_heading o)) html
+
+        module _ (html : html_start on (has_text away) r ≡ None) where
+          -- and no HTML block
+          heading_leaves : leaf_line on away r e ≡ rest_of_leaves (or_heading e.ending (heading_atx on r))
+          heading_leaves = html_leaves ∙ ap (λ o. rest_of_leaves (html_or_heading o)) html
+
+          pub heading_leaf : (atx : Atx) → heading_atx on r ≡ Some atx
+              → leaf_line on away r e ≡ after on away (tree (ended (Heading atx.rank (spaced_line atx.content None ∷ [])) e.ending) nothing)
+          heading_leaf atx heading = heading_leaves ∙ ap (λ o. rest_of_leaves (or_heading e.ending o)) heading
+
+          module _ (heading : heading_atx on r ≡ None) where
+            -- and no heading
+            last_leaves : leaf_line on away r e ≡ taken (turns on away r e.ending) (break_or_text on away r e)
+            last_leaves = heading_leaves ∙ ap (λ o. rest_of_leaves (or_heading e.ending o)) heading
+
+            pub turned_leaf : (t : Tree) → turns on away r e.ending ≡ Some t → leaf_line on away r e ≡ t
+            turned_leaf t turned = last_leaves ∙ ap (λ o. taken o (break_or_text on away r e)) turned
+
+            module _ (unturned : turns on away r e.ending ≡ None) where
+              pub break_leaf : is_break on r ≡ true → leaf_line on away r e ≡ after on away (tree (ended Break e.ending) nothing)
+              break_leaf b = last_leaves ∙ ap (λ o. taken o (break_or_text on away r e)) unturned ∙ cond-true (is_break on r) _ _ b
+
+              pub text_leaf : is_break on r ≡ false → leaf_line on away r e ≡ text_line_of on away r e
+              text_leaf b = last_leaves ∙ ap (λ o. taken o (break_or_text on away r e)) unturned ∙ cond-false (is_break on r) _ _ b
+
+-- ---- an underline
+
+module _ (on : Constructs) (r : Rest) (e : Option LineEnding) where
+  -- nothing is cut from nothing
+  none_cut : (b : Bool) → (if b then cut_most 0 [] else cut_into Nil []).left ≡ []
+  none_cut true = refl
+  none_cut false = refl
+
+  not_headed : (rank : ℕ) (definitions : Blocks) (left : List BlockLine) → is_some_line left ≡ false → heading_of rank definitions left e ≡ None
+  not_headed rank definitions [] none = refl
+  not_headed rank definitions (l ∷ ls) none = let wrong : true ≡ false = none in cc
+
+  is_headed : (rank : ℕ) (definitions : Blocks) (left : List BlockLine) → is_some_line left ≡ true
+      → heading_of rank definitions left e ≡ Some (tree (join definitions (ended (Heading rank (own_lines left)) e)) nothing)
+  is_headed rank definitions [] some = let wrong : false ≡ true = some in cc
+  is_headed rank definitions (l ∷ ls) some = refl
+
+  none_here : (o : Option ℕ) → underlined on o [] e ≡ None
+  none_here None = refl
+  none_here (Some rank) = not_headed rank (cut on []).definitions (cut on []).left (ap is_some_line (none_cut on.definition))
+
+  pub turns_nothing : (away : Opening) → text_here away ≡ [] → turns on away r e ≡ None
+  turns_nothing away none = ap (λ ls. underlined on (underline on r) ls e) none ∙ none_here (underline on r)
+
+  pub turns_not : (away : Opening) → underline on r ≡ None → turns on away r e ≡ None
+  turns_not away is = ap (λ o. underlined on o (text_here away) e) is
+
+  -- the definitions take the whole of it, or a heading of what is left
+  pub turns_none : (ls : List BlockLine) (rank : ℕ) → underline on r ≡ Some rank → is_some_line (cut on ls).left ≡ false → turns on (Leaf (Text ls)) r e ≡ None
+  turns_none ls rank is none = ap (λ o. underlined on o ls e) is ∙ not_headed rank (cut on ls).definitions (cut on ls).left none
+
+  pub turns_some : (ls : List BlockLine) (rank : ℕ) → underline on r ≡ Some rank → is_some_line (cut on ls).left ≡ true
+      → turns on (Leaf (Text ls)) r e ≡ turned_by on (Some rank) (Leaf (Text ls)) e
+  turns_some ls rank is some = ap (λ o. underlined on o ls e) is ∙ is_headed rank (cut on ls).definitions (cut on ls).left some
+
+-- whether a paragraph is open where all containers are
+pub here_or_not : (depth count : ℕ) (away : Opening) → (opening_depth away ≡ 0 → (depth == count) ≡ true) → ((depth == count) && has_text away) ≡ false → text_here away ≡ []
+here_or_not depth count (Leaf leaf) last h = no_text (leaf_text leaf) (sym (ap (λ b. b && has_text (Leaf leaf)) (last refl)) ∙ h)
+  where
+    no_text : (ls : List BlockLine) → is_some_line ls ≡ false → ls ≡ []
+    no_text [] k = refl
+    no_text (l ∷ ls) k = let wrong : true ≡ false = k in cc
+here_or_not depth count (Inside c kids inner) last h = refl
+
+pub text_leaf_here : (P : Opening → Type 0) (away : Opening) → opening_depth away ≡ 0 → has_text away ≡ true → ((l : BlockLine) (ls : List BlockLine) → P (Leaf (Text (l ∷ ls)))) → P away
+text_leaf_here P (Leaf (Text [])) none some k = let wrong : false ≡ true = some in cc
+text_leaf_here P (Leaf (Text (l ∷ ls))) none some k = k l ls
+text_leaf_here P (Leaf (Indented ls pending)) none some k = let wrong : false ≡ true = some in cc
+text_leaf_here P (Leaf (Fenced f opening ls)) none some k = let wrong : false ≡ true = some in cc
+text_leaf_here P (Leaf (OpenHtml kind ls)) none some k = let wrong : false ≡ true = some in cc
+text_leaf_here P (Inside c kids inner) none some k = absurd (omega (arith, none))
+
+-- ---- a line of text
+
+pub text_at : (around : List Level) (kids : Blocks) (away : Opening) → leaf_text (spine_at around kids away).leaf ≡ open_text away
+text_at around kids (Leaf leaf) = refl
+text_at around kids (Inside c inner_kids inner) = text_at (level c kids ∷ around) inner_kids inner
+
+pub has_text_at : (around : List Level) (kids : Blocks) (away : Opening) → is_some_line (leaf_text (spine_at around kids away).leaf) ≡ has_text away
+has_text_at around kids away = ap is_some_line (text_at around kids away)
+
+-- it goes on the paragraph that is open, in whatever containers
+module _ (P Q : Spine → Type 0) (l : BlockLine) (more : (around : List Level) (kids : Blocks) (ls : List BlockLine) → P (spine around kids (Text ls)) → Q (spine around kids (Text (ls ++ l ∷ [])))) where
+  longer_at : (around : List Level) (kids : Blocks) (away : Opening) → has_text away ≡ true → P (spine_at around kids away) → Q (spine_at around kids (with_line l away))
+  longer_at around kids (Leaf (Text ls)) some h = more around kids ls h
+  longer_at around kids (Leaf (Indented ls pending)) some h = let wrong : false ≡ true = some in cc
+  longer_at around kids (Leaf (Fenced f opening ls)) some h = let wrong : false ≡ true = some in cc
+  longer_at around kids (Leaf (OpenHtml kind ls)) some h = let wrong : false ≡ true = some in cc
+  longer_at around kids (Inside c inner_kids inner) some h = longer_at (level c kids ∷ around) inner_kids inner some h
+
+pub goes_longer : (on : Constructs) (P Q : Spine → Type 0) (r : Rest) (e : Beside)
+    → ((around : List Level) (kids : Blocks) (ls : List BlockLine) → P (spine around kids (Text ls)) → Q (spine around kids (Text (ls ++ rest_line r e ∷ []))))
+    → (around : List Level) (kids : Blocks) (away : Opening) → has_text away ≡ true → P (spine_at around kids away) → Q (grown around kids (text_line_of on away r e))
+goes_longer on P Q r e more around kids away some h =
+    subst (λ (t : Tree). Q (grown around kids t)) (sym (cond-true (has_text away) _ _ some))
+    (subst (λ (bs : Blocks). Q (spine_at around bs (with_line (rest_line r e) away))) (sym (join-nil kids)) (longer_at P Q (rest_line r e) more around kids away some h))
+
+-- or it is the first of one
+pub starts_text : (on : Constructs) (Q : Spine → Type 0) (r : Rest) (e : Beside) (around : List Level) (kids : Blocks) (away : Opening) → has_text away ≡ false
+    → Q (spine around (join kids (close on away)) (Text (rest_line r e ∷ []))) → Q (grown around kids (text_line_of on away r e))
+starts_text on Q r e around kids away none h =
+    let t = tree Nil (Leaf (Text (rest_line r e ∷ []))) in
+    subst (λ (more : Tree). Q (grown around kids more)) (sym (cond-false (has_text away) _ _ none))
+    (after_added on Q around kids away t (subst (λ (bs : Blocks). Q (spine around bs (Text (rest_line r e ∷ [])))) (sym (join-nil (join kids (close on away)))) h))
+
+-- a paragraph becomes a heading
+pub turned_here : (on : Constructs) (P Q : Spine → Type 0) (rank : ℕ) (e : Option LineEnding)
+    → ((around : List Level) (kids : Blocks) (ls : List BlockLine) → AreLines ls → P (spine around kids (Text ls)) → Q (spine around (join kids (headed on rank ls e)) (Text [])))
+    → (around : List Level) (kids : Blocks) (away : Opening) → IsText away → AreLines (open_text away) → P (spine_at around kids away) → Q (grown around kids (tree (headed on rank (text_here away) e) nothing))
+turned_here on P Q rank e reads around kids (Leaf (Text ls)) is clean h = reads around kids ls clean h
+turned_here on P Q rank e reads around kids (Leaf (Indented ls pending)) is clean h = absurd is
+turned_here on P Q rank e reads around kids (Leaf (Fenced f opening ls)) is clean h = absurd is
+turned_here on P Q rank e reads around kids (Leaf (OpenHtml kind ls)) is clean h = absurd is
+turned_here on P Q rank e reads around kids (Inside c inner_kids inner) is clean h = absurd is

@@ -1,0 +1,24 @@
+use Rattle.std.proofs.Common.{◌≡◌, ◌-◌, ◌∷◌, [], Option, sym, ap, subst, refl, length, arith}
+use Rattle.std.proofs.lemmas.List.{length-map, take_all}
+use Rattle.std.proofs.lemmas.Result.{on_ok_weaker}
+use Rattle.markdown_options.specs.declared.line_ending.LineEnding.{LineEnding}
+use Rattle.definition_text.specs.BlockLines.{own_lines}
+use Rattle.definition_block.specs.Tree.{Html, ended, join, Text, OpenHtml}
+use Rattle.block_rows.specs.Rows.{piece_lines, piece_line, Single}
+use Rattle.block_parser.specs.Spine.{spine}
+use Rattle.block_parser.specs.View.{HasRead}
+use Rattle.block_parser.proofs.Leaves as leaves
+use Rattle.block_parser.proofs.parser.Parser.close_html.Goals as goal
+
+pub returns-clause-read : goal.returns-clause-read
+returns-clause-read g c =
+    on_ok_weaker c.end_leaf.result (λ reads. λ around kids switches kind ls last h.
+    let p = c.args.self.now in
+    let pool = piece_lines p.pieces.items in
+    let left = leaves.all_left p.rows.rows.items p.rows.waiting.items p.rows.bare pool around kids ls h.written (leaves.enough_lines p) in
+    let long = length-map p.pieces.items piece_line in
+    let count = c.len.result - p.taken in
+    let all : count ≡ length ls = omega (arith, left, long, p.counted, p.pieces.ok.0, c.len.ensures) in
+    subst (λ (e : Option LineEnding). HasRead c.end_leaf.new.self (spine around (join kids (ended (Html (own_lines ls)) e)) (Text []))) last
+    (reads around kids (OpenHtml kind ls) (Html (own_lines ls)) h (ap (λ x. Single (Html (own_lines x)) ∷ []) (sym (take_all count ls (omega (arith, all))))) refl))
+    c.end_leaf.ensures.read

@@ -1,0 +1,16 @@
+use Rattle.std.proofs.Common.{[], subst}
+use Rattle.std.proofs.lemmas.Result.{on_ok_weaker}
+use Rattle.definition_block.specs.Tree.{Blocks, Text, join, paragraph_of}
+use Rattle.definition_block.specs.Definitions.{cut}
+use Rattle.block_parser.specs.Spine.{spine}
+use Rattle.block_parser.specs.View.{HasRead}
+use Rattle.block_parser.proofs.Trees.{join-assoc}
+use Rattle.block_parser.proofs.parser.Parser.close_text.Goals as goal
+
+pub returns-clause-read : goal.returns-clause-read
+returns-clause-read g c =
+    on_ok_weaker c.close_paragraph.result (λ reads. λ around kids ls clean h.
+    let parts = cut c.args.on.now ls in
+    subst (λ (bs : Blocks). HasRead c.close_paragraph.new.self (spine around bs (Text []))) (join-assoc kids parts.definitions (paragraph_of parts.left))
+    (reads around (join kids parts.definitions) parts.left (c.in_ok-cut_definitions.ensures.read around kids ls clean h)))
+    c.close_paragraph.ensures.read

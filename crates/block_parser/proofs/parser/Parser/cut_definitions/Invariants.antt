@@ -1,0 +1,19 @@
+use Rattle.std.proofs.Common.{◌≡◌, ◌≤◌, ◌-◌, List, drop, length, string_bytes}
+use Rattle.definition_text.specs.BlockLines.{BlockLine}
+use Rattle.definition_block.specs.Tree.{Blocks, Text}
+use Rattle.block_rows.specs.ParagraphLines.{AreLines}
+use Rattle.block_parser.specs.Spine.{Level, spine}
+use Rattle.block_parser.specs.View.{HasRead}
+use Rattle.block_parser.proofs.Definitions.{Cutting}
+use Rattle.block_parser.proofs.parser.Parser.cut_definitions.Given as goal
+
+-- the definitions so far are cut
+abbrev pub invariant-loop-end : goal.invariant-loop-end
+invariant-loop-end g l = record {
+  same_open : l.self.open ≡ l.initial.self.open;
+  within : l.at ≤ length (string_bytes l.self.content);
+  cuts : (around : List Level) (kids : Blocks) (ls : List BlockLine) → AreLines ls → HasRead l.initial.self (spine around kids (Text ls)) → Cutting l.self (drop l.at (string_bytes l.self.content)) around kids ls;
+}
+
+abbrev pub decreases-loop-end : goal.decreases-loop-end
+decreases-loop-end g l = length (string_bytes l.self.content) - l.at

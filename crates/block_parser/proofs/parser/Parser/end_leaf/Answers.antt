@@ -1,0 +1,24 @@
+use Rattle.std.proofs.Common.{[], sym, ◌∙◌, refl, arith}
+use Rattle.std.proofs.lemmas.List.{length-map, drop_all}
+use Rattle.std.proofs.lemmas.Result.{on_ok_weaker}
+use Rattle.block_rows.specs.Rows.{piece_lines, piece_line, lines_taken}
+use Rattle.block_parser.specs.Shows.{leaf_lines}
+use Rattle.block_parser.proofs.Leaves as leaves
+use Rattle.block_parser.proofs.parser.Parser.end_leaf.Goals as goal
+
+pub returns-clause-read : goal.returns-clause-read
+returns-clause-read g c =
+    on_ok_weaker c.ending.result (λ waits. λ around kids leaf b h is other.
+    let p = c.args.self.now in
+    let pool = piece_lines p.pieces.items in
+    let left = leaves.all_left p.rows.rows.items p.rows.waiting.items p.rows.bare pool around kids (leaf_lines leaf) h.written (leaves.enough_lines p) in
+    let long = length-map p.pieces.items piece_line in
+    record {
+      written = leaves.written_ended p.rows.rows.items p.rows.waiting.items p.rows.bare pool around kids (leaf_lines leaf) h.written c.args.row b c.args.ending p.rows.none is other
+          c.ending.new.self.rows.items c.block.new.self.waiting.items c.ending.new.self.waiting.items c.ending.new.self.bare []
+          (c.ending.ensures.rows ∙ c.in_ok-block.ensures.rows) c.in_ok-block.ensures.waiting waits (c.ending.ensures.bare ∙ c.in_ok-block.ensures.bare)
+          (sym (drop_all (lines_taken c.args.row) (leaf_lines leaf) (omega (arith, left, long, p.counted, p.pieces.ok.0, c.requires))));
+      opened = h.opened;
+      same_state = refl;
+    })
+    c.ending.ensures.waiting

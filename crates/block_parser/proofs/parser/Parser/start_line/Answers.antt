@@ -1,0 +1,46 @@
+use Rattle.std.proofs.Common.{◌≡◌, ◌∷◌, ◌==◌, sym, ap, ◌∙◌, subst, length, arith}
+use Rattle.std.proofs.lemmas.Result.{on_ok_weaker}
+use Rattle.definition_text.specs.declared.beside.Kind.{Kind}
+use Rattle.definition_block.specs.Started.{started}
+use Rattle.definition_block.specs.Tree.{Nil, Tree, tree, nothing, join, Inside, close, beside_in}
+use Rattle.block_starts.specs.View.{rest_of, started_if}
+use Rattle.block_parser.specs.Spine.{level, grown}
+use Rattle.block_parser.specs.View.{HasRead, new_inside}
+use Rattle.block_parser.proofs.Closing as closing
+use Rattle.block_parser.proofs.Starting as starting
+use Rattle.std.proofs.Common.{vec_len}
+use Rattle.definition_block.specs.Containers.{starts}
+use Rattle.block_parser.proofs.parser.Parser.start_line.Goals as goal
+
+pub returns-in_default : goal.returns-in_default
+returns-in_default g c =
+    on_ok_weaker c.leaf_line.result (λ grows. λ around kids away deep clean h.
+    let on = c.args.on.now in
+    let r = rest_of c.args.rest in
+    let none = ap (λ b. starts on b r) (sym (c.interrupts.ensures around kids away deep h)) ∙ sym c.starts.ensures ∙ ap started_if c.in_default.is in
+    subst (λ (x : Tree). HasRead c.leaf_line.new.self (grown around kids x)) (sym (starting.new_none on c.args.beside (length r) (c.args.depth == vec_len c.args.self.now.open) away r none)) (grows around kids away deep clean h))
+    c.leaf_line.ensures
+
+pub returns : goal.returns
+returns g c =
+    on_ok_weaker c.leaf_line-2.result (λ grows. λ around kids away deep clean h.
+    let on = c.args.on.now in
+    let r = rest_of c.args.rest in
+    let e = c.args.beside in
+    let all = c.args.depth == vec_len c.args.self.now.open in
+    let s = started c.in-Some.container (rest_of c.in-Some.after) in
+    let some = ap (λ b. starts on b r) (sym (c.interrupts.ensures around kids away deep h)) ∙ sym c.starts.ensures ∙ ap started_if c.in-Some.is in
+    let kids2 = join kids (close on away) in
+    let inner = beside_in s.container r e in
+    let t = new_inside on inner s.rest in
+    let holder = tree Nil (Inside s.container t.done t.now) in
+    let entered = c.in_ok-enter.ensures around kids2 (c.in_ok-close_to.ensures.read around kids away deep clean h) in
+    let inside = c.in_ok-inside.ensures (level s.container kids2 ∷ around) Nil entered in
+    let q = c.enter_all.new.self in
+    let deeper : c.len-depth.result ≡ length inside.inner = omega (arith, c.len-depth.ensures, q.open.ok.0, ap length inside.reads.opened, closing.length-containers inside.inner) in
+    subst (λ (x : Tree). HasRead c.leaf_line-2.new.self (grown around kids x)) (sym (starting.new_some on e all away r s some))
+    (closing.after_added on (HasRead c.leaf_line-2.new.self) around kids away holder
+    (subst (HasRead c.leaf_line-2.new.self) (sym (starting.grown-inside on e around kids2 s.container t
+    ∙ ap (λ (x : Kind). grown (level s.container kids2 ∷ around) Nil (new_inside on record { before = x; ending = e.ending } s.rest)) (sym c.kind_after.ensures) ∙ inside.grows))
+    (grows inside.inner inside.inner_kids nothing deeper tt inside.reads))))
+    c.leaf_line-2.ensures

@@ -1,0 +1,20 @@
+-- What the parser keeps of an open leaf.
+use Rattle.std.specs.Prelude.{ℕ}
+use Rattle.block_parser.specs.declared.leaf.OpenLeaf.{OpenLeaf}
+use Rattle.block_parser.specs.declared.leaf.OpenLeaf.TheVariants as leaf
+use Rattle.block_starts.specs.Fences.{fence_view}
+use Rattle.block_starts.specs.HtmlKinds.{number_of}
+use Rattle.block_parser.specs.Shows.{LeafState, InText, InIndented, InFenced, InHtml}
+
+abbrev pub leaf_state : OpenLeaf → LeafState
+leaf_state leaf.Text = InText
+leaf_state (leaf.Indented count ending) = InIndented count ending
+leaf_state (leaf.Fenced fence ending) = InFenced (fence_view fence) ending
+leaf_state (leaf.Html kind ending) = InHtml (number_of kind) ending
+
+-- how many lines an open leaf has at least
+abbrev pub lines_needed : OpenLeaf → ℕ
+lines_needed leaf.Text = 0
+lines_needed (leaf.Indented count ending) = count
+lines_needed (leaf.Fenced fence ending) = 1
+lines_needed (leaf.Html kind ending) = 0

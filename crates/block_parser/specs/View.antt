@@ -1,0 +1,62 @@
+-- What a parser has read.
+use Rattle.std.specs.Prelude.{◌≡◌, ℕ, ◌<◌, true, false, List, [], ◌∷◌, length}
+use Rattle.markdown_options.specs.declared.configuration.Constructs.{Constructs}
+use Rattle.definition_text.specs.declared.beside.Beside.{Beside}
+use Rattle.definition_text.specs.declared.beside.Kind.{Kind}
+use Rattle.definition_text.specs.declared.beside.Kind.TheVariants.{Whitespace}
+use Rattle.definition_text.specs.Lines.{TextLine}
+use Rattle.definition_text.specs.Columns.{Rest}
+use Rattle.definition_block.specs.Tree.{Blocks, Nil, Text, Opening, Leaf, Inside, Tree, tree, nothing, open_text, new, leaf_line, grow}
+use Rattle.block_rows.specs.ParagraphLines.{AreLines}
+use Rattle.block_rows.specs.Rows.{piece_lines}
+use Rattle.block_parser.specs.declared.parser.Parser.{Parser}
+use Rattle.block_parser.specs.Leaves.{leaf_state}
+use Rattle.block_parser.specs.Spine.{Level, Spine, spine, spine_at, spine_of, grown}
+use Rattle.block_parser.specs.Shows.{Shows}
+
+-- what was read so far is this
+abbrev pub HasRead : {A : Type 0} → Parser A → Spine → Type 0
+HasRead p s = Shows p.rows.rows.items p.rows.waiting.items p.rows.bare p.open.items (piece_lines p.pieces.items) (leaf_state p.leaf) s
+
+-- the kind of the character after these lines, where one of a kind stands before them
+abbrev pub kind_after_lines : Kind → List TextLine → Kind
+kind_after_lines before [] = before
+kind_after_lines before (line ∷ others) = Whitespace
+
+-- where no leaf is open, this is added in the innermost container
+abbrev pub Adds : {A : Type 0} → Parser A → Parser A → Tree → Type 0
+Adds old new more = (around : List Level) (kids : Blocks) → HasRead old (spine around kids (Text [])) → HasRead new (grown around kids more)
+
+-- so many containers stay open, and what is open in them, with the lines of a text, becomes something else
+abbrev pub Grows : {A : Type 0} → Parser A → Parser A → ℕ → (Opening → Tree) → Type 0
+Grows old new depth becomes = (around : List Level) (kids : Blocks) (away : Opening) → depth ≡ length around → AreLines (open_text away) → HasRead old (spine_at around kids away) → HasRead new (grown around kids (becomes away))
+
+-- what a line that is in all containers makes of the open leaf
+abbrev pub leaf_grown : Constructs → Beside → Rest → Opening → Tree
+leaf_grown on beside rest (Leaf leaf) = grow on beside (Leaf leaf) rest
+leaf_grown on beside rest (Inside c kids inner) = tree Nil (Inside c kids inner)
+
+-- how far a line is in the containers that are open
+pub record Descent (on : Constructs) (beside : Beside) (line : Rest) (t : Tree) (count depth : ℕ) (rest : Rest) (here : Beside) : Type 0 where
+  pub around : List Level
+  pub kids : Blocks
+  pub now : Opening
+  pub deep : depth ≡ length around
+  pub same : spine_at around kids now ≡ spine_of t
+  pub grows : grown [] t.done (grow on beside t.now line) ≡ grown around kids (grow on here now rest)
+  pub stuck : depth < count → grow on here now rest ≡ new (length rest) on false now here rest
+
+-- what a rest makes where all that was open is closed
+abbrev pub new_inside : Constructs → Beside → Rest → Tree
+new_inside on beside rest = new (length rest) on true nothing beside rest
+
+-- containers started on a line are open, and what they make of the rest is what is left to read
+pub record Inner {A : Type 0} (p : Parser A) (around : List Level) (kids : Blocks) (from to : Tree) : Type 0 where
+  pub inner : List Level
+  pub inner_kids : Blocks
+  pub reads : HasRead p (spine inner inner_kids (Text []))
+  pub grows : grown around kids from ≡ grown inner inner_kids to
+
+-- all containers that a rest starts are open, and the rest after them starts none
+abbrev pub Entered : {A : Type 0} → Constructs → Rest → Beside → Rest → Beside → Parser A → List Level → Blocks → Type 0
+Entered on rest beside after here p around kids = Inner p around kids (new_inside on beside rest) (leaf_line on nothing after here)

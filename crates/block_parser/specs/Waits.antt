@@ -1,0 +1,24 @@
+-- The endings that wait at the end of the rows.
+use Rattle.std.specs.Prelude.{Bool, true, false, ◌-◌, List, [], ◌∷◌, length, take, drop}
+use Rattle.definition_block.specs.declared.container.Container.{Container}
+use Rattle.definition_block.specs.declared.container.Container.TheVariants.{Quote, Item}
+use Rattle.block_rows.specs.declared.row.Row.{Row}
+use Rattle.block_rows.specs.declared.row.Row.TheVariants as row
+
+-- the endings that stand in a container that ends, and those that stand after it
+abbrev pub inside : Container → List Row → List Row
+inside Quote waiting = take (length waiting - 1) waiting
+inside (Item item) waiting = []
+
+abbrev pub outside : Container → List Row → List Row
+outside Quote waiting = drop (length waiting - 1) waiting
+outside (Item item) waiting = waiting
+
+-- whether these are the ending of one blank line
+abbrev pub is_one_blank_row : List Row → Bool
+is_one_blank_row (row.Blank ending ∷ []) = true
+is_one_blank_row rows = false
+
+abbrev pub enter_row : Container → Row
+enter_row Quote = row.EnterQuote
+enter_row (Item item) = row.EnterItem item.marker item.number

@@ -1,0 +1,108 @@
+//! HTML blocks (CommonMark 4.6).
+//!
+//!     start ::= small_indent start_of_a_kind
+//!     end   ::= a line that holds the end of the kind, or nothing before a blank line
+ghost use Rattle.std.specs.Prelude.{◌≡◌, ◌&&◌};
+ghost use Rattle.definition_text.specs.Columns.{is_blank as is_blank_rest};
+ghost use Rattle.definition_block.specs.HtmlFlow.{html_start as html_starts, html_ends_here as html_ends_on, ends_before_blank as stops_before_blank};
+ghost use Rattle.block_starts.specs.View.{rest_of};
+ghost use Rattle.block_starts.specs.HtmlKinds.{number_of, kind_number};
+
+use crate::leaf::OpenLeaf;
+use crate::parser::{Parser, piece};
+use block_starts::Cursor;
+use block_starts::indent::is_small;
+use block_starts::html_flow::{HtmlKind, html_ends, html_kind};
+use block_rows::Row;
+use definition_text::Beside;
+use markdown_options::{Constructs, LineEnding};
+use std::alloc::{AllocError, Allocator};
+
+impl<'a, A: Allocator> Parser<'a, A> {
+    ghost use Rattle.std.specs.Prelude.{◌≡◌, OnOk, List, ℕ, []};
+    ghost use Rattle.block_starts.specs.HtmlKinds.{number_of};
+    ghost use Rattle.definition_text.specs.BlockLines.{BlockLine, last_ending};
+    ghost use Rattle.definition_block.specs.Tree.{Blocks, join, close_leaf, OpenLeaf as OpenLeafOf, html_with, Leaf as OpenedLeaf, Text as TextLeaf, OpenHtml as HtmlLeaf};
+    ghost use Rattle.block_parser.specs.Spine.{Level, spine, grown};
+    ghost use Rattle.block_parser.specs.Shows.{leaf_lines};
+    ghost use Rattle.block_parser.specs.View.{HasRead, leaf_grown};
+    ghost use Rattle.block_starts.specs.View.{rest_of};
+
+    /// An HTML block takes every line up to its end, which may come before a blank one.
+    pub(crate) fn html_line(
+        &mut self,
+        on: &Constructs,
+        kind: HtmlKind,
+        rest: Cursor<'a>,
+        beside: Beside,
+    ) -> Result<(), AllocError>
+        ensures { OnOk result ((around : List Level) (kids : Blocks) (ls : List BlockLine) → HasRead self.old (spine around kids (HtmlLeaf (number_of kind) ls)) → HasRead self.new (grown around kids (leaf_grown on.now beside (rest_of rest.entry) (OpenedLeaf (HtmlLeaf (number_of kind) ls))))) }
+    {
+        if html_stops(kind, rest) {
+            let depth = self.open.len();
+            return self.start_line(on, depth, rest, beside);
+        }
+        self.html_with(kind, rest, beside)
+    }
+
+    /// One more line of an HTML block, which may end it.
+    pub(crate) fn html_with(
+        &mut self,
+        kind: HtmlKind,
+        rest: Cursor<'a>,
+        beside: Beside,
+    ) -> Result<(), AllocError>
+        ensures { OnOk result ((around : List Level) (kids : Blocks) (leaf : OpenLeafOf) (ls : List BlockLine) → leaf_lines leaf ≡ ls → HasRead self.old (spine around kids leaf) → HasRead self.new (grown around kids (html_with (number_of kind) ls (rest_of rest.entry) beside))) }
+    {
+        self.pieces.push(piece(rest, beside))?;
+        self.leaf = OpenLeaf::Html {
+            kind,
+            ending: beside.ending,
+        };
+        if html_ends_here(kind, rest) {
+            return self.close_html(beside.ending);
+        }
+        Ok(())
+    }
+
+    pub(crate) fn close_html(&mut self, ending: Option<LineEnding>) -> Result<(), AllocError>
+        ensures read { OnOk result ((around : List Level) (kids : Blocks) (switches : Constructs) (kind : ℕ) (ls : List BlockLine) → ending ≡ last_ending ls → HasRead self.old (spine around kids (HtmlLeaf kind ls)) → HasRead self.new (spine around (join kids (close_leaf switches (HtmlLeaf kind ls))) (TextLeaf []))) }
+        ensures containers { self.new.open ≡ self.old.open }
+    {
+        let count = self.pieces.len() - self.taken;
+        self.end_leaf(Row::Html(count), ending)
+    }
+}
+
+/// The kind of the HTML block that starts here. The last kind doesn't interrupt a paragraph.
+pub(crate) fn html_start(on: &Constructs, paragraph: bool, rest: Cursor<'_>) -> Option<HtmlKind>
+    ensures { kind_number result ≡ html_starts on.now paragraph (rest_of rest.entry) }
+{
+    let (columns, bare) = rest.split_bare();
+    if on.html_flow && is_small(on, columns) {
+        html_kind(bare.text().as_bytes(), paragraph)
+    } else {
+        None
+    }
+}
+
+/// Whether a block of this kind ends on this line.
+fn html_ends_here(kind: HtmlKind, rest: Cursor<'_>) -> bool
+    ensures { result ≡ html_ends_on (number_of kind) (rest_of rest.entry) }
+{
+    let (_, bare) = rest.split_bare();
+    html_ends(kind, bare.text().as_bytes())
+}
+
+/// Whether a block of this kind ends before this line, a blank one.
+fn html_stops(kind: HtmlKind, rest: Cursor<'_>) -> bool
+    ensures { result ≡ (stops_before_blank (number_of kind) && is_blank_rest (rest_of rest.entry)) }
+{
+    ends_before_blank(kind) && rest.is_blank()
+}
+
+fn ends_before_blank(kind: HtmlKind) -> bool
+    ensures { result ≡ stops_before_blank (number_of kind) }
+{
+    matches!(kind, HtmlKind::Basic | HtmlKind::Complete)
+}

@@ -1,0 +1,379 @@
+//! Blocks, line by line (CommonMark 4, 5 and appendix, phase 1).
+ghost use Rattle.std.specs.Prelude.{◌≡◌, ◌≤◌, ◌<◌, ◌+◌, false, ◌^◌, [], IfOk, length, vec_len};
+ghost use Rattle.definition_block.specs.Tree.{blocks, rest_line};
+ghost use Rattle.block_rows.specs.Rows.{all_taken, piece_line, piece_lines, rows_of, shown, shown_as};
+ghost use Rattle.block_starts.specs.View.{rest_of};
+ghost use Rattle.block_parser.specs.Leaves.{lines_needed};
+
+use crate::code::begins_code;
+use crate::html_flow::html_start;
+use crate::leaf::OpenLeaf;
+use crate::rows::Rows;
+use block_starts::Cursor;
+use block_starts::code_fenced::fence_start;
+use block_starts::container::{continues, kind_after, starts};
+use block_starts::heading_atx::heading_atx;
+use block_starts::thematic_break::is_break;
+use block_rows::{Piece, Row};
+use definition_block::Container;
+use definition_text::{Beside, Kind};
+use markdown_options::{Constructs, LineEnding};
+use std::alloc::{AllocError, Allocator};
+use text_lines::{Line, Lines};
+
+/// The blocks of a text: rows, and the lines that they take.
+#[derive(Drop)]
+pub struct BlockRows<'a, A: Allocator> {
+    pub rows: Vec<Row, A>,
+    pub pieces: Vec<Piece<'a>, A>,
+}
+
+/// What was read so far.
+#[derive(Drop)]
+pub(crate) struct Parser<'a, A: Allocator> {
+    pub(crate) rows: Rows<A>,
+    pub(crate) pieces: Vec<Piece<'a>, A>,
+    /// The content of a paragraph that definitions are read off.
+    pub(crate) content: String<A>,
+    /// How many of the lines the rows take. The others are those of the open leaf.
+    pub(crate) taken: usize,
+    /// The containers that are open, the outermost first.
+    pub(crate) open: Vec<Container, A>,
+    pub(crate) leaf: OpenLeaf<'a>,
+    /// The text from the line on that is read.
+    pub(crate) rest: &'a str,
+    /// The text from the first line of the open paragraph on.
+    pub(crate) paragraph: &'a str,
+    ghost counted: { taken ≡ all_taken rows.rows.items },
+    ghost enough: { taken + lines_needed leaf ≤ vec_len pieces },
+    ghost rest_fits: { length rest.now < 2 ^ 61 },
+    ghost paragraph_fits: { length paragraph.now < 2 ^ 61 },
+}
+
+/// No leaf is open.
+pub(crate) const NOTHING: OpenLeaf<'static> = OpenLeaf::Text;
+
+impl<'a, A: Allocator> Parser<'a, A> {
+    ghost use Rattle.std.specs.Prelude.{◌≡◌, ◌==◌, ◌&&◌, OnOk, IfOk, List, Option, false};
+    ghost use Rattle.markdown_options.specs.declared.line_ending.LineEnding.{LineEnding};
+    ghost use Rattle.definition_text.specs.Lines.{text_line};
+    ghost use Rattle.definition_block.specs.Tree.{Tree, Block, Blocks, tree, nothing, Nil, join, one, ended, step, new, close, close_leaf, is_ending, is_nothing, is_some_line, leaf_text, open_text, began_blank, OpenLeaf as OpenLeafOf};
+    ghost use Rattle.block_rows.specs.ParagraphLines.{AreLines};
+    ghost use Rattle.definition_block.specs.Tree.{Opening, leaf_line as line_of_leaf, has_text as is_text_open, Blank as BlankBlock, Break as BreakBlock, Leaf as OpenedLeaf, Inside, Text as TextLeaf};
+    ghost use Rattle.block_rows.specs.Rows.{block_rows, row_shown, lines_taken};
+    ghost use Rattle.block_parser.specs.Spine.{Level, Spine, level, spine, spine_at, spine_of, exited};
+    ghost use Rattle.block_parser.specs.Shows.{leaf_lines};
+    ghost use Rattle.block_parser.specs.View.{HasRead, Adds, Grows, Descent, Entered};
+    ghost use Rattle.std.specs.Prelude.{◌≤◌, ◌<◌, ◌+◌, ◌-◌, ◌∷◌, [], length, vec_len};
+    ghost use Rattle.block_starts.specs.View.{rest_of};
+
+    /// Reads a line after a character of a kind: the containers that go on, then the leaf that takes
+    /// the rest, or what is new.
+    pub(crate) fn line(
+        &mut self,
+        on: &Constructs,
+        before: Kind,
+        line: Line<'a>,
+    ) -> Result<(), AllocError>
+        ensures { OnOk result ((t : Tree) → AreLines (open_text t.now) → HasRead self.old (spine_of t) → HasRead self.new (spine_of (step on.now before t (text_line line.entry.content.now line.entry.ending)))) }
+    {
+        self.rest = line.text;
+        let beside = Beside {
+            before,
+            ending: line.ending,
+        };
+        let (depth, rest, beside) = self.descend(on, Cursor::new(line.content), beside);
+        if depth < self.open.len() {
+            return self.start_line(on, depth, rest, beside);
+        }
+        match self.leaf {
+            OpenLeaf::Text => self.start_line(on, depth, rest, beside),
+            OpenLeaf::Indented { .. } => self.indented_line(on, rest, beside),
+            OpenLeaf::Fenced { fence, .. } => self.fenced_line(on, fence, rest, beside),
+            OpenLeaf::Html { kind, .. } => self.html_line(on, kind, rest, beside),
+        }
+    }
+
+    /// How many containers go on, the rest after what they have on this line, and what stands beside
+    /// it.
+    fn descend(
+        &self,
+        on: &Constructs,
+        line: Cursor<'a>,
+        beside: Beside,
+    ) -> (usize, Cursor<'a>, Beside)
+        ensures within { result.0 ≤ vec_len self.now.open }
+        ensures descent { (t : Tree) → HasRead self.now (spine_of t) → Descent on.now beside (rest_of line.entry) t (vec_len self.now.open) result.0 (rest_of result.1) result.2 }
+    {
+        let mut rest = line;
+        let mut here = beside;
+        for depth in 0..self.open.len() {
+            let container = self.open[depth];
+            match continues(on, container, self.began_blank(depth), rest) {
+                Some(after) => {
+                    here.before = kind_after(container, rest);
+                    rest = after;
+                }
+                None => return (depth, rest, here),
+            }
+        }
+        (self.open.len(), rest, here)
+    }
+
+    /// Whether a container, at a depth, began with a blank line, and nothing followed.
+    fn began_blank(&self, depth: usize) -> bool
+        requires { depth < vec_len self.now.open }
+        ensures { (around : List Level) (kids inner_kids : Blocks) (c : Container) (inner : Opening) → depth ≡ length around → HasRead self.now (spine_at around kids (Inside c inner_kids inner)) → result ≡ began_blank inner_kids inner }
+    {
+        if depth + 1 != self.open.len() {
+            return false;
+        }
+        self.is_nothing() && self.rows.began_blank()
+    }
+
+    /// Whether no leaf is open.
+    fn is_nothing(&self) -> bool
+        ensures { (s : Spine) → HasRead self.now s → result ≡ is_nothing (OpenedLeaf s.leaf) }
+    {
+        match self.leaf {
+            OpenLeaf::Text => self.taken == self.pieces.len(),
+            OpenLeaf::Indented { .. } => false,
+            OpenLeaf::Fenced { .. } => false,
+            OpenLeaf::Html { .. } => false,
+        }
+    }
+
+    /// Whether a paragraph is open.
+    pub(crate) fn has_text(&self) -> bool
+        ensures { (s : Spine) → HasRead self.now s → result ≡ is_some_line (leaf_text s.leaf) }
+    {
+        match self.leaf {
+            OpenLeaf::Text => self.taken < self.pieces.len(),
+            OpenLeaf::Indented { .. } => false,
+            OpenLeaf::Fenced { .. } => false,
+            OpenLeaf::Html { .. } => false,
+        }
+    }
+
+    /// Whether what starts on a line that is in so many containers interrupts a paragraph.
+    pub(crate) fn interrupts(&self, depth: usize) -> bool
+        ensures { (around : List Level) (kids : Blocks) (away : Opening) → depth ≡ length around → HasRead self.now (spine_at around kids away) → result ≡ ((depth == vec_len self.now.open) && is_text_open away) }
+    {
+        depth == self.open.len() && self.has_text()
+    }
+
+    /// Reads the rest of a line after the containers that it is in, which are so many.
+    pub(crate) fn start_line(
+        &mut self,
+        on: &Constructs,
+        depth: usize,
+        rest: Cursor<'a>,
+        beside: Beside,
+    ) -> Result<(), AllocError>
+        requires depth { depth ≤ vec_len self.old.open }
+        ensures { OnOk result (Grows self.old self.new depth (λ away. new (length (rest_of rest.entry)) on.now (depth == vec_len self.old.open) away beside (rest_of rest.entry))) }
+    {
+        let Some((container, after)) = starts(on, self.interrupts(depth), rest) else {
+            return self.leaf_line(on, depth, rest, beside);
+        };
+        self.close_to(on, depth)?;
+        self.enter(container)?;
+        let inner = Beside {
+            before: kind_after(container, rest),
+            ending: beside.ending,
+        };
+        let (inside, here) = self.enter_all(on, after, inner)?;
+        let depth = self.open.len();
+        self.leaf_line(on, depth, inside, here)
+    }
+
+    /// Starts containers, where no leaf is open, as long as the rest starts one.
+    fn enter_all(
+        &mut self,
+        on: &Constructs,
+        rest: Cursor<'a>,
+        beside: Beside,
+    ) -> Result<(Cursor<'a>, Beside), AllocError>
+        ensures { IfOk result (λ inside. (around : List Level) (kids : Blocks) → HasRead self.old (spine around kids (TextLeaf [])) → Entered on.now (rest_of rest.entry) beside (rest_of inside.0) inside.1 self.new around kids) }
+    {
+        let mut inside = rest;
+        let mut here = beside;
+        while let Some((container, after)) = starts(on, false, inside) {
+            self.enter(container)?;
+            here.before = kind_after(container, inside);
+            inside = after;
+        }
+        Ok((inside, here))
+    }
+
+    /// Reads a rest that starts no container: a blank one, or a leaf that starts.
+    fn leaf_line(
+        &mut self,
+        on: &Constructs,
+        depth: usize,
+        rest: Cursor<'a>,
+        beside: Beside,
+    ) -> Result<(), AllocError>
+        requires depth { depth ≤ vec_len self.old.open }
+        ensures { OnOk result (Grows self.old self.new depth (λ away. line_of_leaf on.now away (rest_of rest.entry) beside)) }
+    {
+        let paragraph = self.has_text();
+        if rest.is_blank() {
+            self.close_to(on, depth)?;
+            return self.blank_line(beside.ending);
+        }
+        if begins_code(on, paragraph, rest) {
+            self.close_to(on, depth)?;
+            return self.start_indented(rest, beside);
+        }
+        if let Some(fence) = fence_start(on, rest) {
+            self.close_to(on, depth)?;
+            return self.start_fenced(fence, beside.ending);
+        }
+        if let Some(kind) = html_start(on, paragraph, rest) {
+            self.close_to(on, depth)?;
+            return self.html_with(kind, rest, beside);
+        }
+        if let Some(atx) = heading_atx(on, rest) {
+            self.close_to(on, depth)?;
+            return self.heading(atx, beside.ending);
+        }
+        if let Some(rank) = self.turns(on, depth, rest)? {
+            return self.setext_heading(on, rank, beside.ending);
+        }
+        if is_break(on, rest) {
+            self.close_to(on, depth)?;
+            return self.thematic_break(beside.ending);
+        }
+        if paragraph {
+            return self.text_line(rest, beside);
+        }
+        self.close_to(on, depth)?;
+        self.text_line(rest, beside)
+    }
+
+    /// A blank line, where no leaf is open.
+    fn blank_line(&mut self, ending: Option<LineEnding>) -> Result<(), AllocError>
+        ensures { OnOk result (Adds self.old self.new (tree (one (BlankBlock ending)) nothing)) }
+    {
+        self.rows.blank(ending)
+    }
+
+    /// A thematic break, where no leaf is open.
+    fn thematic_break(&mut self, ending: Option<LineEnding>) -> Result<(), AllocError>
+        ensures { OnOk result (Adds self.old self.new (tree (ended BreakBlock ending) nothing)) }
+    {
+        self.rows.block(Row::Break)?;
+        self.rows.ending(ending)
+    }
+
+    /// A container starts, where no leaf is open.
+    fn enter(&mut self, container: Container) -> Result<(), AllocError>
+        ensures { OnOk result ((around : List Level) (kids : Blocks) → HasRead self.old (spine around kids (TextLeaf [])) → HasRead self.new (spine (level container kids ∷ around) Nil (TextLeaf []))) }
+    {
+        self.rows.enter(container)?;
+        self.open.push(container)?;
+        Ok(())
+    }
+
+    /// Closes the open leaf, and all containers but so many.
+    pub(crate) fn close_to(&mut self, on: &Constructs, depth: usize) -> Result<(), AllocError>
+        requires depth { depth ≤ vec_len self.old.open }
+        ensures read { OnOk result (Grows self.old self.new depth (λ away. tree (close on.now away) nothing)) }
+        ensures count { OnOk result (vec_len self.new.open ≡ depth) }
+    {
+        self.close_leaf(on)?;
+        while self.open.len() > depth {
+            self.exit()?;
+        }
+        Ok(())
+    }
+
+    /// Closes the innermost container, where no leaf is open.
+    fn exit(&mut self) -> Result<(), AllocError>
+        ensures read { OnOk result ((s : Spine) → s.leaf ≡ TextLeaf [] → HasRead self.old s → HasRead self.new (exited s)) }
+        ensures count { OnOk result (vec_len self.new.open ≡ vec_len self.old.open - 1) }
+    {
+        match self.open.pop() {
+            Some(container) => self.rows.exit(container)?,
+            None => {}
+        }
+        Ok(())
+    }
+
+    /// Closes the open leaf, if there is one.
+    fn close_leaf(&mut self, on: &Constructs) -> Result<(), AllocError>
+        ensures read { OnOk result ((around : List Level) (kids : Blocks) (leaf : OpenLeafOf) → AreLines (leaf_text leaf) → HasRead self.old (spine around kids leaf) → HasRead self.new (spine around (join kids (close_leaf on.now leaf)) (TextLeaf []))) }
+        ensures containers { self.new.open ≡ self.old.open }
+    {
+        match self.leaf {
+            OpenLeaf::Text => self.close_text(on),
+            OpenLeaf::Indented { count, ending } => self.close_indented(count, ending),
+            OpenLeaf::Fenced { ending, .. } => self.close_fenced(ending),
+            OpenLeaf::Html { ending, .. } => self.close_html(ending),
+        }
+    }
+
+    /// The open leaf ends: a row takes all lines that are left.
+    pub(crate) fn end_leaf(
+        &mut self,
+        row: Row,
+        ending: Option<LineEnding>,
+    ) -> Result<(), AllocError>
+        requires { self.old.taken + lines_taken row ≡ vec_len self.old.pieces }
+        ensures read { OnOk result ((around : List Level) (kids : Blocks) (leaf : OpenLeafOf) (b : Block) → HasRead self.old (spine around kids leaf) → block_rows b ≡ row_shown row (leaf_lines leaf) ∷ [] → is_ending b ≡ false → HasRead self.new (spine around (join kids (ended b ending)) (TextLeaf []))) }
+        ensures containers { self.new.open ≡ self.old.open }
+    {
+        self.rows.block(row)?;
+        self.taken = self.pieces.len();
+        self.leaf = NOTHING;
+        self.rows.ending(ending)
+    }
+}
+
+/// The line of a block that a rest is.
+pub(crate) fn piece<'a>(rest: Cursor<'a>, beside: Beside) -> Piece<'a>
+    ensures { piece_line result ≡ rest_line (rest_of rest.entry) beside }
+{
+    Piece {
+        text: rest.text(),
+        owed: rest.owed(),
+        ending: beside.ending,
+        before: beside.before,
+    }
+}
+
+/// The blocks of a text without a byte order mark, after a character of a kind.
+pub fn block_rows<'a, A: Allocator + Clone>(
+    alloc: A,
+    before: Kind,
+    text: &'a str,
+    on: &Constructs,
+) -> Result<BlockRows<'a, A>, AllocError>
+    requires fits { length text.now < 2 ^ 61 }
+    ensures shown { IfOk result (λ r. shown r.rows.items (piece_lines r.pieces.items) ≡ shown_as (rows_of (blocks on.now before text.entry.now)) []) }
+    ensures enough { IfOk result (λ r. all_taken r.rows.items ≤ length r.pieces.items) }
+{
+    let rows = Rows::new(alloc.clone()?, alloc.clone()?);
+    let mut parser = Parser {
+        rows,
+        pieces: Vec::new(alloc.clone()?),
+        content: String::new(alloc.clone()?),
+        taken: 0,
+        open: Vec::new(alloc),
+        leaf: NOTHING,
+        rest: text,
+        paragraph: text,
+    };
+    let mut here = before;
+    for line in Lines::new(text) {
+        parser.line(on, here, line)?;
+        here = Kind::Whitespace;
+    }
+    parser.close_to(on, 0)?;
+    let Parser { rows, pieces, .. } = parser;
+    Ok(BlockRows {
+        rows: rows.finish()?,
+        pieces,
+    })
+}

@@ -1,0 +1,160 @@
+//! The rows so far.
+ghost use Rattle.std.specs.Prelude.{◌≡◌, ◌+◌, ◌&&◌, ◌++◌, ◌∷◌, [], true, false, OnOk, OnErr, IfOk};
+ghost use Rattle.definition_block.specs.declared.container.Container.TheVariants as container_variant;
+ghost use Rattle.block_rows.specs.declared.row.Row.TheVariants as row_variant;
+ghost use Rattle.block_rows.specs.Rows.{all_taken, lines_taken};
+ghost use Rattle.block_parser.specs.Waits.{inside, outside, is_one_blank_row, enter_row as row_of_start};
+
+use block_rows::Row;
+use definition_block::Container;
+use markdown_options::LineEnding;
+use std::alloc::{AllocError, Allocator};
+
+/// The rows so far, but for the endings at their end: these wait, since a container that ends may
+/// leave them outside.
+#[derive(Drop)]
+pub(crate) struct Rows<A: Allocator> {
+    rows: Vec<Row, A>,
+    waiting: Vec<Row, A>,
+    /// Whether the innermost container has no child yet but endings.
+    bare: bool,
+    ghost none: { all_taken waiting.items ≡ 0 },
+}
+
+impl<A: Allocator> Rows<A> {
+    pub(crate) fn new(rows_alloc: A, waiting_alloc: A) -> Rows<A>
+        ensures rows { result.rows.items ≡ [] }
+        ensures waiting { result.waiting.items ≡ [] }
+        ensures bare { result.bare ≡ true }
+    {
+        Rows {
+            rows: Vec::new(rows_alloc),
+            waiting: Vec::new(waiting_alloc),
+            bare: true,
+        }
+    }
+
+    /// One more block that holds no other.
+    pub(crate) fn block(&mut self, row: Row) -> Result<(), AllocError>
+        ensures rows { OnOk result (self.new.rows.items ≡ (self.old.rows.items ++ self.old.waiting.items) ++ row ∷ []) }
+        ensures waiting { OnOk result (self.new.waiting.items ≡ []) }
+        ensures bare { OnOk result (self.new.bare ≡ false) }
+        ensures counted { OnOk result (all_taken self.new.rows.items ≡ all_taken self.old.rows.items + lines_taken row) }
+        ensures kept { OnErr result (all_taken self.new.rows.items ≡ all_taken self.old.rows.items) }
+    {
+        self.settle()?;
+        self.rows.push(row)?;
+        self.bare = false;
+        Ok(())
+    }
+
+    /// The ending of a block's last line.
+    pub(crate) fn ending(&mut self, ending: Option<LineEnding>) -> Result<(), AllocError>
+        ensures rows { self.new.rows.items ≡ self.old.rows.items }
+        ensures waiting { OnOk result (self.new.waiting.items ≡ self.old.waiting.items ++ row_variant.Ending ending ∷ []) }
+        ensures bare { self.new.bare ≡ self.old.bare }
+    {
+        self.waiting.push(Row::Ending(ending))?;
+        Ok(())
+    }
+
+    /// The ending of a blank line.
+    pub(crate) fn blank(&mut self, ending: Option<LineEnding>) -> Result<(), AllocError>
+        ensures rows { self.new.rows.items ≡ self.old.rows.items }
+        ensures waiting { OnOk result (self.new.waiting.items ≡ self.old.waiting.items ++ row_variant.Blank ending ∷ []) }
+        ensures bare { self.new.bare ≡ self.old.bare }
+    {
+        self.waiting.push(Row::Blank(ending))?;
+        Ok(())
+    }
+
+    /// A container starts.
+    pub(crate) fn enter(&mut self, container: Container) -> Result<(), AllocError>
+        ensures rows { OnOk result (self.new.rows.items ≡ (self.old.rows.items ++ self.old.waiting.items) ++ row_of_start container ∷ []) }
+        ensures waiting { OnOk result (self.new.waiting.items ≡ []) }
+        ensures bare { OnOk result (self.new.bare ≡ true) }
+        ensures counted { all_taken self.new.rows.items ≡ all_taken self.old.rows.items }
+    {
+        self.settle()?;
+        self.rows.push(enter_row(container))?;
+        self.bare = true;
+        Ok(())
+    }
+
+    /// A container ends.
+    pub(crate) fn exit(&mut self, container: Container) -> Result<(), AllocError>
+        ensures rows { OnOk result (self.new.rows.items ≡ (self.old.rows.items ++ inside container self.old.waiting.items) ++ row_variant.Exit ∷ []) }
+        ensures waiting { OnOk result (self.new.waiting.items ≡ outside container self.old.waiting.items) }
+        ensures bare { OnOk result (self.new.bare ≡ false) }
+        ensures counted { all_taken self.new.rows.items ≡ all_taken self.old.rows.items }
+    {
+        match container {
+            Container::Quote => self.exit_quote()?,
+            Container::Item(_) => self.rows.push(Row::Exit)?,
+        }
+        self.bare = false;
+        Ok(())
+    }
+
+    /// A quote ends before the ending of its last line.
+    fn exit_quote(&mut self) -> Result<(), AllocError>
+        ensures rows { OnOk result (self.new.rows.items ≡ (self.old.rows.items ++ inside container_variant.Quote self.old.waiting.items) ++ row_variant.Exit ∷ []) }
+        ensures waiting { OnOk result (self.new.waiting.items ≡ outside container_variant.Quote self.old.waiting.items) }
+        ensures counted { all_taken self.new.rows.items ≡ all_taken self.old.rows.items }
+    {
+        let last = self.waiting.pop();
+        self.settle()?;
+        self.rows.push(Row::Exit)?;
+        if let Some(ending) = last {
+            self.waiting.push(ending)?;
+        }
+        Ok(())
+    }
+
+    /// Puts the endings that wait among the rows.
+    fn settle(&mut self) -> Result<(), AllocError>
+        ensures rows { OnOk result (self.new.rows.items ≡ self.old.rows.items ++ self.old.waiting.items) }
+        ensures waiting { OnOk result (self.new.waiting.items ≡ []) }
+        ensures bare { self.new.bare ≡ self.old.bare }
+        ensures counted { all_taken self.new.rows.items ≡ all_taken self.old.rows.items }
+    {
+        self.rows.append(&mut self.waiting)
+    }
+
+    /// Whether the innermost container began with a blank line, and has nothing else.
+    pub(crate) fn began_blank(&self) -> bool
+        ensures { result ≡ (self.now.bare && is_one_blank_row self.now.waiting.items) }
+    {
+        self.bare && is_one_blank(&self.waiting)
+    }
+
+    /// All rows.
+    pub(crate) fn finish(mut self) -> Result<Vec<Row, A>, AllocError>
+        ensures rows { IfOk result (λ rows. rows.items ≡ self.rows.items ++ self.waiting.items) }
+        ensures counted { IfOk result (λ rows. all_taken rows.items ≡ all_taken self.rows.items) }
+    {
+        self.settle()?;
+        let Rows { rows, .. } = self;
+        Ok(rows)
+    }
+}
+
+/// Whether these are the ending of one blank line.
+fn is_one_blank(rows: &[Row]) -> bool
+    ensures { result ≡ is_one_blank_row rows.now }
+{
+    matches!(rows, [Row::Blank(_)])
+}
+
+/// The row of a container's start.
+fn enter_row(container: Container) -> Row
+    ensures { result ≡ row_of_start container }
+{
+    match container {
+        Container::Quote => Row::EnterQuote,
+        Container::Item(item) => Row::EnterItem {
+            marker: item.marker,
+            number: item.number,
+        },
+    }
+}

@@ -1,0 +1,42 @@
+-- The definitions of a document are those of its rows.
+use Rattle.std.proofs.Common.{◌≡◌, [], ◌∷◌, ◌++◌, refl, sym, ap, ap₂, ◌∙◌}
+use Rattle.std.specs.Prelude.{map}
+use Rattle.std.specs.List.{flat_map}
+use Rattle.std.proofs.lemmas.List.{append-nil, map-append}
+use Rattle.std.proofs.lemmas.List.Concat.{flat_map-append}
+use Rattle.definition_block.specs.declared.container.Container.{Container}
+use Rattle.definition_block.specs.declared.container.Container.TheVariants.{Quote, Item}
+use Rattle.definition_text.specs.Columns.{code_byte}
+use Rattle.definition_block.specs.Blocks.{Block, Paragraph, Heading, Break, IndentedCode, FencedCode, Html, Definition, Holds, Items, Ending, Blank, Blocks, Nil, Cons}
+use Rattle.definition_block.specs.Definitions.{block_definitions, definitions}
+use Rattle.block_rows.specs.Rows.{Exit, entered, row_definitions, block_rows, rows_of}
+use Rattle.definition_inline.proofs.LinkRenaming.{renamed_definition}
+
+-- where a container starts there is none
+none_entered : (c : Container) → row_definitions (entered c) ≡ []
+none_entered Quote = refl
+none_entered (Item item) = refl
+
+mutual
+  pub definitions_in : (b : Block) → flat_map row_definitions (block_rows b) ≡ map (renamed_definition code_byte) (block_definitions b)
+  definitions_in (Paragraph ls) = refl
+  definitions_in (Heading rank ls) = refl
+  definitions_in Break = refl
+  definitions_in (IndentedCode ls) = refl
+  definitions_in (FencedCode info closed ls) = refl
+  definitions_in (Html ls) = refl
+  definitions_in (Definition label destination title) = refl
+  definitions_in (Holds c kids) =
+      ap (λ x. x ++ flat_map row_definitions (rows_of kids ++ Exit ∷ [])) (none_entered c)
+      ∙ flat_map-append row_definitions (rows_of kids) (Exit ∷ []) ∙ append-nil (flat_map row_definitions (rows_of kids)) ∙ definitions_of kids
+  definitions_in (Items items) = definitions_of items
+  definitions_in (Ending ending) = refl
+  definitions_in (Blank ending) = refl
+
+  -- but for columns that are left of a tab
+  pub definitions_of : (bs : Blocks) → flat_map row_definitions (rows_of bs) ≡ map (renamed_definition code_byte) (definitions bs)
+  definitions_of Nil = refl
+  definitions_of (Cons b bs) =
+      flat_map-append row_definitions (block_rows b) (rows_of bs)
+      ∙ ap₂ (λ xs ys. xs ++ ys) (definitions_in b) (definitions_of bs)
+      ∙ sym (map-append (renamed_definition code_byte) (block_definitions b) (definitions bs))

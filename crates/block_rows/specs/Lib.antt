@@ -1,0 +1,2 @@
+pub mod ParagraphLines
+pub mod Rows

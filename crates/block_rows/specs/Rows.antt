@@ -1,0 +1,137 @@
+-- The rows of a block tree: what the block parser hands to the printer.
+use Rattle.std.specs.Prelude.{ℕ, ◌+◌, true, false, Option, None, Some, List, [], ◌∷◌, ◌++◌, map, take, drop, replicate}
+use Rattle.std.specs.List.{fold, sum_by}
+use Rattle.std.specs.Option.{option_map}
+use Rattle.definition_block.specs.declared.container.Container.{Container}
+use Rattle.definition_block.specs.declared.container.Container.TheVariants.{Quote, Item}
+use Rattle.block_rows.specs.declared.row.Row.{Row}
+use Rattle.block_rows.specs.declared.row.Row.TheVariants as row
+use Rattle.block_rows.specs.declared.row.Piece.{Piece}
+use Rattle.definition_text.specs.Lines.{TextLine, lines}
+use Rattle.definition_text.specs.Columns.{bytes_of, code_byte, tab_column}
+use Rattle.definition_text.specs.BlockLines.{BlockLine, block_line, spaced_line, own_lines}
+use Rattle.definition_block.specs.Tree.{Block, Paragraph, Heading, Break, IndentedCode, FencedCode, Html, Definition, Holds, Items, Ending, Blank, Blocks, Nil, Cons}
+use Rattle.definition_text.specs.Content.{content_codes, content_text}
+use Rattle.definition_block.specs.Definitions.{block_definitions}
+use Rattle.definition_inline.specs.Definition.{Definition as LinkDefinition, definition_at}
+
+-- a block that holds no other, or an ending; the start of a quote; the start of an item, with the byte of its marker and its number; the end of the innermost container
+pub data BlockRow : Type 0 where
+  Single : Block → BlockRow
+  EnterQuote : BlockRow
+  EnterItem : ℕ → Option ℕ → BlockRow
+  Exit : BlockRow
+
+abbrev pub entered : Container → BlockRow
+entered Quote = EnterQuote
+entered (Item item) = EnterItem item.marker item.number
+
+-- a definition whose columns that are left of a tab are spaces
+abbrev pub spaced_definition : List ℕ → List ℕ → Option (List ℕ) → Block
+spaced_definition label destination title = Definition (map code_byte label) (map code_byte destination) (option_map (map code_byte) title)
+
+-- the rows of blocks, before their items are put into lists
+abbrev mutual
+  pub block_rows : Block → List BlockRow
+  block_rows (Paragraph ls) = Single (Paragraph ls) ∷ []
+  block_rows (Heading rank ls) = Single (Heading rank ls) ∷ []
+  block_rows Break = Single Break ∷ []
+  block_rows (IndentedCode ls) = Single (IndentedCode ls) ∷ []
+  block_rows (FencedCode info closed ls) = Single (FencedCode info closed ls) ∷ []
+  block_rows (Html ls) = Single (Html ls) ∷ []
+  block_rows (Definition label destination title) = Single (spaced_definition label destination title) ∷ []
+  block_rows (Holds c kids) = entered c ∷ (rows_of kids ++ Exit ∷ [])
+  block_rows (Items items) = rows_of items
+  block_rows (Ending ending) = Single (Ending ending) ∷ []
+  block_rows (Blank ending) = Single (Blank ending) ∷ []
+
+  pub rows_of : Blocks → List BlockRow
+  rows_of Nil = []
+  rows_of (Cons b bs) = block_rows b ++ rows_of bs
+
+-- the definition that a row stands for, if it is one
+abbrev pub row_definitions : BlockRow → List LinkDefinition
+row_definitions (Single b) = block_definitions b
+row_definitions EnterQuote = []
+row_definitions (EnterItem marker number) = []
+row_definitions Exit = []
+
+-- rows, and the lines that they leave
+pub record Shown : Type 0 where
+  pub rows : List BlockRow
+  pub left : List BlockLine
+
+abbrev pub shown_as : List BlockRow → List BlockLine → Shown
+shown_as rows left = record { rows = rows; left = left }
+
+-- how many lines a row takes: fenced code takes its info as one before its lines
+abbrev pub lines_taken : Row → ℕ
+lines_taken (row.Paragraph count) = count
+lines_taken (row.WholeParagraph count) = 1
+lines_taken (row.Heading rank) = 1
+lines_taken (row.SetextHeading rank count) = count
+lines_taken row.Break = 0
+lines_taken (row.IndentedCode count) = count
+lines_taken (row.FencedCode count) = 1 + count
+lines_taken (row.UnclosedCode count) = 1 + count
+lines_taken (row.Html count) = count
+lines_taken (row.Definition count) = count
+lines_taken row.EnterQuote = 0
+lines_taken (row.EnterItem marker number) = 0
+lines_taken row.Exit = 0
+lines_taken (row.Ending ending) = 0
+lines_taken (row.Blank ending) = 0
+
+abbrev pub all_taken : List Row → ℕ
+all_taken rows = sum_by lines_taken rows
+
+-- the codes of the first line
+abbrev pub first_codes : List BlockLine → List ℕ
+first_codes [] = []
+first_codes (line ∷ others) = line.codes
+
+-- the first lines of a text, so many, as lines of a block
+abbrev pub whole_line : TextLine → BlockLine
+whole_line line = spaced_line line.content line.ending
+
+abbrev pub whole_lines : ℕ → List ℕ → List BlockLine
+whole_lines count text = map whole_line (take count (lines text))
+
+-- the definition that is read off the bytes of these lines
+abbrev pub definition_on : List BlockLine → Option LinkDefinition
+definition_on ls = definition_at (content_codes (content_text ls))
+
+abbrev pub definition_shown : Option LinkDefinition → Block
+definition_shown None = Definition [] [] None
+definition_shown (Some d) = Definition d.label d.destination d.title
+
+-- what a row stands for: it takes its lines from the front of those that are left
+abbrev pub row_shown : Row → List BlockLine → BlockRow
+row_shown (row.Paragraph count) left = Single (Paragraph (own_lines (take count left)))
+row_shown (row.WholeParagraph count) left = Single (Paragraph (own_lines (whole_lines count (bytes_of (first_codes left)))))
+row_shown (row.Heading rank) left = Single (Heading rank (own_lines (take 1 left)))
+row_shown (row.SetextHeading rank count) left = Single (Heading rank (own_lines (take count left)))
+row_shown row.Break left = Single Break
+row_shown (row.IndentedCode count) left = Single (IndentedCode (own_lines (take count left)))
+row_shown (row.FencedCode count) left = Single (FencedCode (first_codes left) true (take count (drop 1 left)))
+row_shown (row.UnclosedCode count) left = Single (FencedCode (first_codes left) false (take count (drop 1 left)))
+row_shown (row.Html count) left = Single (Html (own_lines (take count left)))
+row_shown (row.Definition count) left = Single (definition_shown (definition_on (take count left)))
+row_shown row.EnterQuote left = EnterQuote
+row_shown (row.EnterItem marker number) left = EnterItem marker number
+row_shown row.Exit left = Exit
+row_shown (row.Ending ending) left = Single (Ending ending)
+row_shown (row.Blank ending) left = Single (Blank ending)
+
+abbrev pub show_row : Shown → Row → Shown
+show_row s r = shown_as (s.rows ++ row_shown r s.left ∷ []) (drop (lines_taken r) s.left)
+
+abbrev pub shown : List Row → List BlockLine → Shown
+shown rows ls = fold show_row (shown_as [] ls) rows
+
+-- the line that a piece of the text stands for
+abbrev pub piece_line : Piece → BlockLine
+piece_line piece = block_line (replicate piece.owed tab_column ++ piece.text.now) piece.ending piece.before
+
+abbrev pub piece_lines : List Piece → List BlockLine
+piece_lines pieces = map piece_line pieces

@@ -1,0 +1,6 @@
+//! The rows of blocks, which the parser hands to the printer.
+#![tactic(auto)]
+
+pub mod row;
+
+pub use row::{Piece, Row};

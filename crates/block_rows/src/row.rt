@@ -1,0 +1,83 @@
+//! What the block parser hands to the printer.
+ghost use Rattle.std.specs.Prelude.{◌≡◌, ◌<◌, ◌^◌};
+ghost use Rattle.block_rows.specs.Rows.{lines_taken};
+
+use definition_text::beside::Kind;
+use markdown_options::LineEnding;
+
+/// A line of a block: a piece of the text.
+#[derive(Clone, Copy)]
+pub struct Piece<'a> {
+    /// The bytes of the line, after the prefixes of containers.
+    pub text: &'a str,
+    /// The columns before them that are left of a tab in which a prefix ended.
+    pub owed: u8,
+    /// The line's ending, which a text's last line may lack.
+    pub ending: Option<LineEnding>,
+    /// The kind of the character before it in the text.
+    pub before: Kind,
+}
+
+/// A block, the start or end of a container, or the end of a line, in the order of the text.
+///
+/// The lines of the blocks stand in a list beside the rows: each block takes its lines from the
+/// front of what the rows before it left.
+#[derive(Clone, Copy, Debug, PartialEq, Eq)]
+pub enum Row {
+    /// A paragraph of so many lines, at least one (CommonMark 4.8).
+    Paragraph(usize),
+    /// A paragraph of so many whole lines that stand right after another in the text. Its one line
+    /// is the text from the first of them on, up to the end.
+    WholeParagraph(usize),
+    /// An ATX heading of a rank, from 1 to 6. Its one line is its content (CommonMark 4.2).
+    Heading(u8),
+    /// A setext heading of a rank, 1 or 2, and of so many lines, at least one (CommonMark 4.3).
+    SetextHeading { rank: u8, count: usize },
+    /// A thematic break (CommonMark 4.1).
+    Break,
+    /// Indented code of so many lines, at least one (CommonMark 4.4).
+    IndentedCode(usize),
+    /// Fenced code of so many lines, with its info as one more line before them (CommonMark 4.5).
+    FencedCode(usize),
+    /// The same where no fence closes it.
+    UnclosedCode(usize),
+    /// An HTML block of so many lines, at least one (CommonMark 4.6).
+    Html(usize),
+    /// A link reference definition of so many lines, at least one: its label, destination and
+    /// title are read off them again (CommonMark 4.7).
+    Definition(usize),
+    /// A block quote starts (CommonMark 5.1).
+    EnterQuote,
+    /// A list item starts, with the byte of its marker and its number (CommonMark 5.2).
+    EnterItem { marker: u8, number: Option<u32> },
+    /// The innermost container ends.
+    Exit,
+    /// The ending of a block's last line. The last line of a text may lack one.
+    Ending(Option<LineEnding>),
+    /// The ending of a blank line (CommonMark 4.9).
+    Blank(Option<LineEnding>),
+}
+
+impl Row {
+    /// How many lines a row takes from the list beside the rows.
+    pub fn lines_taken(self) -> usize
+        requires { lines_taken self < 2 ^ 64 }
+        ensures { result ≡ lines_taken self }
+    {
+        match self {
+            Row::Paragraph(count)
+            | Row::SetextHeading { count, .. }
+            | Row::IndentedCode(count)
+            | Row::Html(count)
+            | Row::Definition(count) => count,
+            Row::Heading(_) | Row::WholeParagraph(_) => 1,
+            Row::FencedCode(count) | Row::UnclosedCode(count) => 1 + count,
+            Row::Break
+            | Row::EnterQuote
+            | Row::EnterItem { .. }
+            | Row::Exit
+            | Row::Ending(_)
+            | Row::Blank(_) => 0,
+        }
+    }
+}

@@ -1,0 +1,12 @@
+use Rattle.std.proofs.Common.{length, sym, ◌∙◌, arith}
+use Rattle.std.proofs.lemmas.List.Sums.{prefix_len_is}
+use Rattle.definition_block.specs.ListItem.{is_digit}
+use Rattle.block_starts.proofs.cursor.digits.Goals as goal
+
+pub returns-then-not-is_ascii_digit-clause-same : goal.returns-then-not-is_ascii_digit-clause-same
+returns-then-not-is_ascii_digit-clause-same c =
+    sym (prefix_len_is is_digit c.args.bytes.now c.loop-i.i 0 (omega arith) c.loop-i.invariant (λ _. sym c.is_ascii_digit.ensures.value ∙ c.if-not-is_ascii_digit.true))
+
+pub returns-clause-same : goal.returns-clause-same
+returns-clause-same c =
+    sym (prefix_len_is is_digit c.args.bytes.now (length c.args.bytes.now) 0 (omega arith) (λ k h. c.loop-i.invariant k (omega arith)) (λ h. absurd (omega arith)))

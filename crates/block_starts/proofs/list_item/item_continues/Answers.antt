@@ -1,0 +1,13 @@
+use Rattle.std.proofs.Common.{sym, ap, ◌∙◌, Some, drop}
+use Rattle.std.proofs.lemmas.Bool.{cond-true}
+use Rattle.definition_block.specs.ListItem.{is_inside}
+use Rattle.block_starts.specs.View.{rest_of}
+use Rattle.block_starts.proofs.Items.{outdented_inside}
+use Rattle.block_starts.proofs.list_item.item_continues.Goals as goal
+
+pub returns-then-is_inside : goal.returns-then-is_inside
+returns-then-is_inside c =
+    let rest = rest_of c.args.rest in
+    let inside = sym c.is_inside.ensures ∙ c.if-is_inside.true in
+    ap Some (c.outdented.ensures ∙ outdented_inside c.args.size c.args.began_blank rest inside)
+    ∙ sym (cond-true (is_inside c.args.size c.args.began_blank rest) (Some (drop c.args.size rest)) _ inside)

@@ -1,0 +1,114 @@
+//! Fenced code (CommonMark 4.5).
+//!
+//!     start ::= small_indent ('`'{3,} no_backtick* | '~'{3,} any*)
+//!     end   ::= small_indent the_same_byte{as_many,} white*
+ghost use Rattle.std.specs.Prelude.{◌≡◌, not, ◌==◌, take};
+ghost use Rattle.std.specs.List.{list_all, position_or_len};
+ghost use Rattle.definition_text.specs.Columns.{is_white};
+ghost use Rattle.definition_block.specs.CodeFenced.{fence_start as fence_at, fence_of as fence_in, fence_by as fence_made_of, is_fence_end as is_end_of_fence, fence_line as line_of_fence, first_word as first_word_of};
+ghost use Rattle.block_starts.specs.View.{rest_of};
+ghost use Rattle.block_starts.specs.Fences.{fence_view, fence_if};
+
+use crate::cursor::{Cursor, is_space_or_tab};
+use crate::indent::is_small;
+use crate::run::{is_run, split_run};
+use markdown_options::Constructs;
+use markdown_options::constants::CODE_FENCED_SEQUENCE_SIZE_MIN;
+use text_lines::trim;
+
+/// An opening fence.
+#[derive(Clone, Copy, Debug, PartialEq, Eq)]
+pub struct Fence<'a> {
+    /// A backtick or a tilde.
+    pub byte: u8,
+    /// How many of it there are.
+    pub run: usize,
+    /// The columns before it.
+    pub indent: usize,
+    /// The first word after it.
+    pub info: &'a str,
+}
+
+/// The fence that opens here.
+pub fn fence_start<'a>(on: &Constructs, rest: Cursor<'a>) -> Option<Fence<'a>>
+    ensures { fence_if result ≡ fence_at on.now (rest_of rest.entry) }
+{
+    let (columns, bare) = rest.split_bare();
+    if on.code_fenced && is_small(on, columns) {
+        fence_of(columns, bare.text())
+    } else {
+        None
+    }
+}
+
+fn fence_of(columns: usize, text: &str) -> Option<Fence<'_>>
+    ensures { fence_if result ≡ fence_in columns text.now }
+{
+    let (backticks, after) = split_run(b'`', text);
+    if backticks >= CODE_FENCED_SEQUENCE_SIZE_MIN && has_no_backtick(after.as_bytes()) {
+        return Some(fence_by(b'`', backticks, columns, after));
+    }
+    let (tildes, after) = split_run(b'~', text);
+    if tildes < CODE_FENCED_SEQUENCE_SIZE_MIN {
+        return None;
+    }
+    Some(fence_by(b'~', tildes, columns, after))
+}
+
+fn has_no_backtick(bytes: &[u8]) -> bool
+    ensures { result ≡ list_all (λ b. not (b == 96)) bytes.now }
+{
+    bytes.iter().all(|b| *b != b'`')
+}
+
+fn fence_by(byte: u8, run: usize, columns: usize, after: &str) -> Fence<'_>
+    ensures { fence_view result ≡ fence_made_of byte run columns after.now }
+{
+    Fence {
+        byte,
+        run,
+        indent: columns,
+        info: first_word(after),
+    }
+}
+
+/// The first word of a text.
+fn first_word(text: &str) -> &str
+    ensures { result.now ≡ first_word_of text.now }
+{
+    word(trim(text))
+}
+
+/// The bytes of a text before its first space or tab.
+fn word(text: &str) -> &str
+    ensures { result.now ≡ take (position_or_len is_white text.now) text.now }
+{
+    &text[..word_len(text.as_bytes())]
+}
+
+/// How many bytes stand before the first space or tab.
+fn word_len(bytes: &[u8]) -> usize
+    ensures { result ≡ position_or_len is_white bytes.now }
+{
+    for (i, b) in bytes.iter().enumerate() {
+        if is_space_or_tab(*b) {
+            return i;
+        }
+    }
+    bytes.len()
+}
+
+/// Whether the line closes the fence.
+pub fn is_fence_end(on: &Constructs, fence: &Fence<'_>, rest: Cursor<'_>) -> bool
+    ensures { result ≡ is_end_of_fence on.now (fence_view fence.now) (rest_of rest.entry) }
+{
+    let (columns, bare) = rest.split_bare();
+    is_small(on, columns) && is_run(fence.run, fence.byte, bare.text().as_bytes())
+}
+
+/// A line of the content, which loses up to the fence's indent.
+pub fn fence_line<'a>(fence: &Fence<'_>, rest: Cursor<'a>) -> Cursor<'a>
+    ensures { rest_of result ≡ line_of_fence (fence_view fence.now) (rest_of rest.entry) }
+{
+    rest.outdented(fence.indent)
+}

@@ -1,0 +1,35 @@
+//! Underlines of setext headings (CommonMark 4.3).
+//!
+//!     underline ::= small_indent ('='+ | '-'+) white*
+ghost use Rattle.std.specs.Prelude.{◌≡◌};
+ghost use Rattle.definition_block.specs.HeadingSetext.{underline as underline_at, underline_of as underline_text};
+ghost use Rattle.block_starts.specs.View.{rest_of};
+
+use crate::cursor::Cursor;
+use crate::indent::is_small;
+use crate::run::is_run;
+use markdown_options::Constructs;
+
+/// The rank of a heading that this line would underline.
+pub fn underline(on: &Constructs, rest: Cursor<'_>) -> Option<u8>
+    ensures { result ≡ underline_at on.now (rest_of rest.entry) }
+{
+    let (columns, bare) = rest.split_bare();
+    if on.heading_setext && is_small(on, columns) {
+        underline_of(bare.text().as_bytes())
+    } else {
+        None
+    }
+}
+
+fn underline_of(bytes: &[u8]) -> Option<u8>
+    ensures { result ≡ underline_text bytes.now }
+{
+    if is_run(1, b'=', bytes) {
+        Some(1)
+    } else if is_run(1, b'-', bytes) {
+        Some(2)
+    } else {
+        None
+    }
+}

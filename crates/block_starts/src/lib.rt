@@ -1,0 +1,17 @@
+//! What the rest of a line says: which containers go on or start there, and which leaves start.
+#![tactic(auto)]
+
+pub mod block_quote;
+pub mod code_fenced;
+pub mod code_indented;
+pub mod container;
+pub mod cursor;
+pub mod heading_atx;
+pub mod heading_setext;
+pub mod html_flow;
+pub mod indent;
+pub mod list_item;
+mod run;
+pub mod thematic_break;
+
+pub use cursor::Cursor;

@@ -1,0 +1,194 @@
+//! List items (CommonMark 5.2).
+//!
+//!     start     ::= small_indent marker gap, and no thematic break
+//!     marker    ::= '-' | '+' | '*' | digit{1,9} ('.' | ')')
+//!     gap       ::= column_of_space{1,4}, or one of five or more, or one of a blank rest
+//!     continues ::= column_of_space{size}, or a blank rest
+ghost use Rattle.std.specs.Prelude.{◌≡◌, ◌≤◌, ◌<◌, ◌^◌, ◌==◌, ◌||◌, length};
+ghost use Rattle.std.specs.List.{AllPass};
+ghost use Rattle.definition_block.specs.ListItem.{is_digit, number_of as number_of_digits, bullet as bullet_of, delimiter as delimiter_of, ordered as ordered_of, marker as marker_at, gap as gap_of, is_first as is_first_number, is_item as is_item_after, item as item_of, item_after as item_after_marker, item_start as item_starts, is_inside as is_inside_item, item_continues as item_goes_on};
+ghost use Rattle.block_starts.specs.View.{rest_of, rest_if, started_if};
+ghost use Rattle.block_starts.specs.Markers.{marker_view, marker_if};
+ghost use Rattle.definition_block.specs.Started.{started};
+
+use crate::cursor::Cursor;
+use crate::indent::is_small;
+use crate::thematic_break::is_break;
+use definition_block::{Container, Item};
+use markdown_options::Constructs;
+
+/// A marker: its last byte, its number, its bytes, and the rest after it.
+#[derive(Clone, Copy)]
+struct Marker<'a> {
+    byte: u8,
+    number: Option<u32>,
+    size: usize,
+    rest: Cursor<'a>,
+}
+
+/// The item that starts here, and the rest after what starts it. `interrupts` says that it would
+/// interrupt a paragraph.
+pub fn item_start<'a>(
+    on: &Constructs,
+    interrupts: bool,
+    rest: Cursor<'a>,
+) -> Option<(Container, Cursor<'a>)>
+    ensures { started_if result ≡ item_starts on.now interrupts (rest_of rest.entry) }
+{
+    let (columns, bare) = rest.split_bare();
+    if !on.list_item || !is_small(on, columns) || is_break(on, rest) {
+        return None;
+    }
+    let marker = read_marker(bare)?;
+    if is_item(interrupts, marker) {
+        Some(make_item(columns, marker))
+    } else {
+        None
+    }
+}
+
+/// The marker that a rest begins with.
+fn read_marker(rest: Cursor<'_>) -> Option<Marker<'_>>
+    ensures { marker_if result ≡ marker_at (rest_of rest.entry) }
+{
+    let (digits, after) = rest.split_digits();
+    match digits.len() {
+        0 => bullet(rest),
+        1..=9 => delimiter(number_of(digits), digits.len(), after),
+        _ => None,
+    }
+}
+
+/// The marker of a bullet.
+fn bullet(rest: Cursor<'_>) -> Option<Marker<'_>>
+    ensures { marker_if result ≡ bullet_of (rest_of rest.entry) }
+{
+    let Some((byte, after)) = rest.split_first() else {
+        return None;
+    };
+    if !is_bullet(byte) {
+        return None;
+    }
+    Some(Marker {
+        byte,
+        number: None,
+        size: 1,
+        rest: after,
+    })
+}
+
+fn is_bullet(byte: u8) -> bool
+    ensures { result ≡ ((byte == 45) || (byte == 43) || (byte == 42)) }
+{
+    byte == b'-' || byte == b'+' || byte == b'*'
+}
+
+/// The byte after the digits of an ordered marker.
+fn delimiter(number: u32, digits: usize, rest: Cursor<'_>) -> Option<Marker<'_>>
+    requires { digits ≤ 9 }
+    ensures { marker_if result ≡ delimiter_of number digits (rest_of rest.entry) }
+{
+    let Some((byte, after)) = rest.split_first() else {
+        return None;
+    };
+    if !is_delimiter(byte) {
+        return None;
+    }
+    Some(Marker {
+        byte,
+        number: Some(number),
+        size: digits + 1,
+        rest: after,
+    })
+}
+
+fn is_delimiter(byte: u8) -> bool
+    ensures { result ≡ ((byte == 46) || (byte == 41)) }
+{
+    byte == b'.' || byte == b')'
+}
+
+/// The number that digits stand for.
+fn number_of(digits: &[u8]) -> u32
+    requires few { length digits.now ≤ 9 }
+    requires digits { AllPass is_digit digits.now }
+    ensures { result ≡ number_of_digits digits.now }
+{
+    let mut number: u32 = 0;
+    for digit in digits {
+        number = number * 10 + u32::from(*digit - b'0');
+    }
+    number
+}
+
+/// Whether a marker is an item's.
+fn is_item(interrupts: bool, marker: Marker<'_>) -> bool
+    ensures { result ≡ is_item_after interrupts (marker_view marker.entry) }
+{
+    if marker.rest.is_blank() {
+        !interrupts
+    } else {
+        marker.rest.indent() >= 1 && (!interrupts || is_first(marker.number))
+    }
+}
+
+/// No number, or the number 1.
+fn is_first(number: Option<u32>) -> bool
+    ensures { result ≡ is_first_number number }
+{
+    match number {
+        None => true,
+        Some(number) => number == 1,
+    }
+}
+
+/// The item of a marker after so many columns.
+fn make_item(columns: usize, marker: Marker<'_>) -> (Container, Cursor<'_>)
+    requires columns { columns < 2 ^ 63 }
+    requires size { marker.size ≤ 10 }
+    ensures { started (result.0) (rest_of result.1) ≡ item_of columns (marker_view marker.entry) }
+{
+    let gap = gap(marker.rest);
+    let item = Item {
+        marker: marker.byte,
+        number: marker.number,
+        size: columns + marker.size + gap,
+    };
+    (Container::Item(item), marker.rest.outdented(gap))
+}
+
+/// The columns between a marker and the content.
+fn gap(after: Cursor<'_>) -> usize
+    ensures same { result ≡ gap_of (rest_of after.entry) }
+    ensures few { result ≤ 4 }
+{
+    let columns = after.indent();
+    if columns >= 5 || after.is_blank() {
+        1
+    } else {
+        columns
+    }
+}
+
+/// The rest after an item's columns, where it goes on. `began_blank` says that it began with a
+/// blank rest on the line before.
+pub fn item_continues<'a>(size: usize, began_blank: bool, rest: Cursor<'a>) -> Option<Cursor<'a>>
+    ensures { rest_if result ≡ item_goes_on size began_blank (rest_of rest.entry) }
+{
+    if is_inside(size, began_blank, rest) {
+        Some(rest.outdented(size))
+    } else {
+        None
+    }
+}
+
+/// Whether a rest is an item's.
+fn is_inside(size: usize, began_blank: bool, rest: Cursor<'_>) -> bool
+    ensures { result ≡ is_inside_item size began_blank (rest_of rest.entry) }
+{
+    if rest.is_blank() {
+        !began_blank
+    } else {
+        rest.indent() >= size
+    }
+}

@@ -1,0 +1,45 @@
+//! Runs of one byte at the front of a text.
+ghost use Rattle.std.specs.Prelude.{◌≡◌, ◌<◌, ◌≤◌, length};
+ghost use Rattle.std.specs.List.{list_all};
+ghost use Rattle.definition_text.specs.Columns.{is_white};
+ghost use Rattle.definition_text.specs.Runs.{run as run_of, after_run, is_run as is_run_of};
+
+use crate::cursor::is_space_or_tab;
+
+/// How many of a byte a text begins with.
+pub fn run(byte: u8, bytes: &[u8]) -> usize
+    ensures same { result ≡ run_of byte bytes.now }
+    ensures within { result ≤ length bytes.now }
+{
+    for (i, b) in bytes.iter().enumerate() {
+        if *b != byte {
+            return i;
+        }
+    }
+    bytes.len()
+}
+
+/// Whether a text is so many of a byte, or more, and then only spaces and tabs.
+pub fn is_run(least: usize, byte: u8, bytes: &[u8]) -> bool
+    ensures { result ≡ is_run_of least byte bytes.now }
+{
+    let count = run(byte, bytes);
+    count >= least && is_white(&bytes[count..])
+}
+
+/// Whether a text holds only spaces and tabs.
+fn is_white(bytes: &[u8]) -> bool
+    ensures { result ≡ list_all is_white bytes.now }
+{
+    bytes.iter().all(|b| is_space_or_tab(*b))
+}
+
+/// How many of a byte a text begins with, and what follows them.
+pub fn split_run(byte: u8, text: &str) -> (usize, &str)
+    requires { byte < 128 }
+    ensures count { result.0 ≡ run_of byte text.now }
+    ensures rest { result.1.now ≡ after_run byte text.now }
+{
+    let count = run(byte, text.as_bytes());
+    (count, &text[count..])
+}

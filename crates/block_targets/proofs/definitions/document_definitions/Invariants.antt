@@ -1,0 +1,8 @@
+use Rattle.std.proofs.Common.{take}
+use Rattle.std.specs.Prelude.{map}
+use Rattle.block_targets.specs.Read.{HasDefinitions, read_on}
+use Rattle.block_targets.proofs.definitions.document_definitions.Given as goal
+
+-- the contents so far are read
+abbrev pub invariant-loop-text : goal.invariant-loop-text
+invariant-loop-text g l = HasDefinitions l.found (map read_on (take l.text-index l.text-items))

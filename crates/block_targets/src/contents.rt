@@ -1,0 +1,69 @@
+//! The contents of a document's link reference definitions (CommonMark 4.7).
+ghost use Rattle.std.specs.Prelude.{◌≡◌, ◌≤◌, ◌++◌, ◌∷◌, [], List, IfOk, OnOk, length};
+ghost use Rattle.definition_block.specs.Blocks.{Blocks};
+ghost use Rattle.definition_inline.specs.Definition.{Definition};
+ghost use Rattle.block_rows.specs.Rows.{all_taken, definition_on, lines_taken, piece_lines, row_definitions, row_shown, rows_of, shown};
+ghost use Rattle.definition_page.specs.Targets.{document_definitions};
+ghost use Rattle.block_targets.specs.Read.{HasContents, alone};
+
+use block_definitions::join_lines;
+use block_rows::{Piece, Row};
+use std::alloc::{AllocError, Allocator};
+
+/// The contents of definitions, in the order of the text.
+#[derive(Drop)]
+pub struct DefinitionContents<A: Allocator + Clone> {
+    pub(crate) texts: Vec<String<A>, A>,
+    alloc: A,
+}
+
+/// The contents of the definitions among the rows of a block tree, whose blocks take their lines
+/// from `pieces`: in the order of the text, whichever container they stand in (CommonMark 4.7).
+pub fn definition_contents<A: Allocator + Clone>(
+    alloc: A,
+    rows: &[Row],
+    pieces: &[Piece<'_>],
+) -> Result<DefinitionContents<A>, AllocError>
+    requires enough { all_taken rows.now ≤ length pieces.now }
+    ensures { (bs : Blocks) → (shown rows.now (piece_lines pieces.now)).rows ≡ rows_of bs → IfOk result (λ contents. HasContents contents (document_definitions bs)) }
+{
+    let mut contents = DefinitionContents::new(alloc)?;
+    let mut taken = 0;
+    for row in rows {
+        contents.row(*row, &pieces[taken..])?;
+        taken += row.lines_taken();
+    }
+    Ok(contents)
+}
+
+impl<A: Allocator + Clone> DefinitionContents<A> {
+    fn new(alloc: A) -> Result<DefinitionContents<A>, AllocError>
+        ensures { IfOk result (λ contents. HasContents contents []) }
+    {
+        Ok(DefinitionContents {
+            texts: Vec::new(alloc.clone()?),
+            alloc,
+        })
+    }
+
+    /// Reads a row. A definition takes its lines from the front of these.
+    fn row(&mut self, row: Row, lines: &[Piece<'_>]) -> Result<(), AllocError>
+        requires enough { lines_taken row ≤ length lines.now }
+        ensures read { (ds : List Definition) → HasContents self.old ds → OnOk result (HasContents self.new (ds ++ row_definitions (row_shown row (piece_lines lines.now)))) }
+    {
+        match row {
+            Row::Definition(count) => self.definition(&lines[..count]),
+            _ => Ok(()),
+        }
+    }
+
+    /// Reads the definition on these lines.
+    fn definition(&mut self, lines: &[Piece<'_>]) -> Result<(), AllocError>
+        ensures read { (ds : List Definition) → HasContents self.old ds → OnOk result (HasContents self.new (ds ++ alone (definition_on (piece_lines lines.now)) ∷ [])) }
+    {
+        let mut text = String::new(self.alloc.clone()?);
+        join_lines(&mut text, lines)?;
+        self.texts.push(text)?;
+        Ok(())
+    }
+}

@@ -1,9 +1,0 @@
-use Rattle.markdown_definition.specs.Tree.{Tree}
-use Rattle.block_lines.specs.View.{rest_of}
-use Rattle.block_tree.specs.Spine.{spine_of}
-use Rattle.block_tree.specs.View.{HasRead, Descent}
-use Rattle.block_tree.proofs.parser.Parser.descend.Given as goal
-
--- so many containers go on
-abbrev pub invariant-loop-depth : goal.invariant-loop-depth
-invariant-loop-depth g l = (t : Tree) → HasRead l.self (spine_of t) → Descent l.on l.initial.here (rest_of l.initial.rest) t 0 l.depth (rest_of l.rest) l.here

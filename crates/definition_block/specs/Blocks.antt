@@ -1,0 +1,35 @@
+-- The blocks of a text (CommonMark 3).
+use Rattle.std.specs.Prelude.{ℕ, Bool, List, [], ◌∷◌, Option, None}
+use Rattle.definition_text.specs.BlockLines.{BlockLine}
+use Rattle.markdown_options.specs.declared.line_ending.LineEnding.{LineEnding}
+use Rattle.definition_block.specs.declared.container.Container.{Container}
+
+-- A child of a container: a paragraph; a heading of a rank; a thematic break; indented code; fenced code with its info, and whether it was closed; an HTML block; a link reference definition with its label, its destination and its title, as they are written; a container with its children; a list with its items and the endings between them, which is made after the lines are read; the ending of a block's last line; the ending of a blank line.
+mutual
+  pub data Block : Type 0 where
+    Paragraph : List BlockLine → Block
+    Heading : ℕ → List BlockLine → Block
+    Break : Block
+    IndentedCode : List BlockLine → Block
+    FencedCode : List ℕ → Bool → List BlockLine → Block
+    Html : List BlockLine → Block
+    Definition : List ℕ → List ℕ → Option (List ℕ) → Block
+    Holds : Container → Blocks → Block
+    Items : Blocks → Block
+    Ending : Option LineEnding → Block
+    Blank : Option LineEnding → Block
+
+  pub data Blocks : Type 0 where
+    Nil : Blocks
+    Cons : Block → Blocks → Blocks
+
+abbrev pub join : Blocks → Blocks → Blocks
+join Nil others = others
+join (Cons b bs) others = Cons b (join bs others)
+
+abbrev pub one : Block → Blocks
+one b = Cons b Nil
+
+-- a block, and the ending of its last line
+abbrev pub ended : Block → Option LineEnding → Blocks
+ended b ending = Cons b (one (Ending ending))

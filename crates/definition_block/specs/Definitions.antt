@@ -1,0 +1,69 @@
+-- Link reference definitions at the front of a paragraph (CommonMark 4.7).
+use Rattle.std.specs.Prelude.{ℕ, suc, zero, ◌+◌, ◌-◌, if◌then◌else◌, List, [], ◌∷◌, ◌++◌, Option, None, Some, take, drop, length, map}
+use Rattle.std.specs.List.{count_by}
+use Rattle.markdown_options.specs.declared.configuration.Constructs.{Constructs}
+use Rattle.definition_text.specs.BlockLines.{BlockLine, last_ending, own_lines}
+use Rattle.definition_block.specs.Blocks.{Block, Paragraph, Heading, Break, IndentedCode, FencedCode, Html, Definition, Holds, Items, Ending, Blank, Blocks, Nil, Cons, join, ended}
+use Rattle.definition_text.specs.Content.{is_eol, content_of}
+use Rattle.definition_inline.specs.Definition.{Definition as LinkDefinition, definition, definition_at}
+
+-- the definitions at the front of a paragraph, each with the ending of its last line, and the lines after them
+pub record Cut : Type 0 where
+  pub definitions : Blocks
+  pub left : List BlockLine
+
+abbrev pub cut_into : Blocks → List BlockLine → Cut
+cut_into definitions left = record { definitions = definitions; left = left }
+
+-- how many lines a content has
+abbrev pub line_count : List ℕ → ℕ
+line_count [] = 0
+line_count (c ∷ cs) = 1 + count_by is_eol (c ∷ cs)
+
+-- how many of these lines stand before the rest of their content
+abbrev pub lines_before : List ℕ → List BlockLine → ℕ
+lines_before rest ls = length ls - line_count rest
+
+-- a definition on these lines, and the ending of the last one
+abbrev pub defined : LinkDefinition → List BlockLine → Blocks
+defined d ls = ended (Definition d.label d.destination d.title) (last_ending ls)
+
+-- a definition before what more cuts of the lines after it give
+abbrev pub cut_after : Option LinkDefinition → List BlockLine → (List BlockLine → Cut) → Cut
+cut_after None ls more = cut_into Nil ls
+cut_after (Some d) ls more =
+    let count = lines_before d.rest ls in
+    let others = more (drop count ls) in
+    cut_into (join (defined d (take count ls)) others.definitions) others.left
+
+-- at most so many definitions, one after another
+abbrev pub cut_most : ℕ → List BlockLine → Cut
+cut_most zero ls = cut_into Nil ls
+cut_most (suc most) ls = cut_after (definition_at (content_of (own_lines ls))) ls (cut_most most)
+
+-- a paragraph's lines, cut after all definitions at its front, each of which has a line at least (CommonMark 4.7)
+abbrev pub cut : Constructs → List BlockLine → Cut
+cut on ls = if on.definition then cut_most (length ls) ls else cut_into Nil ls
+
+-- the definitions in a document, in the order of the text, repeats kept; each is alone, so that nothing follows it (CommonMark 4.7)
+abbrev mutual
+  pub block_definitions : Block → List LinkDefinition
+  block_definitions (Paragraph ls) = []
+  block_definitions (Heading rank ls) = []
+  block_definitions Break = []
+  block_definitions (IndentedCode ls) = []
+  block_definitions (FencedCode info closed ls) = []
+  block_definitions (Html ls) = []
+  block_definitions (Definition label destination title) = definition label destination title [] ∷ []
+  block_definitions (Holds c kids) = definitions kids
+  block_definitions (Items items) = definitions items
+  block_definitions (Ending ending) = []
+  block_definitions (Blank ending) = []
+
+  pub definitions : Blocks → List LinkDefinition
+  definitions Nil = []
+  definitions (Cons b bs) = block_definitions b ++ definitions bs
+
+-- their labels
+abbrev pub labels : Blocks → List (List ℕ)
+labels bs = map (λ d. d.label) (definitions bs)

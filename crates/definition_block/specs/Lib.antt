@@ -1,0 +1,15 @@
+pub mod Started
+pub mod BlockQuote
+pub mod ThematicBreak
+pub mod ListItem
+pub mod Containers
+pub mod CodeIndented
+pub mod CodeFenced
+pub mod HeadingAtx
+pub mod HeadingSetext
+pub mod Blocks
+pub mod Definitions
+pub mod Tree
+pub mod Lists
+pub mod HtmlNames
+pub mod HtmlFlow

@@ -1,0 +1,11 @@
+-- Containers that start on a line (CommonMark 5).
+use Rattle.definition_block.specs.declared.container.Container.{Container}
+use Rattle.definition_text.specs.Columns.{Rest}
+
+-- a container, and the rest of the line after what starts it
+pub record Started : Type 0 where
+  pub container : Container
+  pub rest : Rest
+
+abbrev pub started : Container → Rest → Started
+started container rest = record { container = container; rest = rest }

@@ -1,0 +1,327 @@
+-- The block tree of a text, line by line (CommonMark 4, 5 and appendix, phase 1).
+use Rattle.std.specs.Prelude.{ℕ, suc, zero, Bool, true, false, if◌then◌else◌, ◌&&◌, not, List, [], ◌∷◌, ◌++◌, Option, None, Some, length}
+use Rattle.markdown_options.specs.declared.line_ending.LineEnding.{LineEnding}
+use Rattle.markdown_options.specs.declared.configuration.Constructs.{Constructs}
+use Rattle.definition_text.specs.declared.beside.Beside.{Beside}
+use Rattle.definition_text.specs.declared.beside.Kind.{Kind}
+use Rattle.definition_text.specs.declared.beside.Kind.TheVariants.{Whitespace, Punctuation}
+use Rattle.definition_block.specs.declared.container.Container.{Container}
+use Rattle.definition_block.specs.declared.container.Container.TheVariants.{Quote, Item}
+use Rattle.definition_text.specs.Lines.{TextLine, lines}
+pub use Rattle.definition_text.specs.BlockLines.{BlockLine, block_line, spaced_line, last_ending_or, last_ending, own_lines}
+pub use Rattle.definition_block.specs.Blocks.{Block, Paragraph, Heading, Break, IndentedCode, FencedCode, Html, Definition, Holds, Items, Ending, Blank, Blocks, Nil, Cons, join, one, ended}
+use Rattle.definition_text.specs.Columns.{Rest, whole, is_white, is_blank, bare, block_codes}
+use Rattle.definition_text.specs.Indents.{outdented}
+use Rattle.definition_block.specs.Started.{Started}
+use Rattle.definition_block.specs.BlockQuote.{after_byte}
+use Rattle.definition_block.specs.Containers.{continues, starts}
+use Rattle.definition_block.specs.CodeIndented.{starts_code_indented}
+use Rattle.definition_block.specs.CodeFenced.{Fence, fence_start, is_fence_end, fence_line}
+use Rattle.definition_block.specs.HtmlFlow.{html_start, html_ends_here, ends_before_blank}
+use Rattle.definition_block.specs.HeadingAtx.{Atx, heading_atx}
+use Rattle.definition_block.specs.HeadingSetext.{underline}
+use Rattle.definition_block.specs.ThematicBreak.{is_break}
+use Rattle.definition_block.specs.Definitions.{Cut, cut}
+
+-- ---- what is open
+
+-- A leaf block that is open: a paragraph with its lines, none where no leaf is open; indented code with its lines, and the blank lines after them, which may turn out to be no part of it; fenced code with its fence, the ending of the fence's line, and its lines; an HTML block with its kind and its lines.
+pub data OpenLeaf : Type 0 where
+  Text : List BlockLine → OpenLeaf
+  Indented : List BlockLine → List BlockLine → OpenLeaf
+  Fenced : Fence → Option LineEnding → List BlockLine → OpenLeaf
+  OpenHtml : ℕ → List BlockLine → OpenLeaf
+
+-- what is open: a leaf, or a container with the children that it has so far, and what is open in it
+pub data Opening : Type 0 where
+  Leaf : OpenLeaf → Opening
+  Inside : Container → Blocks → Opening → Opening
+
+-- the children that are finished, and what is open after them
+pub record Tree : Type 0 where
+  pub done : Blocks
+  pub now : Opening
+
+abbrev pub tree : Blocks → Opening → Tree
+tree done now = record { done = done; now = now }
+
+abbrev pub nothing : Opening
+nothing = Leaf (Text [])
+
+abbrev pub empty_tree : Tree
+empty_tree = tree Nil nothing
+
+-- ---- closing
+
+-- the endings of blank lines
+abbrev pub blanks : List BlockLine → Blocks
+blanks [] = Nil
+blanks (line ∷ others) = Cons (Blank line.ending) (blanks others)
+
+-- a paragraph of these lines, if there are any
+abbrev pub paragraph_of : List BlockLine → Blocks
+paragraph_of [] = Nil
+paragraph_of (line ∷ others) = ended (Paragraph (own_lines (line ∷ others))) (last_ending (line ∷ others))
+
+-- a paragraph after the definitions at its front, which are none of its lines (CommonMark 4.7)
+abbrev pub with_paragraph : Cut → Blocks
+with_paragraph parts = join parts.definitions (paragraph_of parts.left)
+
+-- the children that are finished where this leaf is closed
+abbrev pub close_leaf : Constructs → OpenLeaf → Blocks
+close_leaf on (Text ls) = with_paragraph (cut on ls)
+close_leaf on (Indented ls pending) = join (ended (IndentedCode (own_lines ls)) (last_ending ls)) (blanks pending)
+close_leaf on (Fenced fence ending ls) = ended (FencedCode fence.info false ls) (last_ending_or ending ls)
+close_leaf on (OpenHtml kind ls) = ended (Html (own_lines ls)) (last_ending ls)
+
+abbrev pub is_ending : Block → Bool
+is_ending (Ending ending) = true
+is_ending (Blank ending) = true
+is_ending b = false
+
+abbrev pub all_endings : Blocks → Bool
+all_endings Nil = true
+all_endings (Cons b bs) = is_ending b && all_endings bs
+
+-- children without the endings at their end, and those
+abbrev pub front : Blocks → Blocks
+front Nil = Nil
+front (Cons b bs) = if all_endings (Cons b bs) then Nil else Cons b (front bs)
+
+abbrev pub trailing : Blocks → Blocks
+trailing Nil = Nil
+trailing (Cons b bs) = if all_endings (Cons b bs) then Cons b bs else trailing bs
+
+-- children without the last, if it is an ending, and that
+abbrev pub without_last : Blocks → Blocks
+without_last Nil = Nil
+without_last (Cons b Nil) = if is_ending b then Nil else one b
+without_last (Cons b (Cons c bs)) = Cons b (without_last (Cons c bs))
+
+abbrev pub last_of : Blocks → Blocks
+last_of Nil = Nil
+last_of (Cons b Nil) = if is_ending b then one b else Nil
+last_of (Cons b (Cons c bs)) = last_of (Cons c bs)
+
+-- A container ends right before the ending of its last line. Each line of a quote has its marker; blank lines at an item's end are not its own.
+abbrev pub holds : Container → Blocks → Blocks
+holds Quote kids = Cons (Holds Quote (without_last kids)) (last_of kids)
+holds (Item item) kids = Cons (Holds (Item item) (front kids)) (trailing kids)
+
+-- the children that are finished where this is closed
+abbrev pub close : Constructs → Opening → Blocks
+close on (Leaf leaf) = close_leaf on leaf
+close on (Inside c kids inner) = holds c (join kids (close on inner))
+
+-- ---- a line
+
+-- the lines of the open paragraph, none where it isn't open
+abbrev pub leaf_text : OpenLeaf → List BlockLine
+leaf_text (Text ls) = ls
+leaf_text (Indented ls pending) = []
+leaf_text (Fenced fence ending ls) = []
+leaf_text (OpenHtml kind ls) = []
+
+abbrev pub open_text : Opening → List BlockLine
+open_text (Leaf leaf) = leaf_text leaf
+open_text (Inside c kids inner) = open_text inner
+
+abbrev pub is_some_line : List BlockLine → Bool
+is_some_line [] = false
+is_some_line (line ∷ others) = true
+
+-- whether a paragraph is open
+abbrev pub has_text : Opening → Bool
+has_text now = is_some_line (open_text now)
+
+-- one more line of the open paragraph
+abbrev pub leaf_with_line : BlockLine → OpenLeaf → OpenLeaf
+leaf_with_line line (Text ls) = Text (ls ++ line ∷ [])
+leaf_with_line line (Indented ls pending) = Indented ls pending
+leaf_with_line line (Fenced fence ending ls) = Fenced fence ending ls
+leaf_with_line line (OpenHtml kind ls) = OpenHtml kind ls
+
+abbrev pub with_line : BlockLine → Opening → Opening
+with_line line (Leaf leaf) = Leaf (leaf_with_line line leaf)
+with_line line (Inside c kids inner) = Inside c kids (with_line line inner)
+
+-- a line of a block, by its rest
+abbrev pub rest_line : Rest → Beside → BlockLine
+rest_line rest beside = block_line (block_codes rest) beside.ending beside.before
+
+-- indented code goes on where the rest is indented 4 columns, and may go on over a blank one (CommonMark 4.4)
+abbrev pub indented_takes : Constructs → List BlockLine → List BlockLine → Rest → Beside → Option Tree
+indented_takes on ls pending rest beside =
+    if is_blank rest then Some (tree Nil (Leaf (Indented ls (pending ++ rest_line (outdented 4 rest) beside ∷ []))))
+    else (if starts_code_indented on rest then Some (tree Nil (Leaf (Indented (ls ++ pending ++ rest_line (outdented 4 rest) beside ∷ []) [])))
+    else None)
+
+-- fenced code takes every line up to its closing fence (CommonMark 4.5)
+abbrev pub fenced_takes : Constructs → Fence → Option LineEnding → List BlockLine → Rest → Beside → Option Tree
+fenced_takes on fence opening ls rest beside =
+    if is_fence_end on fence rest then Some (tree (ended (FencedCode fence.info true ls) beside.ending) nothing)
+    else Some (tree Nil (Leaf (Fenced fence opening (ls ++ rest_line (fence_line fence rest) beside ∷ []))))
+
+-- an HTML block with one more line, which may end it (CommonMark 4.6)
+abbrev pub html_with : ℕ → List BlockLine → Rest → Beside → Tree
+html_with kind ls rest beside =
+    let more = ls ++ rest_line rest beside ∷ [] in
+    if html_ends_here kind rest then tree (ended (Html (own_lines more)) beside.ending) nothing else tree Nil (Leaf (OpenHtml kind more))
+
+-- an HTML block takes every line up to its end, which may come before a blank one (CommonMark 4.6)
+abbrev pub html_takes : ℕ → List BlockLine → Rest → Beside → Option Tree
+html_takes kind ls rest beside = if ends_before_blank kind && is_blank rest then None else Some (html_with kind ls rest beside)
+
+-- what an open leaf makes of a rest, where it takes it before anything else may start
+abbrev pub takes : Constructs → OpenLeaf → Rest → Beside → Option Tree
+takes on (Text ls) rest beside = None
+takes on (Indented ls pending) rest beside = indented_takes on ls pending rest beside
+takes on (Fenced fence opening ls) rest beside = fenced_takes on fence opening ls rest beside
+takes on (OpenHtml kind ls) rest beside = html_takes kind ls rest beside
+
+abbrev pub or_heading : Option LineEnding → Option Atx → Option Tree
+or_heading ending None = None
+or_heading ending (Some atx) = Some (tree (ended (Heading atx.rank (spaced_line atx.content None ∷ [])) ending) nothing)
+
+abbrev pub or_fence : Option LineEnding → Option Fence → Option Tree → Option Tree
+or_fence ending None other = other
+or_fence ending (Some fence) other = Some (tree Nil (Leaf (Fenced fence ending [])))
+
+-- an HTML block of a kind, which may end on its first line (CommonMark 4.6)
+abbrev pub or_html : Rest → Beside → Option ℕ → Option Tree → Option Tree
+or_html rest beside None other = other
+or_html rest beside (Some kind) other = Some (html_with kind [] rest beside)
+
+-- the leaf that a rest begins, other than a paragraph or a break: indented code, which can't interrupt a paragraph, fenced code, an HTML block, or an ATX heading, in this order
+abbrev pub begins : Constructs → Bool → Rest → Beside → Option Tree
+begins on paragraph rest beside =
+    if starts_code_indented on rest && not paragraph then Some (tree Nil (Leaf (Indented (rest_line (outdented 4 rest) beside ∷ []) [])))
+    else or_fence beside.ending (fence_start on rest) (or_html rest beside (html_start on paragraph rest) (or_heading beside.ending (heading_atx on rest)))
+
+-- what a line leaves where something new starts on it, after what it isn't in is closed
+abbrev pub after : Constructs → Opening → Tree → Tree
+after on away t = tree (join (close on away) t.done) t.now
+
+-- a line of text goes on the open paragraph, also where it isn't in all of its containers, or starts one (CommonMark 4.8)
+abbrev pub text_line_of : Constructs → Opening → Rest → Beside → Tree
+text_line_of on away rest beside =
+    if has_text away then tree Nil (with_line (rest_line rest beside) away)
+    else after on away (tree Nil (Leaf (Text (rest_line rest beside ∷ []))))
+
+-- a rest in which no other leaf begins: a break, or text
+abbrev pub break_or_text : Constructs → Opening → Rest → Beside → Tree
+break_or_text on away rest beside =
+    if is_break on rest then after on away (tree (ended Break beside.ending) nothing) else text_line_of on away rest beside
+
+-- the lines of the open paragraph, where this line is in all of its containers
+abbrev pub text_here : Opening → List BlockLine
+text_here (Leaf leaf) = leaf_text leaf
+text_here (Inside c kids inner) = []
+
+-- a heading of what is left of a paragraph, if anything is, after the definitions at its front
+abbrev pub heading_of : ℕ → Blocks → List BlockLine → Option LineEnding → Option Tree
+heading_of rank definitions [] ending = None
+heading_of rank definitions (line ∷ others) ending =
+    Some (tree (join definitions (ended (Heading rank (own_lines (line ∷ others))) ending)) nothing)
+
+-- the same for an underline of a rank, where there is one
+abbrev pub underlined : Constructs → Option ℕ → List BlockLine → Option LineEnding → Option Tree
+underlined on None ls ending = None
+underlined on (Some rank) ls ending = let parts = cut on ls in heading_of rank parts.definitions parts.left ending
+
+-- what an underline makes of the open paragraph: a heading (CommonMark 4.3)
+abbrev pub turns : Constructs → Opening → Rest → Option LineEnding → Option Tree
+turns on away rest ending = underlined on (underline on rest) (text_here away) ending
+
+abbrev pub begun : Constructs → Option Tree → Opening → Tree → Tree
+begun on None away other = other
+begun on (Some t) away other = after on away t
+
+-- what takes the line, or something other
+abbrev pub taken : Option Tree → Tree → Tree
+taken None other = other
+taken (Some t) other = t
+
+-- the rest of a line that starts no container, where `away` is what the line isn't in: a blank one closes it (CommonMark 4.9)
+abbrev pub leaf_line : Constructs → Opening → Rest → Beside → Tree
+leaf_line on away rest beside =
+    if is_blank rest then after on away (tree (one (Blank beside.ending)) nothing)
+    else begun on (begins on (has_text away) rest beside) away (taken (turns on away rest beside.ending) (break_or_text on away rest beside))
+
+-- whether a space or tab comes first
+abbrev pub begins_with_white : Rest → Bool
+begins_with_white [] = false
+begins_with_white (code ∷ codes) = is_white code
+
+-- the kind of the character before what is left after a quote's `>`: that byte, or the space or tab that belongs to it
+abbrev pub kind_after_mark : Option Rest → Kind
+kind_after_mark None = Punctuation
+kind_after_mark (Some rest) = if begins_with_white rest then Whitespace else Punctuation
+
+-- the kind of the character before what a container leaves of a rest: white space stands before the content of an item (CommonMark 5.1 and 5.2)
+abbrev pub kind_after : Container → Rest → Kind
+kind_after Quote rest = kind_after_mark (after_byte 62 (bare rest))
+kind_after (Item item) rest = Whitespace
+
+-- what stands beside that
+abbrev pub beside_in : Container → Rest → Beside → Beside
+beside_in c rest beside = record { before = kind_after c rest; ending = beside.ending }
+
+-- a container starts, or none
+abbrev pub start : Constructs → Option Started → Opening → Tree → (Started → Tree) → Tree
+start on None away other more = other
+start on (Some s) away other more = let t = more s in after on away (tree Nil (Inside s.container t.done t.now))
+
+-- the rest of a line after the containers that it is in; at most so many containers start
+abbrev pub new : ℕ → Constructs → Bool → Opening → Beside → Rest → Tree
+new zero on all away beside rest = leaf_line on away rest beside
+new (suc most) on all away beside rest =
+    start on (starts on (all && has_text away) rest) away (leaf_line on away rest beside)
+    (λ s. new most on true nothing (beside_in s.container rest beside) s.rest)
+
+abbrev pub in_container : Container → Blocks → Tree → Tree
+in_container c kids t = tree Nil (Inside c (join kids t.done) t.now)
+
+abbrev pub is_nothing : Opening → Bool
+is_nothing (Leaf (Text [])) = true
+is_nothing now = false
+
+-- whether nothing was read in a container but a blank line
+abbrev pub is_one_blank : Blocks → Bool
+is_one_blank (Cons (Blank ending) Nil) = true
+is_one_blank kids = false
+
+abbrev pub began_blank : Blocks → Opening → Bool
+began_blank kids inner = is_one_blank kids && is_nothing inner
+
+-- a container goes on, or not
+abbrev pub goes_on : Option Rest → Constructs → Container → Blocks → Opening → Beside → Rest → (Rest → Tree) → Tree
+goes_on None on c kids inner beside rest more = new (length rest) on false (Inside c kids inner) beside rest
+goes_on (Some after) on c kids inner beside rest more = in_container c kids (more after)
+
+-- a line: the containers that go on, then the leaf that takes it, or what is new
+abbrev pub grow : Constructs → Beside → Opening → Rest → Tree
+grow on beside (Leaf leaf) rest = taken (takes on leaf rest beside) (new (length rest) on true (Leaf leaf) beside rest)
+grow on beside (Inside c kids inner) rest =
+    goes_on (continues on c (began_blank kids inner) rest) on c kids inner beside rest (grow on (beside_in c rest beside) inner)
+
+-- what stands beside a line of the text, after a character of this kind
+abbrev pub beside_line : Kind → TextLine → Beside
+beside_line before line = record { before = before; ending = line.ending }
+
+-- one more line, after a character of this kind
+abbrev pub step : Constructs → Kind → Tree → TextLine → Tree
+step on before t line = let more = grow on (beside_line before line) t.now (whole line.content) in tree (join t.done more.done) more.now
+
+-- lines, the first after a character of this kind, the others after line endings
+abbrev pub steps : Constructs → Kind → Tree → List TextLine → Tree
+steps on before t [] = t
+steps on before t (line ∷ others) = steps on Whitespace (step on before t line) others
+
+-- the end of the text closes what is open
+abbrev pub closed : Constructs → Tree → Blocks
+closed on t = join t.done (close on t.now)
+
+-- the children of the document, of a text without a byte order mark, after a character of this kind
+abbrev pub blocks : Constructs → Kind → List ℕ → Blocks
+blocks on before text = closed on (steps on before empty_tree (lines text))

@@ -1,0 +1,9 @@
+pub mod RunPairs
+pub mod NextPair
+pub mod Scanning
+pub mod LinkRenaming
+pub mod DefinitionParts
+pub mod DefinitionAlone
+pub mod NearestOpener
+pub mod ClosingRuns
+pub mod InlineSizes

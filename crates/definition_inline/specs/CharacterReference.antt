@@ -1,0 +1,94 @@
+-- Character references (CommonMark 2.5): `&` a name `;`, `&#` 1 to 7 digits `;`, `&#x` or `&#X` 1 to 6 hexadecimal digits `;`.
+use Rattle.std.specs.Prelude.{ℕ, ◌+◌, ◌-◌, ◌*◌, ◌%◌, Bool, if◌then◌else◌, ◌==◌, ◌&&◌, ◌||◌, nat_le, nat_lt, List, [], ◌∷◌, Option, None, Some, take, drop, length}
+use Rattle.std.specs.Char.{is_ascii_digit, is_ascii_hexdigit, is_ascii_alphanumeric, digit_value, encode_utf8}
+use Rattle.std.specs.List.{prefix_len, fold}
+use Rattle.markdown_options.specs.declared.configuration.Constructs.{Constructs}
+use Rattle.definition_text.specs.Encode.{replacement_character}
+use Rattle.definition_text.specs.Content.{Part, part}
+use Rattle.definition_inline.specs.Inline.{Leaf, leaf, Character}
+
+-- the name or the number of a character (CommonMark 2.5)
+pub data CharacterName : Type 0 where
+  Named : List ℕ → CharacterName
+  Numbered : ℕ → CharacterName
+
+-- a reference: its name or number, and what follows it
+pub record CharacterReference : Type 0 where
+  pub name : CharacterName
+  pub rest : List ℕ
+
+abbrev pub character_reference : CharacterName → List ℕ → CharacterReference
+character_reference name rest = record { name = name; rest = rest }
+
+-- a text before a `;`
+abbrev pub before_semicolon : List ℕ → List ℕ → Option Part
+before_semicolon text [] = None
+before_semicolon text (c ∷ cs) = if c == 59 then Some (part text cs) else None
+
+-- the codes ahead that pass a test, from 1 to so many of them, before a `;`
+abbrev pub terminated : (ℕ → Bool) → ℕ → List ℕ → Option Part
+terminated test most content =
+    let size = prefix_len test content in
+    if nat_le 1 size && nat_le size most then before_semicolon (take size content) (drop size content) else None
+
+-- the number that digits spell in this base
+abbrev pub number_of : ℕ → List ℕ → ℕ
+number_of base digits = fold (λ n digit. n * base + digit_value digit) 0 digits
+
+-- a reference by number, with the digits of this base
+abbrev pub numbered : ℕ → Option Part → Option CharacterReference
+numbered base None = None
+numbered base (Some digits) = Some (character_reference (Numbered (number_of base digits.text)) digits.rest)
+
+-- a reference by name
+abbrev pub named : Option Part → Option CharacterReference
+named None = None
+named (Some name) = Some (character_reference (Named name.text) name.rest)
+
+-- a reference by number after its `&#` (CommonMark 2.5)
+abbrev pub number_reference : List ℕ → Option CharacterReference
+number_reference [] = None
+number_reference (c ∷ cs) =
+    if (c == 120) || (c == 88) then numbered 16 (terminated is_ascii_hexdigit 6 cs)
+    else numbered 10 (terminated is_ascii_digit 7 (c ∷ cs))
+
+-- a reference after its `&` (CommonMark 2.5)
+abbrev pub reference_after : List ℕ → Option CharacterReference
+reference_after [] = None
+reference_after (c ∷ cs) =
+    if c == 35 then number_reference cs else named (terminated is_ascii_alphanumeric 31 (c ∷ cs))
+
+-- a reference by its form alone: names aren't looked up (CommonMark 2.5)
+abbrev pub reference_form : List ℕ → Option CharacterReference
+reference_form [] = None
+reference_form (c ∷ cs) = if c == 38 then reference_after cs else None
+
+-- a number that stands for no character that is printed as it is: NUL, the control characters but tab, line feed, form feed and return, surrogates, noncharacters, and all above U+10FFFF
+abbrev pub is_replaced : ℕ → Bool
+is_replaced number =
+    nat_le number 8 || ((number == 11) || ((nat_le 14 number && nat_le number 31) || ((nat_le 127 number && nat_le number 159)
+    || ((nat_le 0xD800 number && nat_le number 0xDFFF) || ((nat_le 0xFDD0 number && nat_le number 0xFDEF)
+    || (nat_le 0xFFFE (number % 0x1_0000) || nat_lt 0x10_FFFF number))))))
+
+-- the bytes that a number stands for (CommonMark 2.5)
+abbrev pub numbered_text : ℕ → List ℕ
+numbered_text number = if is_replaced number then replacement_character else encode_utf8 number
+
+-- the bytes that a name or a number stands for, where the names are given by a table
+abbrev pub reference_text : (List ℕ → Option (List ℕ)) → CharacterName → Option (List ℕ)
+reference_text names (Named name) = names name
+reference_text names (Numbered number) = Some (numbered_text number)
+
+-- a reference to a text that is there
+abbrev pub reference_leaf : ℕ → Option (List ℕ) → Option Leaf
+reference_leaf size None = None
+reference_leaf size (Some text) = Some (leaf (Character text ∷ []) size)
+
+-- a reference of this form in a content
+abbrev pub reference_of : (List ℕ → Option (List ℕ)) → List ℕ → Option CharacterReference → Option Leaf
+reference_of names content None = None
+reference_of names content (Some found) = reference_leaf (length content - length found.rest) (reference_text names found.name)
+
+-- a character reference, whose name the table has (CommonMark 2.5)
+abbrev pub reference_at : Constructs → (List ℕ → Option (List ℕ)) → List ℕ → Option Leaf
+reference_at on names content = if on.character_reference then reference_of names content (reference_form content) else None

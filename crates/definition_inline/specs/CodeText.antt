@@ -1,0 +1,42 @@
+-- Code spans (CommonMark 6.1): a run of n backticks, a text, and the next run of exactly n.
+use Rattle.std.specs.Prelude.{ℕ, ◌+◌, ◌-◌, Bool, false, if◌then◌else◌, not, ◌==◌, ◌&&◌, ◌||◌, List, [], ◌∷◌, Option, None, Some, map, take, drop, length, slice_index}
+use Rattle.std.specs.List.{list_any}
+use Rattle.markdown_options.specs.declared.configuration.Constructs.{Constructs}
+use Rattle.definition_text.specs.Columns.{is_tab_column}
+use Rattle.definition_text.specs.Runs.{run, after_run}
+use Rattle.definition_text.specs.Content.{is_eol, Part, up_to}
+use Rattle.definition_inline.specs.Inline.{Leaf, leaf, Data, Code}
+
+-- the rest from the first run of exactly n of a byte on; whether that byte stands before is given (CommonMark 6.1)
+abbrev pub run_of : ℕ → ℕ → Bool → List ℕ → Option (List ℕ)
+run_of marker n within [] = None
+run_of marker n within (c ∷ cs) =
+    if not within && (run marker (c ∷ cs) == n) then Some (c ∷ cs) else run_of marker n (c == marker) cs
+
+-- a line ending is a space in code, and so is a column that is left of a tab (CommonMark 6.1)
+abbrev pub code_space : ℕ → ℕ
+code_space code = if is_eol code || is_tab_column code then 32 else code
+
+-- a space at each end, and not only spaces (CommonMark 6.1)
+abbrev pub is_padded : List ℕ → Bool
+is_padded text = (slice_index text 0 == 32) && ((slice_index text (length text - 1) == 32) && list_any (λ b. not (b == 32)) text)
+
+-- without one space at each end, where there are both and something between (CommonMark 6.1)
+abbrev pub unpadded : List ℕ → List ℕ
+unpadded text = if is_padded text then take (length text - 2) (drop 1 text) else text
+
+-- the text of a code span (CommonMark 6.1)
+abbrev pub code_text : List ℕ → List ℕ
+code_text text = unpadded (map code_space text)
+
+-- a code span of n backticks, where its end is found; otherwise these backticks are text (CommonMark 6.1)
+abbrev pub code_leaf : ℕ → List ℕ → Option Part → Leaf
+code_leaf n content None = leaf (map Data (take n content)) n
+code_leaf n content (Some found) = leaf (Code (code_text found.text) ∷ []) (n + length found.text + n)
+
+-- a run of backticks, which may open a code span (CommonMark 6.1)
+abbrev pub code_text_at : Constructs → List ℕ → Option Leaf
+code_text_at on content =
+    let n = run 96 content in
+    let rest = after_run 96 content in
+    if on.code_text && not (n == 0) then Some (code_leaf n content (up_to rest (run_of 96 n false rest))) else None

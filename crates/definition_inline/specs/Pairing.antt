@@ -1,0 +1,102 @@
+-- Which runs of a container go together (CommonMark 6.2).
+use Rattle.std.specs.Prelude.{ℕ, zero, suc, ◌+◌, ◌-◌, ◌%◌, Bool, true, false, not, if◌then◌else◌, ◌==◌, ◌&&◌, ◌||◌, nat_le, List, [], ◌∷◌, ◌++◌, length, take, slice_index_or}
+use Rattle.std.specs.List.{suffix_len, fold}
+use Rattle.definition_inline.specs.Attention.{Run}
+
+-- a run that is open, with its place among the runs of its container
+pub record Placed : Type 0 where
+  pub run : Run
+  pub place : ℕ
+
+-- two runs that go together, by their places, and how many bytes of each belong to the pair
+pub record Pair : Type 0 where
+  pub opener : ℕ
+  pub closer : ℕ
+  pub taken : ℕ
+
+abbrev pub placed : Run → ℕ → Placed
+placed run place = record { run = run; place = place }
+
+-- no pair: one of the two may both open and close, and what is left of them makes a multiple of three together, but not of each alone (CommonMark 6.2)
+abbrev pub is_ruled_out_by_three : Run → Run → Bool
+is_ruled_out_by_three opener closer =
+    (opener.may_close || closer.may_open) && (not (closer.left % 3 == 0) && ((opener.left + closer.left) % 3 == 0))
+
+-- two runs that may form a pair: of one byte, something left of both, and not ruled out (CommonMark 6.2)
+abbrev pub may_pair : Run → Run → Bool
+may_pair opener closer =
+    (opener.marker == closer.marker)
+    && ((opener.may_open && nat_le 1 opener.left)
+    && ((closer.may_close && nat_le 1 closer.left) && not (is_ruled_out_by_three opener closer)))
+
+-- a pair takes two bytes of each where both have two left: it is strong emphasis (CommonMark 6.2)
+abbrev pub bytes_of_pair : Run → Run → ℕ
+bytes_of_pair opener closer = if nat_le 2 opener.left && nat_le 2 closer.left then 2 else 1
+
+abbrev pub is_eligible : Placed → Placed → Bool
+is_eligible opener closer = may_pair opener.run closer.run
+
+abbrev pub taken_by : Placed → Placed → ℕ
+taken_by opener closer = bytes_of_pair opener.run closer.run
+
+-- what is left of a run after so many bytes
+abbrev pub without : ℕ → Placed → Placed
+without count p = placed (record p.run { left = p.run.left - count }) p.place
+
+-- a run that has something left and may open
+abbrev pub openers_of : Placed → List Placed
+openers_of p = if p.run.may_open && not (p.run.left == 0) then p ∷ [] else []
+
+-- the pair that two runs form
+abbrev pub pair_of : Placed → Placed → Pair
+pair_of opener closer = record { opener = opener.place; closer = closer.place; taken = taken_by opener closer }
+
+-- the openers that no pair crosses, the nearest last, and the pairs so far
+pub record Pairing : Type 0 where
+  pub openers : List Placed
+  pub pairs : List Pair
+
+abbrev pub pairing : List Placed → List Pair → Pairing
+pairing openers pairs = record { openers = openers; pairs = pairs }
+
+-- how many openers stand up to the nearest eligible one, none where there is no such
+abbrev pub up_to_nearest : List Placed → Placed → ℕ
+up_to_nearest openers closer = length openers - suffix_len (λ o. not (is_eligible o closer)) openers
+
+-- the nearest eligible opener
+abbrev pub nearest : List Placed → Placed → Placed
+nearest openers closer = slice_index_or openers (up_to_nearest openers closer - 1) closer
+
+-- an eligible opener and the closer make a pair; the openers between go, so that nothing crosses it (CommonMark 6.2)
+abbrev pub paired : Pairing → Placed → Placed → Pairing
+paired so_far opener closer =
+    pairing (take (up_to_nearest so_far.openers closer - 1) so_far.openers ++ openers_of (without (taken_by opener closer) opener))
+    (so_far.pairs ++ pair_of opener closer ∷ [])
+
+-- what is left of a run may open
+abbrev pub opened : Pairing → Placed → Pairing
+opened so_far p = pairing (so_far.openers ++ openers_of p) so_far.pairs
+
+-- the closer pairs with this opener, and what is left of it goes on; or it may open, where no opener was found
+abbrev pub paired_or_opened : Bool → Pairing → Placed → Placed → (Pairing → Placed → Pairing) → Pairing
+paired_or_opened true so_far opener closer more = opened so_far closer
+paired_or_opened false so_far opener closer more = more (paired so_far opener closer) (without (taken_by opener closer) closer)
+
+-- a run closes what it can, at most so many times, and what is left of it may open (CommonMark 6.2)
+abbrev pub close : ℕ → Pairing → Placed → Pairing
+close zero so_far closer = opened so_far closer
+close (suc most) so_far closer =
+    paired_or_opened (up_to_nearest so_far.openers closer == 0) so_far (nearest so_far.openers closer) closer (close most)
+
+-- one more run
+abbrev pub next_run : Pairing → Placed → Pairing
+next_run so_far p = close p.run.left so_far p
+
+-- runs with their places from this one on
+abbrev pub placed_from : ℕ → List Run → List Placed
+placed_from place [] = []
+placed_from place (run ∷ others) = placed run place ∷ placed_from (place + 1) others
+
+-- the pairs of the runs of one container, from left to right (CommonMark 6.2)
+abbrev pub pairs : List Run → List Pair
+pairs runs = (fold next_run (pairing [] []) (placed_from 0 runs)).pairs

@@ -1,0 +1,51 @@
+-- The resource of a link or an image (CommonMark 6.3): `(`, an optional destination with an optional title, `)`, with white space between.
+use Rattle.std.specs.Prelude.{ℕ, Bool, false, if◌then◌else◌, ◌==◌, ◌&&◌, ◌||◌, List, [], ◌∷◌, Option, None, Some}
+use Rattle.definition_text.specs.Content.{Part}
+use Rattle.definition_inline.specs.Space.{after_white, begins_with_space}
+use Rattle.definition_inline.specs.Destination.{destination_at}
+use Rattle.definition_inline.specs.Title.{title_at}
+
+-- a resource: its destination, empty where none is written, its title, and what follows its `)`
+pub record LinkResource : Type 0 where
+  pub destination : List ℕ
+  pub title : Option (List ℕ)
+  pub rest : List ℕ
+
+-- a resource ends here: white space, and a `)` (CommonMark 6.3)
+abbrev pub resource_end : List ℕ → Option (List ℕ) → List ℕ → Option LinkResource
+resource_end destination title [] = None
+resource_end destination title (c ∷ cs) =
+    if c == 41 then Some (record { destination = destination; title = title; rest = cs }) else None
+
+-- a resource with this title, if there is one
+abbrev pub with_title : List ℕ → Option Part → Option LinkResource
+with_title destination None = None
+with_title destination (Some title) = resource_end destination (Some title.text) (after_white title.rest)
+
+-- whether a title is opened here
+abbrev pub opens_title : List ℕ → Bool
+opens_title [] = false
+opens_title (c ∷ cs) = (c == 34) || ((c == 39) || (c == 40))
+
+-- a title is set off from the destination by white space (CommonMark 6.3)
+abbrev pub after_destination : Part → Option LinkResource
+after_destination destination =
+    let next = after_white destination.rest in
+    if begins_with_space destination.rest && opens_title next then with_title destination.text (title_at next)
+    else resource_end destination.text None next
+
+-- a resource with this destination, if there is one
+abbrev pub with_destination : Option Part → Option LinkResource
+with_destination None = None
+with_destination (Some destination) = after_destination destination
+
+-- a resource after its `(` and white space (CommonMark 6.3)
+abbrev pub resource_inside : List ℕ → Option LinkResource
+resource_inside [] = None
+resource_inside (c ∷ cs) =
+    if c == 41 then resource_end [] None (c ∷ cs) else with_destination (destination_at (Some 32) (c ∷ cs))
+
+-- a resource, whose destination has parentheses at most 32 deep (CommonMark 6.3)
+abbrev pub resource_at : List ℕ → Option LinkResource
+resource_at [] = None
+resource_at (c ∷ cs) = if c == 40 then resource_inside (after_white cs) else None

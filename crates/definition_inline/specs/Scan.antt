@@ -1,0 +1,197 @@
+-- The inline structure of a content, from left to right (CommonMark 6 and appendix, phase 2).
+use Rattle.std.specs.Prelude.{ℕ, zero, suc, ◌+◌, ◌-◌, Bool, true, false, not, if◌then◌else◌, ◌==◌, ◌&&◌, ◌||◌, List, [], ◌∷◌, ◌++◌, Option, None, Some, codes, map, drop}
+use Rattle.std.specs.List.{fold, prefix_len}
+use Rattle.markdown_options.specs.declared.configuration.Constructs.{Constructs}
+use Rattle.definition_text.specs.Columns.{is_white}
+use Rattle.definition_text.specs.Bytes.{begins_with}
+use Rattle.definition_text.specs.Content.{before}
+use Rattle.definition_text.specs.InlineCode.{InlineCode, codes_of}
+use Rattle.definition_inline.specs.Inline.{Target, Inline, Data, Link, Image, Inlines, Leaf, or_else}
+use Rattle.definition_inline.specs.CharacterEscape.{escape_at}
+use Rattle.definition_inline.specs.CharacterReference.{reference_at}
+use Rattle.definition_inline.specs.CodeText.{code_text_at}
+use Rattle.definition_inline.specs.Autolink.{autolink_at}
+use Rattle.definition_inline.specs.HtmlText.{html_text_at}
+use Rattle.definition_inline.specs.HardBreak.{escaped_break_at, line_end_at, line_spaces_at}
+use Rattle.definition_inline.specs.LabelEnd.{Ended, label_end_at}
+use Rattle.definition_inline.specs.Attention.{Run, run_at}
+use Rattle.definition_inline.specs.Spans.{Token, Item, Delimiters, emphasized}
+
+-- what a content is read by: the constructs that are on, the texts of named characters, and whether a label is defined in the document
+pub record InlineContext : Type 0 where
+  pub on : Constructs
+  pub names : List ℕ → Option (List ℕ)
+  pub is_defined : List ℕ → Bool
+
+-- ---- constructs that hold no other
+
+-- the construct that a content begins with, if it holds no other; two of them begin with one byte only where the first of them goes first: an escape and a break, an autolink and HTML
+abbrev pub leaf_at : InlineContext → List ℕ → Option Leaf
+leaf_at context content =
+    or_else (escape_at context.on content)
+    (or_else (escaped_break_at context.on content)
+    (or_else (reference_at context.on context.names content)
+    (or_else (code_text_at context.on content)
+    (or_else (autolink_at context.on content)
+    (or_else (html_text_at context.on content)
+    (or_else (line_end_at content)
+    (line_spaces_at context.on content)))))))
+
+-- ---- labels
+
+-- what starts the text of a link or an image (CommonMark 6.3 and 6.4)
+pub data LabelStart : Type 0 where
+  LinkStart : LabelStart
+  ImageStart : LabelStart
+
+-- `![` starts an image, `[` a link (CommonMark 6.3 and 6.4)
+abbrev pub label_start_at : Constructs → List ℕ → Option LabelStart
+label_start_at on content =
+    if on.label_start_image && begins_with (codes "![") content then Some ImageStart
+    else (if on.label_start_link && begins_with (codes "[") content then Some LinkStart
+    else None)
+
+-- the bytes of a label start
+abbrev pub start_bytes : LabelStart → List ℕ
+start_bytes LinkStart = codes "["
+start_bytes ImageStart = codes "!["
+
+-- how many codes a label start takes after its first
+abbrev pub start_more : LabelStart → ℕ
+start_more LinkStart = 0
+start_more ImageStart = 1
+
+-- a label start that forms nothing is text
+abbrev pub start_tokens : LabelStart → List Token
+start_tokens start = map (λ b. Item (Data b)) (start_bytes start)
+
+-- whether a label start may form something, given whether its text holds a link: no link holds another (CommonMark 6.3)
+abbrev pub may_form : LabelStart → Bool → Bool
+may_form LinkStart holds_link = not holds_link
+may_form ImageStart holds_link = true
+
+-- what is formed, with its text
+abbrev pub label_part : LabelStart → Target → Inlines → Inline
+label_part LinkStart target kids = Link target kids
+label_part ImageStart target kids = Image target kids
+
+-- whether this is a link, or its text holds one
+abbrev pub makes_link : LabelStart → Bool → Bool
+makes_link LinkStart holds_link = true
+makes_link ImageStart holds_link = holds_link
+
+-- ---- what is read so far
+
+-- the tokens of a text, and whether a link is among them or inside of an image among them
+pub record Text : Type 0 where
+  pub tokens : List Token
+  pub holds_link : Bool
+
+abbrev pub text : List Token → Bool → Text
+text tokens holds_link = record { tokens = tokens; holds_link = holds_link }
+
+-- a label start that is open: what it starts, the codes of the content after it, and the text before it
+pub record OpenLabel : Type 0 where
+  pub start : LabelStart
+  pub from : List ℕ
+  pub outer : Text
+
+-- the text after the innermost label start that is open, and the open label starts, the innermost first
+pub record Reading : Type 0 where
+  pub now : Text
+  pub open_labels : List OpenLabel
+
+abbrev pub reading : Text → List OpenLabel → Reading
+reading now open_labels = record { now = now; open_labels = open_labels }
+
+-- more tokens of a text
+abbrev pub with_tokens : Text → List Token → Text
+with_tokens t more = text (t.tokens ++ more) t.holds_link
+
+abbrev pub read_tokens : List Token → Reading → Reading
+read_tokens more r = reading (with_tokens r.now more) r.open_labels
+
+-- a label start that forms nothing, and the text after it
+abbrev pub unformed : OpenLabel → Text → Text
+unformed label inner = text (label.outer.tokens ++ (start_tokens label.start ++ inner.tokens)) (label.outer.holds_link || inner.holds_link)
+
+-- a link or an image of the text after its start (CommonMark 6.3 and 6.4)
+abbrev pub formed : OpenLabel → Target → Text → Text
+formed label target inner =
+    text (label.outer.tokens ++ Item (label_part label.start target (emphasized inner.tokens)) ∷ [])
+    (label.outer.holds_link || makes_link label.start inner.holds_link)
+
+-- ---- one place
+
+-- how many codes are taken after the first, and what is read then
+pub data Step : Type 0 where
+  Next : ℕ → Reading → Step
+
+-- a byte of text
+abbrev pub data_step : ℕ → Reading → Step
+data_step code r = Next 0 (read_tokens (Item (Data code) ∷ []) r)
+
+-- a `]` after the innermost label start that is open: that one is used up, and both are text where nothing is formed (CommonMark 6.3)
+abbrev pub ended_step : OpenLabel → List OpenLabel → Text → Option Ended → Step
+ended_step label others inner None = Next 0 (read_tokens (Item (Data 93) ∷ []) (reading (unformed label inner) others))
+ended_step label others inner (Some found) = Next found.size (reading (formed label found.target inner) others)
+
+-- what a `]` forms with a label start that is open (CommonMark 6.3)
+abbrev pub ended_by : InlineContext → List ℕ → OpenLabel → Text → Option Ended
+ended_by context content label inner =
+    if may_form label.start inner.holds_link then label_end_at context.is_defined (before label.from content) (drop 1 content) else None
+
+-- a `]`, where these label starts are open
+abbrev pub label_end_step : InlineContext → List ℕ → Text → List OpenLabel → Step
+label_end_step context content inner [] = data_step 93 (reading inner [])
+label_end_step context content inner (label ∷ others) = ended_step label others inner (ended_by context content label inner)
+
+-- a place at which nothing starts: a `]`, or a byte of text
+abbrev pub last_step : InlineContext → ℕ → List ℕ → Reading → Step
+last_step context code content r =
+    if context.on.label_end && (code == 93) then label_end_step context content r.now r.open_labels else data_step code r
+
+-- a label start, or another place
+abbrev pub label_step : InlineContext → ℕ → List ℕ → Reading → Option LabelStart → Step
+label_step context code content r None = last_step context code content r
+label_step context code content r (Some start) =
+    Next (start_more start)
+    (reading (text [] false) (record { start = start; from = drop (1 + start_more start) content; outer = r.now } ∷ r.open_labels))
+
+-- a run, or another place
+abbrev pub run_step : InlineContext → ℕ → List ℕ → Reading → Option Run → Step
+run_step context code content r None = label_step context code content r (label_start_at context.on content)
+run_step context code content r (Some run) = Next (run.left - 1) (read_tokens (Delimiters run ∷ []) r)
+
+-- a construct that holds no other, or another place
+abbrev pub leaf_step : InlineContext → ℕ → List ℕ → Reading → Option Run → Option Leaf → Step
+leaf_step context code content r run None = run_step context code content r run
+leaf_step context code content r run (Some found) = Next (found.size - 1) (read_tokens (map Item found.parts) r)
+
+-- what is read of the codes that come next
+abbrev pub step : InlineContext → Reading → InlineCode → List InlineCode → Step
+step context r c cs =
+    let content = codes_of (c ∷ cs) in
+    leaf_step context c.code content r (run_at context.on (c ∷ cs)) (leaf_at context content)
+
+-- ---- the whole
+
+-- a step, and what is read after it
+abbrev pub and_then : Step → (ℕ → Reading → Reading) → Reading
+and_then (Next more r) rest = rest more r
+
+-- what is read of a content, of which so many codes are taken already
+abbrev pub scan : InlineContext → ℕ → Reading → List InlineCode → Reading
+scan context k r [] = r
+scan context zero r (c ∷ cs) = and_then (step context r c cs) (λ k next. scan context k next cs)
+scan context (suc k) r (c ∷ cs) = scan context k r cs
+
+-- the text where no `]` is left: label starts that are open form nothing
+abbrev pub whole_text : Reading → Text
+whole_text r = fold (λ inner label. unformed label inner) r.now r.open_labels
+
+-- the inline structure of a content, without the spaces and tabs at its ends (CommonMark 6)
+abbrev pub inlines : InlineContext → List InlineCode → Inlines
+inlines context content =
+    let start = prefix_len (λ (c : InlineCode). is_white c.code) content in
+    emphasized (whole_text (scan context 0 (reading (text [] false) []) (drop start content))).tokens

@@ -1,0 +1,2 @@
+//! What a content is: labels, references, and the inline tree.
+#![tactic(auto)]

@@ -1,0 +1,42 @@
+-- What a document gives to its texts, and what they print.
+use Rattle.std.specs.Prelude.{ℕ, Bool, List, Option}
+use Rattle.markdown_options.specs.declared.configuration.Options.{Options}
+use Rattle.definition_text.specs.declared.beside.Kind.TheVariants.{Whitespace}
+use Rattle.definition_text.specs.BlockLines.{BlockLine}
+use Rattle.definition_inline.specs.Definition.{Definition}
+use Rattle.definition_text.specs.InlineCode.{inline_content}
+use Rattle.definition_inline.specs.Scan.{InlineContext, inlines}
+use Rattle.definition_inline.specs.Strings.{string_text}
+use Rattle.definition_page.specs.InlineHtml.{InlineMeaning, inline_html}
+use Rattle.definition_page.specs.Meaning.{inline_meaning}
+use Rattle.definition_page.specs.Targets.{is_label_of, linked_by}
+
+-- the texts of named characters, and which characters are punctuation
+pub record TextTables : Type 0 where
+  pub names : List ℕ → Option (List ℕ)
+  pub is_punctuation : ℕ → Bool
+
+-- the options, the tables, and the link reference definitions
+pub record Document : Type 0 where
+  pub options : Options
+  pub tables : TextTables
+  pub definitions : List Definition
+
+abbrev pub document : Options → TextTables → List Definition → Document
+document options tables definitions = record { options = options; tables = tables; definitions = definitions }
+
+-- what inline structure is read by
+abbrev pub context_of : Document → InlineContext
+context_of d = record { on = d.options.parse.constructs; names = d.tables.names; is_defined = is_label_of d.definitions }
+
+-- and what it is printed by
+abbrev pub meaning_of : Document → InlineMeaning
+meaning_of d = inline_meaning d.options.parse.constructs d.options.compile d.tables.names (linked_by d.definitions)
+
+-- the text of a paragraph or a heading, which ends where a line does (CommonMark 4.8)
+abbrev pub text_of : Document → List BlockLine → List ℕ
+text_of d ls = inline_html (meaning_of d) (inlines (context_of d) (inline_content d.tables.is_punctuation Whitespace ls))
+
+-- the text of an info string (CommonMark 4.5)
+abbrev pub info_of : Document → List ℕ → List ℕ
+info_of d info = string_text d.options.parse.constructs d.tables.names info

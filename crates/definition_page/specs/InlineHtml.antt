@@ -1,0 +1,137 @@
+-- What the inline structure of a content prints (CommonMark 6).
+use Rattle.std.specs.Prelude.{ℕ, Bool, true, false, if◌then◌else◌, List, [], ◌∷◌, ◌++◌, Option, None, Some, unwrap_or, codes}
+use Rattle.std.specs.List.{flat_map}
+use Rattle.markdown_options.specs.declared.configuration.Constructs.{Constructs}
+use Rattle.markdown_options.specs.declared.configuration.CompileOptions.{CompileOptions}
+use Rattle.definition_text.specs.Columns.{bytes_of, bare}
+use Rattle.definition_text.specs.Content.{is_eol}
+use Rattle.definition_text.specs.Encode.{encode, encoded_byte, plain}
+use Rattle.definition_page.specs.HtmlRaw.{raw_html}
+use Rattle.definition_inline.specs.Inline.{Target, Resource, Reference, Linked, linked, Inline, Data, Escape, Character, Code, Autolink, Html, EscapedBreak, TrailingBreak, LineEnd, Emphasis, Strong, Link, Image, Inlines, Nil, Cons}
+use Rattle.definition_inline.specs.Strings.{string_text, eol_bytes}
+
+-- what is printed is given by: the options, the texts of named characters, what the definition of a label leads to, and how the URL of a link and of an image is printed as a value of its attribute
+pub record InlineMeaning : Type 0 where
+  pub on : Constructs
+  pub compile : CompileOptions
+  pub names : List ℕ → Option (List ℕ)
+  pub definition : List ℕ → Option Linked
+  pub link_url : List ℕ → List ℕ
+  pub image_url : List ℕ → List ℕ
+
+-- where a link or an image leads, by what the definition of a label leads to
+abbrev pub leads_to : (List ℕ → Option Linked) → Target → Linked
+leads_to definition (Resource destination title) = linked destination title
+leads_to definition (Reference label) = unwrap_or (definition label) (linked [] None)
+
+-- the URL of a destination: its text, in which NUL is U+FFFD (CommonMark 6.3)
+abbrev pub url_of : InlineMeaning → Linked → List ℕ
+url_of meaning target = plain (string_text meaning.on meaning.names target.destination)
+
+-- the attribute of a title that isn't empty
+abbrev pub titled : List ℕ → List ℕ
+titled [] = []
+titled (b ∷ bs) = codes " title=\"" ++ encode (b ∷ bs) ++ codes "\""
+
+abbrev pub title_attribute : InlineMeaning → Option (List ℕ) → List ℕ
+title_attribute meaning None = []
+title_attribute meaning (Some title) = titled (string_text meaning.on meaning.names title)
+
+-- the address that an autolink leads to (CommonMark 6.5)
+abbrev pub address : Bool → List ℕ → List ℕ
+address true text = codes "mailto:" ++ text
+address false text = text
+
+-- ---- raw HTML
+
+-- a line of raw HTML, and the code of its ending, if it has one
+pub record HtmlLine : Type 0 where
+  pub line : List ℕ
+  pub ending : List ℕ
+
+abbrev pub html_text_line : List ℕ → List ℕ → HtmlLine
+html_text_line line ending = record { line = line; ending = ending }
+
+-- a code before the first of these lines
+abbrev pub in_first_line : ℕ → List HtmlLine → List HtmlLine
+in_first_line code [] = html_text_line (code ∷ []) [] ∷ []
+in_first_line code (first ∷ others) = html_text_line (code ∷ first.line) first.ending ∷ others
+
+-- the lines of codes
+abbrev pub html_lines : List ℕ → List HtmlLine
+html_lines [] = []
+html_lines (c ∷ cs) = if is_eol c then html_text_line [] (c ∷ []) ∷ html_lines cs else in_first_line c (html_lines cs)
+
+-- a line as raw HTML is printed, and its ending as it is
+abbrev pub html_line_bytes : CompileOptions → List ℕ → List ℕ → List ℕ
+html_line_bytes options line ending = raw_html options (bytes_of line) ++ flat_map eol_bytes ending
+
+-- a later line, without the spaces and tabs at its start (CommonMark 6.6)
+abbrev pub later_line_bytes : CompileOptions → HtmlLine → List ℕ
+later_line_bytes options line = html_line_bytes options (bare line.line) line.ending
+
+-- lines of raw HTML (CommonMark 6.6)
+abbrev pub html_lines_bytes : CompileOptions → List HtmlLine → List ℕ
+html_lines_bytes options [] = []
+html_lines_bytes options (first ∷ others) = html_line_bytes options first.line first.ending ++ flat_map (later_line_bytes options) others
+
+abbrev pub html_text_bytes : CompileOptions → List ℕ → List ℕ
+html_text_bytes options text = html_lines_bytes options (html_lines text)
+
+-- ---- the description of an image: what its parts say, without tags (CommonMark 6.4)
+
+abbrev mutual
+  pub part_description : CompileOptions → Inline → List ℕ
+  part_description options (Data b) = encoded_byte b
+  part_description options (Escape b) = encoded_byte b
+  part_description options (Character bytes) = encode bytes
+  part_description options (Code bytes) = encode bytes
+  part_description options (Autolink is_email bytes) = encode bytes
+  part_description options (Html text) = html_text_bytes options text
+  part_description options EscapedBreak = []
+  part_description options TrailingBreak = []
+  part_description options (LineEnd code) = eol_bytes code
+  part_description options (Emphasis kids) = description options kids
+  part_description options (Strong kids) = description options kids
+  part_description options (Link target kids) = description options kids
+  part_description options (Image target kids) = description options kids
+
+  pub description : CompileOptions → Inlines → List ℕ
+  description options Nil = []
+  description options (Cons i is) = part_description options i ++ description options is
+
+-- ---- HTML
+
+-- the start tag of a link (CommonMark 6.3)
+abbrev pub link_tag : InlineMeaning → Linked → List ℕ
+link_tag meaning target =
+    codes "<a href=\"" ++ meaning.link_url (url_of meaning target) ++ codes "\"" ++ title_attribute meaning target.title ++ codes ">"
+
+-- the tag of an image with its description (CommonMark 6.4)
+abbrev pub image_tag : InlineMeaning → Linked → List ℕ → List ℕ
+image_tag meaning target text =
+    codes "<img src=\"" ++ meaning.image_url (url_of meaning target) ++ codes "\" alt=\"" ++ text ++ codes "\""
+    ++ title_attribute meaning target.title ++ codes " />"
+
+abbrev mutual
+  -- the HTML of a part (CommonMark 6)
+  pub part_html : InlineMeaning → Inline → List ℕ
+  part_html meaning (Data b) = encoded_byte b
+  part_html meaning (Escape b) = encoded_byte b
+  part_html meaning (Character bytes) = encode bytes
+  part_html meaning (Code bytes) = codes "<code>" ++ encode bytes ++ codes "</code>"
+  part_html meaning (Autolink is_email bytes) =
+      codes "<a href=\"" ++ meaning.link_url (address is_email bytes) ++ codes "\">" ++ encode bytes ++ codes "</a>"
+  part_html meaning (Html text) = html_text_bytes meaning.compile text
+  part_html meaning EscapedBreak = codes "<br />"
+  part_html meaning TrailingBreak = codes "<br />"
+  part_html meaning (LineEnd code) = eol_bytes code
+  part_html meaning (Emphasis kids) = codes "<em>" ++ inline_html meaning kids ++ codes "</em>"
+  part_html meaning (Strong kids) = codes "<strong>" ++ inline_html meaning kids ++ codes "</strong>"
+  part_html meaning (Link target kids) = link_tag meaning (leads_to meaning.definition target) ++ inline_html meaning kids ++ codes "</a>"
+  part_html meaning (Image target kids) = image_tag meaning (leads_to meaning.definition target) (description meaning.compile kids)
+
+  -- the HTML of parts, one after another
+  pub inline_html : InlineMeaning → Inlines → List ℕ
+  inline_html meaning Nil = []
+  inline_html meaning (Cons i is) = part_html meaning i ++ inline_html meaning is

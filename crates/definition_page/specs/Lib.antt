@@ -1,0 +1,9 @@
+pub mod Pieces
+pub mod HtmlRaw
+pub mod TagFilter
+pub mod InlineHtml
+pub mod Targets
+pub mod Urls
+pub mod Meaning
+pub mod Document
+pub mod Html

@@ -1,0 +1,36 @@
+-- Where the labels of a document lead (CommonMark 4.7 and 6.3).
+use Rattle.std.specs.Prelude.{ℕ, Bool, List, [], Option, None, is_some, map, slice_index_or}
+use Rattle.std.specs.Option.{option_map}
+use Rattle.definition_text.specs.Columns.{code_byte}
+use Rattle.definition_block.specs.Blocks.{Blocks}
+use Rattle.definition_inline.specs.Definition.{Definition, definition}
+use Rattle.definition_block.specs.Definitions.{definitions}
+use Rattle.definition_inline.specs.LabelMatch.{first_match}
+use Rattle.definition_inline.specs.Inline.{Linked, linked}
+
+-- a definition whose columns that are left of a tab are spaces
+abbrev pub spaced : Definition → Definition
+spaced d = definition (map code_byte d.label) (map code_byte d.destination) (option_map (map code_byte) d.title) (map code_byte d.rest)
+
+-- the definitions of a document, in the order of the text, repeats kept (CommonMark 4.7)
+abbrev pub document_definitions : Blocks → List Definition
+document_definitions bs = map spaced (definitions bs)
+
+-- the labels of definitions
+abbrev pub labels_of : List Definition → List (List ℕ)
+labels_of ds = map (λ (d : Definition). d.label) ds
+
+abbrev pub no_definition : Definition
+no_definition = definition [] [] None []
+
+-- where the definition at a place leads
+abbrev pub linked_at : List Definition → ℕ → Linked
+linked_at ds place = let d = slice_index_or ds place no_definition in linked d.destination d.title
+
+-- where the first definition leads whose label matches this one (CommonMark 6.3)
+abbrev pub linked_by : List Definition → List ℕ → Option Linked
+linked_by ds label = option_map (linked_at ds) (first_match label (labels_of ds))
+
+-- whether a label is that of a definition
+abbrev pub is_label_of : List Definition → List ℕ → Bool
+is_label_of ds label = is_some (first_match label (labels_of ds))

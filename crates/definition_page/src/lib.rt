@@ -1,0 +1,2 @@
+//! What the HTML of a text is.
+#![tactic(auto)]

@@ -1,0 +1,2 @@
+pub mod ContentBytes
+pub mod CodeBytes

@@ -1,0 +1,85 @@
+-- The content of a block as codes (CommonMark 2.1 and 4.8).
+use Rattle.std.specs.Prelude.{ℕ, ◌-◌, Bool, if◌then◌else◌, not, ◌==◌, ◌&&◌, ◌||◌, List, [], ◌∷◌, ◌++◌, Option, None, Some, drop, take, length, map}
+use Rattle.std.specs.List.{flat_map}
+use Rattle.markdown_options.specs.declared.line_ending.LineEnding.{LineEnding}
+use Rattle.markdown_options.specs.declared.line_ending.LineEnding.TheVariants.{CarriageReturnLineFeed, CarriageReturn, LineFeed}
+use Rattle.definition_text.specs.Lines.{ending_text}
+use Rattle.definition_text.specs.Columns.{is_white, code_byte}
+use Rattle.definition_text.specs.BlockLines.{BlockLine, own_lines}
+
+-- A code of a content is a byte, 256 for a column that is left of a tab, or the one code of a line ending.
+
+-- the code of a line ending (CommonMark 2.1)
+abbrev pub line_ending_code : LineEnding → ℕ
+line_ending_code LineFeed = 10
+line_ending_code CarriageReturn = 13
+line_ending_code CarriageReturnLineFeed = 257
+
+-- a line ending, whichever it is (CommonMark 2.1)
+abbrev pub is_eol : ℕ → Bool
+is_eol code = (code == 10) || (code == 13) || (code == 257)
+
+-- a space, a tab or a line ending (CommonMark 2.1)
+abbrev pub is_space : ℕ → Bool
+is_space code = is_white code || is_eol code
+
+-- a CR stands before these bytes, whose codes are given: with an LF right after it, it is one code
+abbrev pub after_return_code : List ℕ → List ℕ → List ℕ
+after_return_code [] codes = 13 ∷ codes
+after_return_code (b ∷ bs) codes = if b == 10 then 257 ∷ drop 1 codes else 13 ∷ codes
+
+-- the codes of bytes, in which CR LF is one (CommonMark 2.1)
+abbrev pub content_codes : List ℕ → List ℕ
+content_codes [] = []
+content_codes (b ∷ bs) = if b == 13 then after_return_code bs (content_codes bs) else b ∷ content_codes bs
+
+-- the code of an ending, if there is one
+abbrev pub ending_code : Option LineEnding → List ℕ
+ending_code None = []
+ending_code (Some ending) = line_ending_code ending ∷ []
+
+-- the codes of a line of a block, with its ending
+abbrev pub line_codes : BlockLine → List ℕ
+line_codes line = line.codes ++ ending_code line.ending
+
+-- the content of the lines of a block (CommonMark 4.8)
+abbrev pub content_of : List BlockLine → List ℕ
+content_of block_lines = flat_map line_codes block_lines
+
+-- the bytes of a line with its ending: a column that is left of a tab is a space
+abbrev pub line_text : BlockLine → List ℕ
+line_text line = map code_byte line.codes ++ ending_text line.ending
+
+-- the bytes of lines, without the last ending
+abbrev pub content_text : List BlockLine → List ℕ
+content_text ls = flat_map line_text (own_lines ls)
+
+-- what was read of a content, and the rest of it
+pub record Part : Type 0 where
+  pub text : List ℕ
+  pub rest : List ℕ
+
+abbrev pub part : List ℕ → List ℕ → Part
+part text rest = record { text = text; rest = rest }
+
+-- what stands before the rest of a content
+abbrev pub before : List ℕ → List ℕ → List ℕ
+before content rest = take (length content - length rest) content
+
+-- a text that ends where the rest begins, if there is one
+abbrev pub up_to : List ℕ → Option (List ℕ) → Option Part
+up_to content None = None
+up_to content (Some rest) = Some (part (before content rest) rest)
+
+-- the same, where the rest begins with the code that closes the text
+abbrev pub closed_by : List ℕ → Option (List ℕ) → Option Part
+closed_by content None = None
+closed_by content (Some rest) = Some (part (before content rest) (drop 1 rest))
+
+-- whether this code is a backslash that may escape the next one, given whether the code before it was (CommonMark 2.4)
+abbrev pub may_escape : Bool → ℕ → Bool
+may_escape escaped code = (code == 92) && not escaped
+
+-- whether only spaces and tabs stand between the last line ending and the place after this code, given the same for the place before it
+abbrev pub at_line_start : Bool → ℕ → Bool
+at_line_start start code = is_eol code || (start && is_white code)

@@ -1,0 +1,12 @@
+-- Indents (CommonMark 2.2 and 4.4).
+use Rattle.std.specs.Prelude.{ℕ, Bool, not, ◌||◌, leb, min, drop}
+use Rattle.markdown_options.specs.declared.configuration.Constructs.{Constructs}
+use Rattle.definition_text.specs.Columns.{Rest, indent}
+
+-- a small indent: at most 3 columns, or any number where no code is read by its indent (CommonMark 4.4)
+abbrev pub small_indent : Constructs → Rest → Bool
+small_indent on rest = leb (indent rest) 3 || not on.code_indented
+
+-- the rest without its first columns of spaces and tabs, at most so many (CommonMark 2.2)
+abbrev pub outdented : ℕ → Rest → Rest
+outdented most rest = drop (min most (indent rest)) rest

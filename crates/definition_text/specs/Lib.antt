@@ -1,0 +1,9 @@
+pub mod BlockLines
+pub mod Lines
+pub mod Columns
+pub mod Indents
+pub mod Runs
+pub mod Encode
+pub mod Bytes
+pub mod Content
+pub mod InlineCode

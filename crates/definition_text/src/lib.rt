@@ -1,0 +1,6 @@
+//! What a text is: lines, columns, contents as codes, and the kinds of characters.
+#![tactic(auto)]
+
+pub mod beside;
+
+pub use beside::{Beside, Kind};

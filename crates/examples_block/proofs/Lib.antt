@@ -1,0 +1,3 @@
+mod SmallTables
+mod Containers
+mod Leaves

@@ -1,0 +1,2 @@
+//! Texts with blocks, checked by computation.
+#![tactic(auto)]

@@ -1,0 +1,13 @@
+-- What a page unfolds.
+use Rattle.std.specs.Char.{encode_utf8}
+use Rattle.std.specs.Str.{chars, is_utf8}
+use Rattle.std.specs.Str.Lossy.{utf8_valid_len, utf8_lossy}
+use Rattle.caseless.proofs.Computing.{caseless}
+use Rattle.definition_block.specs.HtmlNames.{raw_names, block_names}
+use Rattle.definition_page.specs.TagFilter.{filtered_names}
+use Rattle.definition_page.specs.Urls.{href_protocols, src_protocols}
+
+-- `unfolding pages` lets `refl` compute a page
+unfoldable pub pages : Unit {0}
+unfolding encode_utf8 chars is_utf8 utf8_valid_len utf8_lossy caseless raw_names block_names filtered_names href_protocols src_protocols
+pages = tt

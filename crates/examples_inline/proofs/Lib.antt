@@ -1,0 +1,17 @@
+mod Computing
+mod CharacterEscapes
+mod CharacterReferences
+mod CodeSpans
+mod Emphasis
+mod Links
+mod Images
+mod Autolinks
+mod RawHtml
+mod LineBreaks
+mod Readings
+mod Off
+mod Neighbours
+mod Mixed
+mod Documents
+mod ReferenceTexts
+mod UrlTexts

@@ -1,0 +1,87 @@
+-- The HTML of texts, by the definition and small tables.
+use Rattle.std.specs.Prelude.{ℕ, Bool, true, if◌then◌else◌, ◌==◌, ◌&&◌, ◌||◌, nat_le, List, [], ◌∷◌, Option, None, Some, codes}
+use Rattle.std.specs.Str.{bytes_eq}
+use Rattle.std.specs.Char.{is_ascii_punctuation}
+use Rattle.markdown_options.specs.declared.line_ending.LineEnding.TheVariants.{LineFeed}
+use Rattle.markdown_options.specs.declared.configuration.Options.{Options}
+use Rattle.markdown_options.specs.Defaults.{default_compile_options, default_options}
+use Rattle.definition_text.specs.declared.beside.Kind.{Kind}
+use Rattle.definition_text.specs.declared.beside.Kind.TheVariants.{Whitespace}
+use Rattle.definition_text.specs.BlockLines.{BlockLine, block_line}
+use Rattle.definition_text.specs.InlineCode.{inline_content}
+use Rattle.definition_inline.specs.Scan.{inlines}
+use Rattle.definition_page.specs.InlineHtml.{inline_html}
+use Rattle.definition_page.specs.Document.{TextTables, document, context_of, meaning_of}
+use Rattle.definition_page.specs.Html.{html}
+
+-- ---- tables
+
+pub record NamedText : Type 0 where
+  pub name : List ℕ
+  pub text : List ℕ
+
+abbrev pub names_text : List ℕ → List ℕ → NamedText
+names_text name text = record { name = name; text = text }
+
+abbrev pub some_names : List NamedText
+some_names =
+    names_text (codes "amp") (codes "&") ∷ names_text (codes "lt") (codes "<") ∷ names_text (codes "gt") (codes ">")
+    ∷ names_text (codes "quot") (codes "\"") ∷ names_text (codes "nbsp") (194 ∷ 160 ∷ []) ∷ names_text (codes "copy") (194 ∷ 169 ∷ [])
+    ∷ names_text (codes "AElig") (195 ∷ 134 ∷ []) ∷ names_text (codes "auml") (195 ∷ 164 ∷ []) ∷ names_text (codes "ouml") (195 ∷ 182 ∷ [])
+    ∷ names_text (codes "Dcaron") (196 ∷ 142 ∷ []) ∷ names_text (codes "frac34") (194 ∷ 190 ∷ [])
+    ∷ names_text (codes "HilbertSpace") (226 ∷ 132 ∷ 139 ∷ []) ∷ names_text (codes "DifferentialD") (226 ∷ 133 ∷ 134 ∷ [])
+    ∷ names_text (codes "ClockwiseContourIntegral") (226 ∷ 136 ∷ 178 ∷ []) ∷ names_text (codes "ngE") (226 ∷ 137 ∷ 167 ∷ 204 ∷ 184 ∷ [])
+    ∷ []
+
+abbrev pub find_text : List ℕ → List NamedText → Option (List ℕ)
+find_text name [] = None
+find_text name (n ∷ ns) = if bytes_eq name n.name then Some n.text else find_text name ns
+
+abbrev pub names : List ℕ → Option (List ℕ)
+names name = find_text name some_names
+
+-- ASCII punctuation, and some more: pound, section, left and right quotes, currencies, dashes and quotes, the ellipsis, euro
+abbrev pub is_punctuation : ℕ → Bool
+is_punctuation c =
+    is_ascii_punctuation c || ((c == 163) || ((c == 167) || ((c == 171) || ((c == 187) || ((nat_le 0x2010 c && nat_le c 0x2027) || (c == 0x20AC))))))
+
+abbrev pub tables : TextTables
+tables = record { names = names; is_punctuation = is_punctuation }
+
+-- ---- pages
+
+abbrev pub page_with : Options → List ℕ → List ℕ
+page_with options text = html tables text options
+
+-- the HTML of a text under default options
+abbrev pub page : List ℕ → List ℕ
+page text = page_with default_options text
+
+-- default options, but HTML is printed as it is
+abbrev pub dangerous : Options
+dangerous = record default_options { compile = record default_compile_options { allow_dangerous_html = true } }
+
+-- the same with the filter of tags
+abbrev pub filtered : Options
+filtered = record default_options {
+  compile = record default_compile_options {
+    allow_dangerous_html = true;
+    gfm_tagfilter = true;
+  };
+}
+
+-- ---- contents
+
+-- the HTML of the content of these lines, before a character of this kind in the text
+abbrev pub lines_html : Kind → List BlockLine → List ℕ
+lines_html after ls =
+    let d = document default_options tables [] in
+    inline_html (meaning_of d) (inlines (context_of d) (inline_content is_punctuation after ls))
+
+-- the content of one line between characters of these kinds in the text
+abbrev pub line_between : Kind → Kind → List ℕ → List ℕ
+line_between before after line = lines_html after (block_line line None before ∷ [])
+
+-- the content of two lines with a line feed between, the second after a character of this kind in the text
+abbrev pub two_lines : List ℕ → Kind → List ℕ → List ℕ
+two_lines first before second = lines_html Whitespace (block_line first (Some LineFeed) Whitespace ∷ block_line second None before ∷ [])

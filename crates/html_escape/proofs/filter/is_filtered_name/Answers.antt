@@ -1,0 +1,6 @@
+use Rattle.definition_page.specs.TagFilter.{filtered_names}
+use Rattle.html_escape.proofs.filter.is_filtered_name.Goals as goal
+
+pub returns : goal.returns
+unfolding filtered_names
+returns c = c.is_one_of.ensures

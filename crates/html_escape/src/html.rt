@@ -1,0 +1,24 @@
+//! Raw HTML: as it is, or as text (CommonMark 4.6 and 6.6).
+ghost use Rattle.std.specs.Prelude.{◌≡◌, ◌++◌, OnOk, string_bytes};
+ghost use Rattle.definition_page.specs.HtmlRaw.{raw_html};
+
+use crate::encode::push_encoded;
+use crate::filter::push_raw;
+use markdown_options::CompileOptions;
+use std::alloc::{AllocError, Allocator};
+
+/// Prints HTML: as it is, where that is allowed, and otherwise as text. In what is printed as it
+/// is, tags may be filtered (GFM 6.11).
+pub fn push_html<A: Allocator>(
+    out: &mut String<A>,
+    compile: &CompileOptions,
+    html: &str,
+) -> Result<(), AllocError>
+    ensures { OnOk result (string_bytes out.new ≡ string_bytes out.old ++ raw_html compile.now html.now) }
+{
+    if compile.allow_dangerous_html {
+        push_raw(out, html, compile.gfm_tagfilter)
+    } else {
+        push_encoded(out, html)
+    }
+}

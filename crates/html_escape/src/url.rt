@@ -1,0 +1,190 @@
+//! URLs as they are printed in attributes.
+//!
+//! A URL keeps letters, digits, `! # $ & ' ( ) * + , - . / : ; = ? @ _ ~` and escapes: `%` and two
+//! letters or digits. Each other byte becomes `%` and its two upper case hexadecimal digits. Then
+//! the URL is printed as text.
+ghost use Rattle.std.specs.Prelude.{◌≡◌, ◌++◌, [], ◌∷◌, ◌-◌, ◌<◌, ◌≤◌, IfNone, IfOk, IfErr, OnOk, MatchOption, drop, length, map, string_bytes, take};
+ghost use Rattle.std.specs.Char.{is_ascii_uppercase};
+ghost use Rattle.std.specs.List.{list_any, prefix_len};
+ghost use Rattle.std.specs.Option.{option_copied};
+ghost use Rattle.std.specs.Str.{IsCharBoundary, bytes_eq};
+ghost use Rattle.markdown_options.specs.Messages.{IsOutOfMemory};
+ghost use Rattle.definition_text.specs.Bytes.{lower};
+ghost use Rattle.definition_page.specs.Urls.{is_kept, is_url_byte, ends_escape, sanitized, sanitized_with, in_protocol, ends_protocol, protocol, permitted};
+ghost use Rattle.html_escape.specs.Tools.{url_byte};
+
+use markdown_options::Message;
+use percent_encoding::percent_encode_byte;
+use std::alloc::{AllocError, Allocator};
+
+/// A URL as it is printed, whatever its protocol.
+pub fn sanitize<A: Allocator>(alloc: A, value: &str) -> Result<String<A>, Message>
+    ensures text { IfOk result (λ text. string_bytes text ≡ sanitized value.now) }
+    ensures memory { IfErr result IsOutOfMemory }
+{
+    let mut out = String::with_capacity(alloc, value.len())?;
+    push_sanitized(&mut out, value)?;
+    Ok(out)
+}
+
+/// A URL as it is printed, where its protocol is one of these, which are in lower case, or it has
+/// none; otherwise the empty text.
+pub fn sanitize_with_protocols<A: Allocator>(
+    alloc: A,
+    value: &str,
+    protocols: &[&str],
+) -> Result<String<A>, Message>
+    ensures text { IfOk result (λ text. string_bytes text ≡ sanitized_with (map (λ p. p.now) protocols.now) value.now) }
+    ensures memory { IfErr result IsOutOfMemory }
+{
+    let mut out = String::with_capacity(alloc, value.len())?;
+    push_sanitized_with_protocols(&mut out, value, protocols)?;
+    Ok(out)
+}
+
+/// Prints a URL whose protocol is one of these, which are in lower case, or that has none; of any
+/// other URL nothing is printed.
+pub fn push_sanitized_with_protocols<A: Allocator>(
+    out: &mut String<A>,
+    url: &str,
+    protocols: &[&str],
+) -> Result<(), AllocError>
+    ensures { OnOk result (string_bytes out.new ≡ string_bytes out.old ++ sanitized_with (map (λ p. p.now) protocols.now) url.now) }
+{
+    let start = out.len();
+    push_sanitized(out, url)?;
+    if !is_permitted(protocols, &out.as_bytes()[start..]) {
+        out.truncate(start);
+    }
+    Ok(())
+}
+
+/// Whether a URL has no protocol, or one of these, which are in lower case.
+pub fn is_permitted(protocols: &[&str], url: &[u8]) -> bool
+    ensures { result ≡ permitted (map (λ p. p.now) protocols.now) url.now }
+{
+    match protocol(url) {
+        None => true,
+        Some(name) => is_one_of(protocols, name),
+    }
+}
+
+/// What stands before the first `:` of a URL, if no `?`, `#` or `/` stands before it.
+fn protocol(url: &[u8]) -> Option<&[u8]>
+    ensures { option_copied result ≡ protocol url.now }
+{
+    let end = protocol_len(url);
+    if end < url.len() && url[end] == b':' {
+        Some(&url[..end])
+    } else {
+        None
+    }
+}
+
+/// How many bytes stand before the first `:`, `?`, `#` or `/`.
+fn protocol_len(url: &[u8]) -> usize
+    ensures { result ≡ prefix_len in_protocol url.now }
+{
+    url.iter().take_while(|b| !ends_protocol(**b)).count()
+}
+
+fn ends_protocol(byte: u8) -> bool
+    ensures { result ≡ ends_protocol byte }
+{
+    matches!(byte, b':' | b'?' | b'#' | b'/')
+}
+
+/// Whether a name is in lower case one of these.
+fn is_one_of(protocols: &[&str], name: &[u8]) -> bool
+    ensures { result ≡ list_any (λ p. bytes_eq p.now (lower name.now)) protocols.now }
+{
+    protocols.iter().any(|p| is_lower(p.as_bytes(), name))
+}
+
+/// Whether a name is in lower case this protocol, which then has no letter in upper case.
+fn is_lower(protocol: &[u8], name: &[u8]) -> bool
+    ensures { result ≡ bytes_eq protocol.now (lower name.now) }
+{
+    protocol.eq_ignore_ascii_case(name) && !has_uppercase(protocol)
+}
+
+fn has_uppercase(bytes: &[u8]) -> bool
+    ensures { result ≡ list_any is_ascii_uppercase bytes.now }
+{
+    bytes.iter().any(|b| b.is_ascii_uppercase())
+}
+
+/// Prints a URL, whatever its protocol.
+pub fn push_sanitized<A: Allocator>(out: &mut String<A>, url: &str) -> Result<(), AllocError>
+    ensures { OnOk result (string_bytes out.new ≡ string_bytes out.old ++ sanitized url.now) }
+{
+    let bytes = url.as_bytes();
+    let mut start = 0;
+    for (i, b) in bytes.iter().enumerate() {
+        if let Some(printed) = replacement(*b, &bytes[i + 1..]) {
+            push_slice(out, url, start, i)?;
+            out.push_str(printed)?;
+            start = i + 1;
+        }
+    }
+    push_slice(out, url, start, bytes.len())
+}
+
+/// Prints a part of a text, which may be cut at both ends unless the part is empty.
+fn push_slice<A: Allocator>(
+    out: &mut String<A>,
+    text: &str,
+    start: usize,
+    end: usize,
+) -> Result<(), AllocError>
+    requires order { start ≤ end }
+    requires start { start < end → IsCharBoundary text.now start }
+    requires end { start < end → IsCharBoundary text.now end }
+    ensures { OnOk result (string_bytes out.new ≡ string_bytes out.old ++ take (end - start) (drop start text.now)) }
+{
+    if start == end {
+        return Ok(());
+    }
+    out.push_str(&text[start..end])
+}
+
+/// What is printed for a byte of a URL before others, if it isn't the byte itself.
+fn replacement(byte: u8, after: &[u8]) -> Option<&'static str>
+    ensures printed { MatchOption result (url_byte byte after.now ≡ byte ∷ []) (λ printed. url_byte byte after.now ≡ printed.now) }
+    ensures ascii { IfNone result (byte < 128) }
+{
+    if byte == b'&' {
+        Some("&amp;")
+    } else if is_kept(byte, after) {
+        None
+    } else {
+        Some(percent_encode_byte(byte))
+    }
+}
+
+/// Whether a byte before others stays.
+fn is_kept(byte: u8, after: &[u8]) -> bool
+    ensures { result ≡ is_kept byte after.now }
+{
+    is_url_byte(byte) || (byte == b'%' && ends_escape(after))
+}
+
+fn is_url_byte(byte: u8) -> bool
+    ensures { result ≡ is_url_byte byte }
+{
+    byte.is_ascii_alphanumeric()
+        || matches!(
+            byte,
+            b'!' | b'#'..=b'$' | b'&'..=b'/' | b':'..=b';' | b'=' | b'?'..=b'@' | b'_' | b'~'
+        )
+}
+
+/// Whether the `%` before these bytes begins an escape.
+fn ends_escape(after: &[u8]) -> bool
+    ensures { result ≡ ends_escape after.now }
+{
+    match after {
+        [first, second, ..] => first.is_ascii_alphanumeric() && second.is_ascii_alphanumeric(),
+        _ => false,
+    }
+}

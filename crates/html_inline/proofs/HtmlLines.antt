@@ -1,0 +1,204 @@
+-- Raw HTML, line by line.
+use Rattle.std.proofs.Common.{◌≡◌, ◌||◌, ℕ, zero, suc, ◌+◌, ◌<◌, ◌≤◌, List, [], ◌∷◌, ◌++◌, Bool, true, false, cond, eqb, refl, sym, ap, ◌∙◌, get_or, length, drop, take, arith, inl, inr, append_assoc}
+use Rattle.std.specs.List.{flat_map, prefix_len}
+use Rattle.std.proofs.lemmas.Bool.{cases_Bool, cond-false, cond-true, eqb-true, ne_eqb, not_from_false, or_cases, true≢false}
+use Rattle.std.proofs.lemmas.List.{append-nil, length-drop}
+use Rattle.markdown_options.specs.declared.configuration.CompileOptions.{CompileOptions}
+use Rattle.markdown_options.specs.declared.line_ending.LineEnding.{LineEnding}
+use Rattle.markdown_options.specs.declared.line_ending.LineEnding.TheVariants.{CarriageReturnLineFeed, CarriageReturn, LineFeed}
+use Rattle.markdown_options.specs.LineEndings.{ending_bytes}
+use Rattle.definition_text.specs.Columns.{bare, bytes_of, indent, is_byte, is_white}
+use Rattle.definition_text.specs.Content.{content_codes, is_eol, line_ending_code}
+use Rattle.definition_text.specs.Encode.{encode, plain}
+use Rattle.definition_page.specs.HtmlRaw.{raw_html}
+use Rattle.definition_page.specs.InlineHtml.{HtmlLine, html_text_line, in_first_line, html_line_bytes, html_lines, html_lines_bytes, later_line_bytes}
+use Rattle.definition_inline.specs.Strings.{begins_with_eol, eol_bytes}
+use Rattle.definition_page.specs.TagFilter.{tags_filtered}
+use Rattle.html_inline.specs.CodeBytes.{is_in_line}
+use Rattle.html_inline.specs.HtmlBytes.{PrintsEnding, ends, goes_on, first_bytes}
+use Rattle.html_inline.proofs.InLine.{in_line_eol, line_codes, line_left}
+use Rattle.html_inline.proofs.KeptText.{AreBytes}
+
+pub ending_is_eol : (ending : LineEnding) → is_eol (line_ending_code ending) ≡ true
+ending_is_eol LineFeed = refl
+ending_is_eol CarriageReturn = refl
+ending_is_eol CarriageReturnLineFeed = refl
+
+pub ending_text : (ending : LineEnding) → eol_bytes (line_ending_code ending) ≡ ending_bytes ending
+ending_text LineFeed = refl
+ending_text CarriageReturn = refl
+ending_text CarriageReturnLineFeed = refl
+
+-- bytes are codes of themselves
+own_bytes : (xs : List ℕ) → AreBytes xs → bytes_of xs ≡ xs
+own_bytes [] bytes = refl
+own_bytes (x ∷ xs) bytes =
+    let byte : x < 256 = bytes zero in
+    cond-true (is_byte x) _ _ (not_from_false (eqb x 256) (ne_eqb x 256 (λ e. omega arith))) ∙ ap (λ s. x ∷ s) (own_bytes xs (λ k. bytes (suc k)))
+
+-- ---- the first line
+
+-- what the lines are where the first n bytes stand before an ending
+lines_front : (n : ℕ) (xs : List ℕ) (code : ℕ) (rest : List ℕ) → AreBytes xs → n ≤ prefix_len is_in_line xs → is_eol code ≡ true
+    → html_lines (take n xs ++ code ∷ rest) ≡ html_text_line (take n xs) (code ∷ []) ∷ html_lines rest
+lines_front zero xs code rest bytes le eol = cond-true (is_eol code) _ _ eol
+lines_front (suc n) [] code rest bytes le eol = cond-true (is_eol code) _ _ eol
+lines_front (suc n) (x ∷ xs) code rest bytes le eol = elim (cases_Bool (is_in_line x)) [
+  | inl h ↦
+      let more : prefix_len is_in_line (x ∷ xs) ≡ 1 + prefix_len is_in_line xs = cond-true (is_in_line x) _ _ h in
+      cond-false (is_eol x) _ _ (in_line_eol x (bytes zero) h)
+      ∙ ap (in_first_line x) (lines_front n xs code rest (λ k. bytes (suc k)) (omega arith) eol)
+  | inr h ↦ let none : prefix_len is_in_line (x ∷ xs) ≡ 0 = cond-false (is_in_line x) _ _ h in absurd (omega arith)
+]
+
+-- one line without an ending, or none
+alone : List ℕ → List HtmlLine
+alone [] = []
+alone (x ∷ xs) = html_text_line (x ∷ xs) [] ∷ []
+
+lines_alone : (n : ℕ) (xs : List ℕ) → AreBytes xs → n ≤ prefix_len is_in_line xs → html_lines (take n xs) ≡ alone (take n xs)
+unfolding alone
+lines_alone zero xs bytes le = refl
+lines_alone (suc n) [] bytes le = refl
+lines_alone (suc n) (x ∷ xs) bytes le = elim (cases_Bool (is_in_line x)) [
+  | inl h ↦
+      let more : prefix_len is_in_line (x ∷ xs) ≡ 1 + prefix_len is_in_line xs = cond-true (is_in_line x) _ _ h in
+      cond-false (is_eol x) _ _ (in_line_eol x (bytes zero) h)
+      ∙ ap (in_first_line x) (lines_alone n xs (λ k. bytes (suc k)) (omega arith))
+      ∙ joined x (take n xs)
+  | inr h ↦ let none : prefix_len is_in_line (x ∷ xs) ≡ 0 = cond-false (is_in_line x) _ _ h in absurd (omega arith)
+]
+  where
+    joined : (x : ℕ) (ys : List ℕ) → in_first_line x (alone ys) ≡ html_text_line (x ∷ ys) [] ∷ []
+    joined x [] = refl
+    joined x (y ∷ ys) = refl
+
+raw_nothing : (options : CompileOptions) → raw_html options [] ≡ []
+raw_nothing options = by_case options.allow_dangerous_html options.gfm_tagfilter
+  where
+    by_case : (t u : Bool) → cond t (plain (cond u (tags_filtered []) [])) (encode []) ≡ []
+    by_case true true = refl
+    by_case true false = refl
+    by_case false u = refl
+
+alone_bytes : (options : CompileOptions) (ys : List ℕ) → bytes_of ys ≡ ys → first_bytes options (alone ys) ≡ raw_html options ys
+unfolding alone
+alone_bytes options [] e = sym (raw_nothing options)
+alone_bytes options (y ∷ ys) e = append-nil (raw_html options (bytes_of (y ∷ ys))) ∙ ap (raw_html options) e
+
+alone_left : (ys : List ℕ) → drop 1 (alone ys) ≡ []
+unfolding alone
+alone_left [] = refl
+alone_left (y ∷ ys) = refl
+
+bytes_more : (x : ℕ) (xs : List ℕ) → x < 256 → AreBytes xs → AreBytes (x ∷ xs)
+bytes_more x xs byte bytes = λ k. at k
+  where
+    at : (k : ℕ) → get_or (x ∷ xs) k 0 < 256
+    at zero = byte
+    at (suc k) = bytes k
+
+taken_bytes : (n : ℕ) (xs : List ℕ) → AreBytes xs → AreBytes (take n xs)
+taken_bytes zero xs bytes = λ k. omega arith
+taken_bytes (suc n) [] bytes = bytes
+taken_bytes (suc n) (x ∷ xs) bytes = bytes_more x (take n xs) (bytes zero) (taken_bytes n xs (λ k. bytes (suc k)))
+
+-- what is printed for the first line of a text, and the lines that are left
+pub line_printed : (options : CompileOptions) (xs rest before middle after : List ℕ) (n : ℕ) → AreBytes xs → n ≡ prefix_len is_in_line xs
+    → middle ≡ before ++ raw_html options (take n xs) → PrintsEnding (drop n xs) rest middle after
+    → (after ≡ before ++ first_bytes options (html_lines (content_codes xs))) × (html_lines (content_codes rest) ≡ drop 1 (html_lines (content_codes xs)))
+line_printed options xs rest before middle after n bytes size front (ends e printed) =
+    let line = take n xs in
+    let own = own_bytes line (taken_bytes n xs bytes) in
+    let code = line_ending_code e.ending in
+    let codes : content_codes xs ≡ line ++ code ∷ content_codes rest = line_codes n xs (omega arith) ∙ ap (λ c. line ++ c) e.codes in
+    let lines : html_lines (content_codes xs) ≡ html_text_line line (code ∷ []) ∷ html_lines (content_codes rest) =
+    ap html_lines codes ∙ lines_front n xs code (content_codes rest) bytes (omega arith) (ending_is_eol e.ending) in (
+      printed ∙ ap (λ s. s ++ ending_bytes e.ending) front ∙ append_assoc before (raw_html options line) (ending_bytes e.ending)
+          ∙ ap (λ s. before ++ (raw_html options s ++ ending_bytes e.ending)) (sym own)
+          ∙ ap (λ s. before ++ (raw_html options (bytes_of line) ++ s)) (sym (append-nil (eol_bytes code) ∙ ending_text e.ending))
+          ∙ ap (λ ls. before ++ first_bytes options ls) (sym lines),
+      ap (drop 1) (sym lines),
+    )
+line_printed options xs rest before middle after n bytes size front (goes_on none same kept) =
+    let line = take n xs in
+    let own = own_bytes line (taken_bytes n xs bytes) in
+    let left : drop n xs ≡ [] = ap (λ k. drop k xs) size ∙ line_left xs (ap (λ k. begins_with_eol (content_codes (drop k xs))) (sym size) ∙ none) in
+    let codes : content_codes xs ≡ line = line_codes n xs (omega arith) ∙ ap (λ c. line ++ content_codes c) left ∙ append-nil line in
+    let lines : html_lines (content_codes xs) ≡ alone line = ap html_lines codes ∙ lines_alone n xs bytes (omega arith) in (
+      kept ∙ front ∙ ap (λ s. before ++ s) (sym (alone_bytes options line own)) ∙ ap (λ ls. before ++ first_bytes options ls) (sym lines),
+      ap (λ c. html_lines (content_codes c)) (same ∙ left) ∙ sym (ap (drop 1) lines ∙ alone_left line),
+    )
+
+-- the lines that are left are fewer bytes
+pub line_shorter : (xs rest before after : List ℕ) (n : ℕ) → n ≡ prefix_len is_in_line xs → PrintsEnding (drop n xs) rest before after
+    → (length rest ≤ length xs) × (0 < length xs → length rest < length xs)
+line_shorter xs rest before after n size (ends e printed) =
+    (omega (arith, e.shorter, length-drop n xs), λ some. omega (arith, e.shorter, length-drop n xs))
+line_shorter xs rest before after n size (goes_on none same kept) =
+    let left : drop n xs ≡ [] = ap (λ k. drop k xs) size ∙ line_left xs (ap (λ k. begins_with_eol (content_codes (drop k xs))) (sym size) ∙ none) in
+    let nothing : length rest ≡ 0 = ap length (same ∙ left) in
+    (omega (arith, nothing), λ some. omega (arith, nothing))
+
+-- ---- later lines
+
+abbrev later : CompileOptions → List HtmlLine → List ℕ
+later options ls = flat_map (later_line_bytes options) ls
+
+pub lines_printed : (options : CompileOptions) (ls : List HtmlLine) → html_lines_bytes options ls ≡ first_bytes options ls ++ later options (drop 1 ls)
+lines_printed options [] = refl
+lines_printed options (l ∷ others) = refl
+
+white_bare : (c : ℕ) (cs : List ℕ) → is_white c ≡ true → bare (c ∷ cs) ≡ bare cs
+white_bare c cs h =
+    let e : indent (c ∷ cs) ≡ 1 + indent cs = cond-true (is_white c) _ _ h in
+    let f : 1 + indent cs ≡ suc (indent cs) = omega arith in
+    ap (λ n. drop n (c ∷ cs)) (e ∙ f)
+
+other_bare : (c : ℕ) (cs : List ℕ) → is_white c ≡ false → bare (c ∷ cs) ≡ c ∷ cs
+other_bare c cs h = ap (λ n. drop n (c ∷ cs)) (cond-false (is_white c) (1 + indent cs) 0 h)
+
+white_later : (options : CompileOptions) (c : ℕ) (ls : List HtmlLine) → is_white c ≡ true → later options (in_first_line c ls) ≡ later options ls
+white_later options c [] h =
+    append-nil _ ∙ append-nil _ ∙ ap (λ s. raw_html options (bytes_of s)) (white_bare c [] h) ∙ raw_nothing options
+white_later options c (l ∷ others) h = ap (λ s. html_line_bytes options s l.ending ++ later options others) (white_bare c l.line h)
+
+other_later : (options : CompileOptions) (c : ℕ) (ls : List HtmlLine) → is_white c ≡ false
+    → later options (in_first_line c ls) ≡ first_bytes options (in_first_line c ls) ++ later options (drop 1 (in_first_line c ls))
+other_later options c [] h = ap (λ s. html_line_bytes options s [] ++ []) (other_bare c [] h)
+other_later options c (l ∷ others) h = ap (λ s. html_line_bytes options s l.ending ++ later options others) (other_bare c l.line h)
+
+white_eol : (c : ℕ) → is_eol c ≡ true → is_white c ≡ false
+white_eol c h = elim (or_cases (eqb c 10 || eqb c 13) (eqb c 257) h) [
+  | inl e ↦ elim (or_cases (eqb c 10) (eqb c 13) e) [
+    | inl f ↦ ap is_white (eqb-true c 10 f)
+    | inr f ↦ ap is_white (eqb-true c 13 f)
+  ]
+  | inr e ↦ ap is_white (eqb-true c 257 e)
+]
+
+-- later lines, the first of which is printed without the spaces and tabs at its start
+pub later_printed : (options : CompileOptions) (cs : List ℕ)
+    → later options (html_lines cs) ≡ first_bytes options (html_lines (bare cs)) ++ later options (drop 1 (html_lines (bare cs)))
+later_printed options [] = refl
+later_printed options (c ∷ cs) = elim (cases_Bool (is_white c)) [
+  | inl h ↦
+      ap (later options) (cond-false (is_eol c) _ _ (eol_white c h)) ∙ white_later options c (html_lines cs) h ∙ later_printed options cs
+      ∙ ap (λ s. first_bytes options (html_lines s) ++ later options (drop 1 (html_lines s))) (sym (white_bare c cs h))
+  | inr h ↦
+      elim (cases_Bool (is_eol c)) [
+        | inl e ↦
+            ap (later options) (cond-true (is_eol c) _ _ e)
+            ∙ ap (λ ls. first_bytes options ls ++ later options (drop 1 ls)) (sym (cond-true (is_eol c) (html_text_line [] (c ∷ []) ∷ html_lines cs) (in_first_line c (html_lines cs)) e))
+        | inr e ↦
+            ap (later options) (cond-false (is_eol c) _ _ e) ∙ other_later options c (html_lines cs) h
+            ∙ ap (λ ls. first_bytes options ls ++ later options (drop 1 ls)) (sym (cond-false (is_eol c) (html_text_line [] (c ∷ []) ∷ html_lines cs) (in_first_line c (html_lines cs)) e))
+      ]
+      ∙ ap (λ s. first_bytes options (html_lines s) ++ later options (drop 1 (html_lines s))) (sym (other_bare c cs h))
+]
+  where
+    eol_white : (c : ℕ) → is_white c ≡ true → is_eol c ≡ false
+    eol_white c h = elim (cases_Bool (is_eol c)) [
+      | inl e ↦ absurd (true≢false (sym h ∙ white_eol c e))
+      | inr e ↦ e
+    ]

@@ -1,0 +1,24 @@
+use Rattle.std.proofs.Common.{◌++◌, string_bytes, sym, ap, ◌∙◌, append_assoc, drop, rules}
+use Rattle.std.specs.List.{flat_map}
+use Rattle.definition_text.specs.Content.{content_codes}
+use Rattle.definition_page.specs.InlineHtml.{html_lines, later_line_bytes}
+use Rattle.html_inline.specs.HtmlBytes.{first_bytes}
+use Rattle.html_inline.proofs.HtmlLines.{later_printed}
+use Rattle.html_inline.proofs.html_text.push_html_text.Goals as goal
+
+pub loop-rest-preserved : goal.loop-rest-preserved
+loop-rest-preserved g c =
+    let options = c.args.compile.now in
+    let out = string_bytes c.loop-rest.out in
+    let shown = c.without_indent.result.now in
+    let rest = c.in_ok-rest-2.rest.now in
+    let front = first_bytes options (html_lines (content_codes shown)) in
+    let after = flat_map (later_line_bytes options) (html_lines (content_codes rest)) in (
+      search rules,
+      ap (λ s. s ++ after) c.in_ok-rest-2.ensures.printed
+          ∙ append_assoc out front after
+          ∙ ap (λ ls. out ++ (front ++ flat_map (later_line_bytes options) ls)) c.in_ok-rest-2.ensures.rest
+          ∙ ap (λ cs. out ++ (first_bytes options (html_lines cs) ++ flat_map (later_line_bytes options) (drop 1 (html_lines cs)))) c.without_indent.ensures.codes
+          ∙ ap (λ s. out ++ s) (sym (later_printed options (content_codes c.loop-rest.rest.now)))
+          ∙ c.loop-rest.invariant.1,
+    )

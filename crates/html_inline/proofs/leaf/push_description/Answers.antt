@@ -1,0 +1,19 @@
+use Rattle.std.proofs.Common.{◌≡◌, ◌++◌, List, ℕ, string_bytes, sym, ap, ◌∙◌, subst}
+use Rattle.std.specs.Prelude.{OnOk}
+use Rattle.std.specs.List.{flat_map}
+use Rattle.definition_page.specs.InlineHtml.{part_description}
+use Rattle.inline_leaves.specs.Leaves.{parts_of}
+use Rattle.html_inline.proofs.LeafTexts.{data_described, escapes_described}
+use Rattle.html_inline.proofs.leaf.push_description.Goals as goal
+
+pub returns-in-Escape : goal.returns-in-Escape
+returns-in-Escape g c =
+    let options = c.args.compile.now in
+    subst (λ (s : List ℕ). OnOk c.push_encoded.result (string_bytes c.push_encoded.new.out ≡ string_bytes c.args.out.now ++ s))
+    (sym (ap (λ p. flat_map (part_description options) (parts_of p)) c.in-Escape.is ∙ escapes_described options c.in-Escape.text.now)) c.push_encoded.ensures
+
+pub returns-in-Backticks : goal.returns-in-Backticks
+returns-in-Backticks g c =
+    let options = c.args.compile.now in
+    subst (λ (s : List ℕ). OnOk c.push_encoded-in-Backticks.result (string_bytes c.push_encoded-in-Backticks.new.out ≡ string_bytes c.args.out.now ++ s))
+    (sym (ap (λ p. flat_map (part_description options) (parts_of p)) c.in-Backticks.is ∙ data_described options c.in-Backticks.text.now)) c.push_encoded-in-Backticks.ensures

@@ -1,0 +1,17 @@
+use Rattle.std.proofs.Common.{◌≡◌, ℕ, List, Option, [], string_bytes, take}
+use Rattle.std.specs.List.{fold}
+use Rattle.definition_inline.specs.Inline as inline
+use Rattle.definition_page.specs.Meaning.{inline_meaning}
+use Rattle.inline_rows.specs.View.{rows_view}
+use Rattle.html_inline.specs.Opens.{place_linked, printed_of}
+use Rattle.html_inline.specs.Printed.{printed_at, row_printed}
+use Rattle.html_inline.proofs.rows.push_rows.Given as goal
+
+-- the rows so far are printed
+abbrev pub invariant-loop-place : goal.invariant-loop-place
+invariant-loop-place g l =
+    (definition : List ℕ → Option inline.Linked) →
+    let meaning = inline_meaning l.printing.on.now l.printing.compile.now (g.T.Tables.reference_of l.printing.tables.now) definition in
+    let at = place_linked l.printing.definitions.now in
+    printed_of meaning at l.rows (string_bytes l.out) l.scratch.stack.items
+    ≡ fold (row_printed meaning) (printed_at (string_bytes l.fn.out) []) (rows_view at (take l.place l.rows))

@@ -1,0 +1,46 @@
+-- What is open, as the definition has it.
+use Rattle.std.specs.Prelude.{ℕ, Bool, true, false, List, [], None, codes, map, reverse, slice_index_or}
+use Rattle.definition_inline.specs.Inline as inline
+use Rattle.definition_page.specs.InlineHtml.{InlineMeaning}
+use Rattle.inline_runs.specs.View.{span_view}
+use Rattle.inline_rows.specs.declared.row.Linked.{Linked}
+use Rattle.inline_rows.specs.declared.row.InlineRow.{InlineRow}
+use Rattle.inline_rows.specs.declared.row.InlineRow.TheVariants.{Text, Leaf, EnterSpan, EnterLink, EnterImage, Exit}
+use Rattle.inline_rows.specs.View.{linked_view, target_linked}
+use Rattle.html_inline.specs.declared.stack.OpenPart.{OpenPart}
+use Rattle.html_inline.specs.declared.stack.OpenPart.TheVariants as open_part
+use Rattle.html_inline.specs.Printed.{Opened, opened, Printed, printed_at, span_end, image_end}
+
+abbrev pub nowhere : inline.Linked
+nowhere = inline.linked [] None
+
+-- where the definition at a place leads
+abbrev pub place_linked : List Linked → ℕ → inline.Linked
+place_linked definitions place = slice_index_or (map linked_view definitions) place nowhere
+
+-- where the image leads that a row starts
+abbrev pub image_linked : (ℕ → inline.Linked) → InlineRow → inline.Linked
+image_linked at (Text text) = nowhere
+image_linked at (Leaf part) = nowhere
+image_linked at (EnterSpan span) = nowhere
+image_linked at (EnterLink target) = nowhere
+image_linked at (EnterImage target) = target_linked at target
+image_linked at Exit = nowhere
+
+module _ (meaning : InlineMeaning) (at : ℕ → inline.Linked) (rows : List InlineRow) where
+  abbrev pub opened_view : OpenPart → Opened
+  opened_view (open_part.Span span) = opened false (span_end (span_view span))
+  opened_view open_part.Link = opened false (codes "</a>")
+  opened_view (open_part.Image place) = opened true (image_end meaning (image_linked at (slice_index_or rows place Exit)))
+  opened_view open_part.Silent = opened true []
+
+  -- what was printed, and what is open, the innermost last
+  abbrev pub printed_of : List ℕ → List OpenPart → Printed
+  printed_of out stack = printed_at out (map opened_view (reverse stack))
+
+-- whether the innermost one stands in the description of an image, or is an image
+abbrev pub is_silent : OpenPart → Bool
+is_silent (open_part.Span span) = false
+is_silent open_part.Link = false
+is_silent (open_part.Image place) = true
+is_silent open_part.Silent = true

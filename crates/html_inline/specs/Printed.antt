@@ -1,0 +1,67 @@
+-- Inline structure, printed row by row.
+use Rattle.std.specs.Prelude.{ℕ, Bool, true, false, if◌then◌else◌, List, [], ◌∷◌, ◌++◌, codes}
+use Rattle.std.specs.List.{flat_map}
+use Rattle.definition_inline.specs.Inline.{Inline, Linked}
+use Rattle.definition_page.specs.InlineHtml.{InlineMeaning, url_of, title_attribute, link_tag, part_description, part_html}
+use Rattle.inline_rows.specs.InlineRows.{InlineRow, Part, EnterSpan, EnterLink, EnterImage, Leave}
+use Rattle.definition_inline.specs.Spans.{Span, IsEmphasis, IsStrong}
+
+-- what is open: what is printed where it ends, and whether it stands in the description of an image or is an image
+pub record Opened : Type 0 where
+  pub described : Bool
+  pub ending : List ℕ
+
+abbrev pub opened : Bool → List ℕ → Opened
+opened described ending = record { described = described; ending = ending }
+
+-- what was printed, and what is open, the innermost first
+pub record Printed : Type 0 where
+  pub out : List ℕ
+  pub stack : List Opened
+
+abbrev pub printed_at : List ℕ → List Opened → Printed
+printed_at out stack = record { out = out; stack = stack }
+
+-- whether only a description is printed
+abbrev pub is_described : List Opened → Bool
+is_described [] = false
+is_described (o ∷ others) = o.described
+
+abbrev pub span_start : Span → List ℕ
+span_start IsEmphasis = codes "<em>"
+span_start IsStrong = codes "<strong>"
+
+abbrev pub span_end : Span → List ℕ
+span_end IsEmphasis = codes "</em>"
+span_end IsStrong = codes "</strong>"
+
+-- the tag of an image before its description, and after it (CommonMark 6.4)
+abbrev pub image_start : InlineMeaning → Linked → List ℕ
+image_start meaning target = codes "<img src=\"" ++ meaning.image_url (url_of meaning target) ++ codes "\" alt=\""
+
+abbrev pub image_end : InlineMeaning → Linked → List ℕ
+image_end meaning target = codes "\"" ++ title_attribute meaning target.title ++ codes " />"
+
+-- the HTML of a part, or what it says in a description
+abbrev pub part_printed : InlineMeaning → Bool → Inline → List ℕ
+part_printed meaning described i = if described then part_description meaning.compile i else part_html meaning i
+
+abbrev pub parts_printed : InlineMeaning → Bool → List Inline → List ℕ
+parts_printed meaning described parts = flat_map (part_printed meaning described) parts
+
+-- a part starts that holds others: in a description nothing is printed for it
+abbrev pub enter : List ℕ → Opened → Printed → Printed
+enter start o p =
+    if is_described p.stack then printed_at p.out (opened true [] ∷ p.stack) else printed_at (p.out ++ start) (o ∷ p.stack)
+
+-- the innermost one ends
+abbrev pub leave : List ℕ → List Opened → Printed
+leave out [] = printed_at out []
+leave out (o ∷ others) = printed_at (out ++ o.ending) others
+
+abbrev pub row_printed : InlineMeaning → Printed → InlineRow → Printed
+row_printed meaning p (Part i) = printed_at (p.out ++ part_printed meaning (is_described p.stack) i) p.stack
+row_printed meaning p (EnterSpan span) = enter (span_start span) (opened false (span_end span)) p
+row_printed meaning p (EnterLink target) = enter (link_tag meaning target) (opened false (codes "</a>")) p
+row_printed meaning p (EnterImage target) = enter (image_start meaning target) (opened true (image_end meaning target)) p
+row_printed meaning p Leave = leave p.out p.stack

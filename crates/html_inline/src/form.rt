@@ -1,0 +1,32 @@
+//! How a text is printed.
+ghost use Rattle.std.specs.Prelude.{◌≡◌, ◌++◌, OnOk, string_bytes};
+ghost use Rattle.html_inline.specs.Forms.{formed};
+
+use std::alloc::{AllocError, Allocator};
+use html_escape::{push_encoded, push_raw};
+
+/// How a text is printed.
+#[derive(Clone, Copy)]
+pub enum Form {
+    /// As it is.
+    Bytes,
+    /// With U+FFFD for NUL.
+    Plain,
+    /// With U+FFFD for NUL, and with references for `"`, `&`, `<` and `>`.
+    Encoded,
+}
+
+/// Prints a text.
+pub(crate) fn push_formed<A: Allocator>(
+    out: &mut String<A>,
+    form: Form,
+    text: &str,
+) -> Result<(), AllocError>
+    ensures { OnOk result (string_bytes out.new ≡ string_bytes out.old ++ formed form text.now) }
+{
+    match form {
+        Form::Bytes => out.push_str(text),
+        Form::Plain => push_raw(out, text, false),
+        Form::Encoded => push_encoded(out, text),
+    }
+}

@@ -1,0 +1,67 @@
+//! Raw HTML in a text (CommonMark 6.6).
+//!
+//! Spaces and tabs at the start of its second line and of later ones aren't printed.
+ghost use Rattle.std.specs.Prelude.{◌≡◌, ◌++◌, ◌<◌, ◌≤◌, IfOk, OnOk, drop, length, string_bytes};
+ghost use Rattle.definition_text.specs.Content.{content_codes};
+ghost use Rattle.definition_text.specs.Columns.{bare};
+ghost use Rattle.definition_page.specs.InlineHtml.{html_lines, html_text_bytes};
+ghost use Rattle.html_inline.specs.HtmlBytes.{first_bytes, PrintsEnding};
+
+use crate::code_text::line_size;
+use inline_leaves::cut::{cut_after, text_before};
+use inline_leaves::space::{ending_at, white_size};
+use markdown_options::CompileOptions;
+use std::alloc::{AllocError, Allocator};
+use html_escape::push_html;
+
+/// Prints raw HTML in a text (CommonMark 6.6).
+pub(crate) fn push_html_text<A: Allocator>(
+    out: &mut String<A>,
+    compile: &CompileOptions,
+    html: &str,
+) -> Result<(), AllocError>
+    ensures { OnOk result (string_bytes out.new ≡ string_bytes out.old ++ html_text_bytes compile.now (content_codes html.now)) }
+{
+    let mut rest = push_line(out, compile, html)?;
+    while !rest.is_empty() {
+        rest = push_line(out, compile, without_indent(rest))?;
+    }
+    Ok(())
+}
+
+/// A text without the spaces and tabs that it begins with.
+fn without_indent(text: &str) -> &str
+    ensures codes { content_codes result.now ≡ bare (content_codes text.now) }
+    ensures shorter { length result.now ≤ length text.now }
+{
+    let size = white_size(text.as_bytes());
+    &text[size..]
+}
+
+/// Prints the first line and its ending, and returns what follows.
+fn push_line<'a, A: Allocator>(
+    out: &mut String<A>,
+    compile: &CompileOptions,
+    html: &'a str,
+) -> Result<&'a str, AllocError>
+    ensures printed { OnOk result (string_bytes out.new ≡ string_bytes out.old ++ first_bytes compile.now (html_lines (content_codes html.now))) }
+    ensures rest { IfOk result (λ rest. html_lines (content_codes rest.now) ≡ drop 1 (html_lines (content_codes html.now))) }
+    ensures within { IfOk result (λ rest. length rest.now ≤ length html.now) }
+    ensures shorter { IfOk result (λ rest. 0 < length html.now → length rest.now < length html.now) }
+{
+    let size = line_size(html.as_bytes());
+    push_html(out, compile, text_before(html, size))?;
+    let rest = push_ending(out, &html[size..])?;
+    Ok(rest)
+}
+
+/// Prints the line ending that a text begins with, if it does, and returns what follows.
+fn push_ending<'a, A: Allocator>(out: &mut String<A>, text: &'a str) -> Result<&'a str, AllocError>
+    ensures { IfOk result (λ rest. PrintsEnding text.now rest.now (string_bytes out.old) (string_bytes out.new)) }
+{
+    let Some(found) = ending_at(text.as_bytes()) else {
+        return Ok(text);
+    };
+    out.push_str(found.ending.as_str())?;
+    Ok(cut_after(text, found.size))
+}

@@ -1,0 +1,127 @@
+//! The tags of links and images (CommonMark 6.3 and 6.4).
+ghost use Rattle.std.specs.Prelude.{◌≡◌, ◌++◌, ℕ, List, Option, OnOk, string_bytes};
+ghost use Rattle.definition_text.specs.Encode.{plain};
+ghost use Rattle.definition_inline.specs.Inline as inline;
+ghost use Rattle.definition_page.specs.InlineHtml.{link_tag, title_attribute, titled};
+ghost use Rattle.definition_page.specs.Meaning.{inline_meaning};
+ghost use Rattle.inline_rows.specs.View.{linked_view, target_linked};
+ghost use Rattle.html_inline.specs.Kept.{text_of};
+ghost use Rattle.html_inline.specs.Printed.{image_end, image_start};
+ghost use Rattle.html_inline.specs.Opens.{place_linked};
+
+use crate::form::Form;
+use crate::printing::Printing;
+use crate::string::{push_formed_string, push_string};
+use crate::url::{push_image_url, push_link_url};
+use inline_rows::{LinkTarget, Linked};
+use markdown_options::Tables;
+use std::alloc::{AllocError, Allocator};
+use html_escape::push_encoded;
+
+/// Where a link or an image leads. A place past the last definition leads nowhere.
+pub(crate) fn linked_at<'a>(definitions: &'a [Linked<'a>], target: LinkTarget<'a>) -> Linked<'a>
+    ensures { linked_view result ≡ target_linked (place_linked definitions.now) target.entry }
+{
+    match target {
+        LinkTarget::Resource(linked) => linked,
+        LinkTarget::Definition(place) => {
+            if place < definitions.len() {
+                definitions[place]
+            } else {
+                Linked {
+                    destination: "",
+                    title: None,
+                }
+            }
+        }
+    }
+}
+
+/// Prints the start tag of a link (CommonMark 6.3). `text` is used for its URL and its title.
+pub(crate) fn push_link_start<A: Allocator, T: Tables>(
+    out: &mut String<A>,
+    text: &mut String<A>,
+    printing: &Printing<'_, T>,
+    linked: Linked<'_>,
+) -> Result<(), AllocError>
+    ensures { (definition : List ℕ → Option inline.Linked) → OnOk result (string_bytes out.new ≡ string_bytes out.old ++ link_tag (inline_meaning printing.now.on.now printing.now.compile.now (T.reference_of printing.now.tables.now) definition) (linked_view linked.entry)) }
+{
+    read_url(text, printing, linked.destination)?;
+    out.push_str("<a href=\"")?;
+    push_link_url(out, printing.compile, text.as_str())?;
+    out.push_str("\"")?;
+    push_title(out, text, printing, linked)?;
+    out.push_str(">")
+}
+
+/// Prints the tag of an image before its description (CommonMark 6.4).
+pub(crate) fn push_image_start<A: Allocator, T: Tables>(
+    out: &mut String<A>,
+    text: &mut String<A>,
+    printing: &Printing<'_, T>,
+    linked: Linked<'_>,
+) -> Result<(), AllocError>
+    ensures { (definition : List ℕ → Option inline.Linked) → OnOk result (string_bytes out.new ≡ string_bytes out.old ++ image_start (inline_meaning printing.now.on.now printing.now.compile.now (T.reference_of printing.now.tables.now) definition) (linked_view linked.entry)) }
+{
+    read_url(text, printing, linked.destination)?;
+    out.push_str("<img src=\"")?;
+    push_image_url(out, printing.compile, text.as_str())?;
+    out.push_str("\" alt=\"")
+}
+
+/// Prints the tag of an image after its description (CommonMark 6.4).
+pub(crate) fn push_image_end<A: Allocator, T: Tables>(
+    out: &mut String<A>,
+    text: &mut String<A>,
+    printing: &Printing<'_, T>,
+    linked: Linked<'_>,
+) -> Result<(), AllocError>
+    ensures { (definition : List ℕ → Option inline.Linked) → OnOk result (string_bytes out.new ≡ string_bytes out.old ++ image_end (inline_meaning printing.now.on.now printing.now.compile.now (T.reference_of printing.now.tables.now) definition) (linked_view linked.entry)) }
+{
+    out.push_str("\"")?;
+    push_title(out, text, printing, linked)?;
+    out.push_str(" />")
+}
+
+/// Reads the URL of a destination: its text, in which NUL is U+FFFD (CommonMark 6.3).
+fn read_url<A: Allocator, T: Tables>(
+    text: &mut String<A>,
+    printing: &Printing<'_, T>,
+    destination: &str,
+) -> Result<(), AllocError>
+    ensures { OnOk result (string_bytes text.new ≡ plain (text_of printing.now.on.now (T.reference_of printing.now.tables.now) destination.now)) }
+{
+    text.clear();
+    push_formed_string(text, printing.on, printing.tables, Form::Plain, destination)
+}
+
+/// Prints the attribute of a title that isn't empty.
+fn push_title<A: Allocator, T: Tables>(
+    out: &mut String<A>,
+    text: &mut String<A>,
+    printing: &Printing<'_, T>,
+    linked: Linked<'_>,
+) -> Result<(), AllocError>
+    ensures { (definition : List ℕ → Option inline.Linked) → OnOk result (string_bytes out.new ≡ string_bytes out.old ++ title_attribute (inline_meaning printing.now.on.now printing.now.compile.now (T.reference_of printing.now.tables.now) definition) (linked_view linked.entry).title) }
+{
+    match linked.title {
+        None => Ok(()),
+        Some(title) => {
+            text.clear();
+            push_string(text, printing.on, printing.tables, title)?;
+            push_titled(out, text.as_str())
+        }
+    }
+}
+
+/// Prints the attribute of a title's text that isn't empty.
+fn push_titled<A: Allocator>(out: &mut String<A>, title: &str) -> Result<(), AllocError>
+    ensures { OnOk result (string_bytes out.new ≡ string_bytes out.old ++ titled title.now) }
+{
+    if title.is_empty() {
+        return Ok(());
+    }
+    out.push_str(" title=\"")?;
+    push_encoded(out, title)?;
+    out.push_str("\"")
+}

@@ -1,0 +1,18 @@
+//! Inline structure to HTML (CommonMark 6).
+#![tactic(auto)]
+
+pub mod code_text;
+pub mod form;
+pub mod html_text;
+pub mod leaf;
+pub mod label_end;
+pub mod number;
+pub mod printing;
+pub mod rows;
+mod stack;
+pub mod string;
+pub mod url;
+
+pub use printing::{Printing, Scratch};
+pub use rows::push_rows;
+pub use string::{push_encoded_string, push_string};

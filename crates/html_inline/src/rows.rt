@@ -1,0 +1,240 @@
+//! Rows to HTML.
+//!
+//! In the description of an image no tag is printed, and nothing for the URL and the title of a
+//! link or an image (CommonMark 6.4). The title of an image comes after its description.
+ghost use Rattle.std.specs.Prelude.{◌≡◌, ◌++◌, ℕ, List, Option, OnOk, map, reverse, slice_index_or, string_bytes};
+ghost use Rattle.std.specs.List.{fold};
+ghost use Rattle.definition_inline.specs.Inline as inline;
+ghost use Rattle.definition_page.specs.InlineHtml.{InlineMeaning, inline_html, leads_to};
+ghost use Rattle.inline_rows.specs.InlineRows as rows_of;
+ghost use Rattle.definition_page.specs.Meaning.{inline_meaning};
+ghost use Rattle.inline_runs.specs.View.{span_view};
+ghost use Rattle.inline_leaves.specs.Leaves.{parts_of};
+ghost use Rattle.inline_rows.specs.View.{linked_view, row_view, rows_view, target_linked};
+ghost use Rattle.inline_rows.specs.declared.row.InlineRow.{InlineRow};
+ghost use Rattle.inline_rows.specs.declared.row.InlineRow.TheVariants.{Exit};
+ghost use Rattle.html_inline.specs.Opens.{image_linked, opened_view, place_linked, printed_of};
+ghost use Rattle.html_inline.specs.Printed.{is_described, parts_printed, row_printed, span_end, span_start};
+
+use crate::leaf::{push_description, push_leaf};
+use crate::label_end::{linked_at, push_image_end, push_image_start, push_link_start};
+use crate::printing::{Printing, Scratch};
+use crate::stack::{OpenPart, is_described};
+use inline_runs::Span;
+use inline_leaves::LeafPart;
+use inline_rows::{InlineRow, LinkTarget, Linked};
+use markdown_options::Tables;
+use std::alloc::{AllocError, Allocator};
+use html_escape::push_encoded;
+
+/// Prints the rows of a content: where these are the rows of some inline structure, its HTML.
+pub fn push_rows<A: Allocator, T: Tables>(
+    out: &mut String<A>,
+    scratch: &mut Scratch<A>,
+    printing: &Printing<'_, T>,
+    rows: &[InlineRow<'_>],
+) -> Result<(), AllocError>
+    ensures { (definition : List ℕ → Option inline.Linked) (is : inline.Inlines) → rows_view (place_linked printing.now.definitions.now) rows.now ≡ rows_of.inline_rows (leads_to definition) is →
+        OnOk result (string_bytes out.new ≡ string_bytes out.old ++ inline_html (inline_meaning printing.now.on.now printing.now.compile.now (T.reference_of printing.now.tables.now) definition) is) }
+{
+    scratch.stack.clear();
+    for (place, row) in rows.iter().enumerate() {
+        push_row(out, scratch, printing, rows, place, *row)?;
+    }
+    Ok(())
+}
+
+/// Prints a row, which stands at a place.
+fn push_row<A: Allocator, T: Tables>(
+    out: &mut String<A>,
+    scratch: &mut Scratch<A>,
+    printing: &Printing<'_, T>,
+    rows: &[InlineRow<'_>],
+    place: usize,
+    row: InlineRow<'_>,
+) -> Result<(), AllocError>
+    requires { slice_index_or rows.now place Exit ≡ row }
+    ensures { (definition : List ℕ → Option inline.Linked) →
+        let meaning = inline_meaning printing.now.on.now printing.now.compile.now (T.reference_of printing.now.tables.now) definition in
+        let at = place_linked printing.now.definitions.now in
+        OnOk result (printed_of meaning at rows.now (string_bytes out.new) scratch.new.stack.items
+        ≡ fold (row_printed meaning) (printed_of meaning at rows.now (string_bytes out.old) scratch.old.stack.items) (row_view at row.entry)) }
+{
+    match row {
+        InlineRow::Text(text) => push_encoded(out, text),
+        InlineRow::Leaf(part) => push_part(out, scratch, printing, part),
+        InlineRow::EnterSpan(span) => enter_span(out, scratch, span),
+        InlineRow::EnterLink(target) => enter_link(out, scratch, printing, target),
+        InlineRow::EnterImage(target) => enter_image(out, scratch, printing, place, target),
+        InlineRow::Exit => exit(out, scratch, printing, rows),
+    }
+}
+
+/// Prints a construct that holds no other.
+fn push_part<A: Allocator, T: Tables>(
+    out: &mut String<A>,
+    scratch: &mut Scratch<A>,
+    printing: &Printing<'_, T>,
+    part: LeafPart<'_>,
+) -> Result<(), AllocError>
+    ensures stack { scratch.new.stack ≡ scratch.old.stack }
+    ensures printed { (definition : List ℕ → Option inline.Linked) (rows : List InlineRow) →
+        let meaning = inline_meaning printing.now.on.now printing.now.compile.now (T.reference_of printing.now.tables.now) definition in
+        let at = place_linked printing.now.definitions.now in
+        OnOk result (string_bytes out.new ≡ string_bytes out.old ++ parts_printed meaning (is_described (map (opened_view meaning at rows) (reverse scratch.old.stack.items))) (parts_of part.entry)) }
+{
+    if is_described(scratch.stack.as_slice()) {
+        push_description(out, &mut scratch.text, printing.compile, part)
+    } else {
+        push_leaf(out, &mut scratch.text, printing, part)
+    }
+}
+
+/// Emphasis or strong emphasis starts (CommonMark 6.2).
+fn enter_span<A: Allocator>(
+    out: &mut String<A>,
+    scratch: &mut Scratch<A>,
+    span: Span,
+) -> Result<(), AllocError>
+    ensures { (meaning : InlineMeaning) (at : ℕ → inline.Linked) (rows : List InlineRow) →
+        OnOk result (printed_of meaning at rows (string_bytes out.new) scratch.new.stack.items
+        ≡ row_printed meaning (printed_of meaning at rows (string_bytes out.old) scratch.old.stack.items) (rows_of.EnterSpan (span_view span))) }
+{
+    if is_described(scratch.stack.as_slice()) {
+        scratch.stack.push(OpenPart::Silent)?;
+        return Ok(());
+    }
+    out.push_str(span_start(span))?;
+    scratch.stack.push(OpenPart::Span(span))?;
+    Ok(())
+}
+
+/// A link starts (CommonMark 6.3).
+fn enter_link<A: Allocator, T: Tables>(
+    out: &mut String<A>,
+    scratch: &mut Scratch<A>,
+    printing: &Printing<'_, T>,
+    target: LinkTarget<'_>,
+) -> Result<(), AllocError>
+    ensures { (definition : List ℕ → Option inline.Linked) (rows : List InlineRow) →
+        let meaning = inline_meaning printing.now.on.now printing.now.compile.now (T.reference_of printing.now.tables.now) definition in
+        let at = place_linked printing.now.definitions.now in
+        OnOk result (printed_of meaning at rows (string_bytes out.new) scratch.new.stack.items
+        ≡ row_printed meaning (printed_of meaning at rows (string_bytes out.old) scratch.old.stack.items) (rows_of.EnterLink (target_linked at target.entry))) }
+{
+    if is_described(scratch.stack.as_slice()) {
+        scratch.stack.push(OpenPart::Silent)?;
+        return Ok(());
+    }
+    let linked = linked_at(printing.definitions, target);
+    push_link_start(out, &mut scratch.text, printing, linked)?;
+    scratch.stack.push(OpenPart::Link)?;
+    Ok(())
+}
+
+/// An image starts, by the row at this place (CommonMark 6.4).
+fn enter_image<A: Allocator, T: Tables>(
+    out: &mut String<A>,
+    scratch: &mut Scratch<A>,
+    printing: &Printing<'_, T>,
+    place: usize,
+    target: LinkTarget<'_>,
+) -> Result<(), AllocError>
+    ensures { (definition : List ℕ → Option inline.Linked) (rows : List InlineRow) →
+        let meaning = inline_meaning printing.now.on.now printing.now.compile.now (T.reference_of printing.now.tables.now) definition in
+        let at = place_linked printing.now.definitions.now in
+        image_linked at (slice_index_or rows place Exit) ≡ target_linked at target.entry →
+        OnOk result (printed_of meaning at rows (string_bytes out.new) scratch.new.stack.items
+        ≡ row_printed meaning (printed_of meaning at rows (string_bytes out.old) scratch.old.stack.items) (rows_of.EnterImage (target_linked at target.entry))) }
+{
+    if is_described(scratch.stack.as_slice()) {
+        scratch.stack.push(OpenPart::Silent)?;
+        return Ok(());
+    }
+    let linked = linked_at(printing.definitions, target);
+    push_image_start(out, &mut scratch.text, printing, linked)?;
+    scratch.stack.push(OpenPart::Image(place))?;
+    Ok(())
+}
+
+/// The innermost part that holds others ends.
+fn exit<A: Allocator, T: Tables>(
+    out: &mut String<A>,
+    scratch: &mut Scratch<A>,
+    printing: &Printing<'_, T>,
+    rows: &[InlineRow<'_>],
+) -> Result<(), AllocError>
+    ensures { (definition : List ℕ → Option inline.Linked) →
+        let meaning = inline_meaning printing.now.on.now printing.now.compile.now (T.reference_of printing.now.tables.now) definition in
+        let at = place_linked printing.now.definitions.now in
+        OnOk result (printed_of meaning at rows.now (string_bytes out.new) scratch.new.stack.items
+        ≡ row_printed meaning (printed_of meaning at rows.now (string_bytes out.old) scratch.old.stack.items) rows_of.Leave) }
+{
+    match scratch.stack.pop() {
+        None => Ok(()),
+        Some(part) => push_end(out, &mut scratch.text, printing, rows, part),
+    }
+}
+
+/// Prints what stands at the end of a part that holds others.
+fn push_end<A: Allocator, T: Tables>(
+    out: &mut String<A>,
+    text: &mut String<A>,
+    printing: &Printing<'_, T>,
+    rows: &[InlineRow<'_>],
+    part: OpenPart,
+) -> Result<(), AllocError>
+    ensures { (definition : List ℕ → Option inline.Linked) →
+        let meaning = inline_meaning printing.now.on.now printing.now.compile.now (T.reference_of printing.now.tables.now) definition in
+        let at = place_linked printing.now.definitions.now in
+        OnOk result (string_bytes out.new ≡ string_bytes out.old ++ (opened_view meaning at rows.now part).ending) }
+{
+    match part {
+        OpenPart::Span(span) => out.push_str(span_end(span)),
+        OpenPart::Link => out.push_str("</a>"),
+        OpenPart::Image(place) => {
+            let linked = image_linked(printing, rows, place);
+            push_image_end(out, text, printing, linked)
+        }
+        OpenPart::Silent => Ok(()),
+    }
+}
+
+/// Where the image leads that the row at a place starts.
+fn image_linked<'a, T>(
+    printing: &Printing<'a, T>,
+    rows: &[InlineRow<'a>],
+    place: usize,
+) -> Linked<'a>
+    ensures { linked_view result ≡ image_linked (place_linked printing.now.definitions.now) (slice_index_or rows.now place Exit) }
+{
+    if place < rows.len() {
+        if let InlineRow::EnterImage(target) = rows[place] {
+            return linked_at(printing.definitions, target);
+        }
+    }
+    Linked {
+        destination: "",
+        title: None,
+    }
+}
+
+/// The start tag of a span.
+fn span_start(span: Span) -> &'static str
+    ensures { result.now ≡ span_start (span_view span) }
+{
+    match span {
+        Span::Emphasis => "<em>",
+        Span::Strong => "<strong>",
+    }
+}
+
+/// The end tag of a span.
+fn span_end(span: Span) -> &'static str
+    ensures { result.now ≡ span_end (span_view span) }
+{
+    match span {
+        Span::Emphasis => "</em>",
+        Span::Strong => "</strong>",
+    }
+}

@@ -1,0 +1,38 @@
+//! URLs of links and images (CommonMark 6.3 and 6.4).
+ghost use Rattle.std.specs.Prelude.{◌≡◌, ◌++◌, OnOk, string_bytes};
+ghost use Rattle.definition_page.specs.Meaning.{image_url, link_url};
+
+use markdown_options::CompileOptions;
+use markdown_options::constants::{SAFE_PROTOCOL_HREF, SAFE_PROTOCOL_SRC};
+use std::alloc::{AllocError, Allocator};
+use html_escape::{push_sanitized, push_sanitized_with_protocols};
+
+/// Prints the URL of a link, only with the protocols that are permitted there, unless all are.
+pub(crate) fn push_link_url<A: Allocator>(
+    out: &mut String<A>,
+    compile: &CompileOptions,
+    url: &str,
+) -> Result<(), AllocError>
+    ensures { OnOk result (string_bytes out.new ≡ string_bytes out.old ++ link_url compile.now url.now) }
+{
+    if compile.allow_dangerous_protocol {
+        push_sanitized(out, url)
+    } else {
+        push_sanitized_with_protocols(out, url, &SAFE_PROTOCOL_HREF)
+    }
+}
+
+/// Prints the URL of an image.
+pub(crate) fn push_image_url<A: Allocator>(
+    out: &mut String<A>,
+    compile: &CompileOptions,
+    url: &str,
+) -> Result<(), AllocError>
+    ensures { OnOk result (string_bytes out.new ≡ string_bytes out.old ++ image_url compile.now url.now) }
+{
+    if compile.allow_any_img_src || compile.allow_dangerous_protocol {
+        push_sanitized(out, url)
+    } else {
+        push_sanitized_with_protocols(out, url, &SAFE_PROTOCOL_SRC)
+    }
+}

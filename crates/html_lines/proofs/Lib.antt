@@ -1,2 +1,0 @@
-pub mod Somewhere
-pub mod Grammar

@@ -1,7 +1,0 @@
-use Rattle.std.proofs.Common.{◌≡◌, drop}
-use Rattle.markdown_definition.specs.Letters.{begins_with, somewhere}
-use Rattle.html_lines.proofs.bytes.holds.Given as goal
-
--- what is left has the answer
-abbrev pub invariant-loop-i : goal.invariant-loop-i
-invariant-loop-i l = somewhere (begins_with l.text) (drop l.i l.bytes) ≡ somewhere (begins_with l.text) l.bytes

@@ -1,6 +1,0 @@
-use Rattle.std.proofs.Common.{◌∙◌, sym}
-use Rattle.html_lines.proofs.Grammar.{closing_tag_reads}
-use Rattle.html_lines.proofs.tags.closing_tag.Goals as goal
-
-pub returns : goal.returns
-returns c = c.rest_after.ensures ∙ closing_tag_reads c.args.bytes.now (sym c.starts_with.ensures.value ∙ c.if-not-starts_with.false)

@@ -1,0 +1,291 @@
+-- What the rows of blocks print, in each container and list.
+use Rattle.std.proofs.Common.{◌≡◌, ℕ, ◌≤◌, Bool, true, false, not, ◌==◌, List, [], ◌∷◌, ◌++◌, Option, refl, sym, ap, ◌∙◌, subst, append_assoc, codes}
+use Rattle.std.specs.List.{fold}
+use Rattle.std.proofs.lemmas.Bool.{eqb-true}
+use Rattle.std.proofs.lemmas.List.Sums.{fold-append}
+use Rattle.definition_block.specs.declared.container.Item.{Item as ItemOf}
+use Rattle.definition_block.specs.declared.container.Container.TheVariants.{Quote, Item}
+use Rattle.definition_block.specs.Tree.{Block, Paragraph, Heading, Break, IndentedCode, FencedCode, Html, Definition, Holds, Items, Ending, Blank, Blocks, Nil, Cons}
+use Rattle.definition_block.specs.Lists.{after_endings, has_gap, is_loose, list_marker, before, grouped, grouped_block}
+use Rattle.definition_page.specs.Pieces.{Piece, Bytes, Eol, Fresh, print}
+use Rattle.definition_page.specs.Document.{Document}
+use Rattle.definition_page.specs.Html.{block_pieces, children_pieces, ends_tight, fresh_unless, number_tag, number_end}
+use Rattle.block_rows.specs.Rows.{Single, Exit, rows_of, block_rows}
+use Rattle.html_page.specs.declared.level.Level.{Level}
+use Rattle.html_page.specs.declared.level.Kind.{Kind}
+use Rattle.html_page.specs.declared.level.Kind.TheVariants as kind
+use Rattle.html_page.specs.declared.loose.Place.{Place}
+use Rattle.html_page.specs.declared.loose.Ahead.{Ahead}
+use Rattle.html_page.specs.Printable.{IsPrintable, CanBePrinted}
+use Rattle.html_page.specs.Loose.{place_at}
+use Rattle.html_page.specs.Levels.{is_document, is_list, level_of, new_level, held, level_after}
+use Rattle.html_page.specs.Printed.{Printed, printed_at, in_list, start_item, exit_of, leave_list_if, row_printed, printed, more}
+use Rattle.html_page.proofs.Ahead.{ahead_of, ahead_of_item, before_item_is, list_ahead, after_list, on_list, off_list, no_marker}
+use Rattle.html_page.proofs.Places.{places_in, places_within}
+use Rattle.html_page.proofs.Past.{level_past, past_kind, past_plain}
+
+module _ (d : Document) (default : List ℕ) where
+  -- a page after pieces
+  abbrev lay : List ℕ → List Piece → List ℕ
+  lay out pieces = fold (print default) out pieces
+
+  lay_more : (out : List ℕ) (ps qs : List Piece) → lay (lay out ps) qs ≡ lay out (ps ++ qs)
+  lay_more out ps qs = sym (fold-append (print default) out ps qs)
+
+  -- what blocks print at a level
+  abbrev at_level : Level → Blocks → List Piece
+  at_level l bs = children_pieces d (is_document l.kind) l.tight l.silent bs
+
+  -- ---- what is to be shown
+
+  -- in a container or the document
+  abbrev pub ChildrenPrinted : Blocks → Type 0
+  ChildrenPrinted bs = (l : Level) (out : List ℕ) (outer : List Level) (places : List Place) → is_list l.kind ≡ false
+      → printed d default (printed_at out l outer (places_within bs ++ places)) (rows_of bs)
+      ≡ printed_at (lay out (at_level l (grouped bs))) (level_past l (grouped bs)) outer places
+
+  -- on a list that is open in a level
+  abbrev on_list_at : List ℕ → Option ℕ → Bool → Bool → Level → List Level → List Place → Printed
+  on_list_at out number tight plain l outer places = printed_at out (level_of (kind.List number) tight plain false) (l ∷ outer) places
+
+  -- after the rest of a list, and what follows it
+  abbrev list_then : List ℕ → Option ℕ → Bool → Level → Blocks → Blocks → List Level → List Place → Printed
+  list_then out number tight l items others outer places =
+      printed_at (lay (lay out (children_pieces d false tight false items ++ Eol ∷ Bytes (number_end number) ∷ [])) (at_level l others)) (level_past l others) outer places
+
+  abbrev pub ListPrinted : Blocks → Type 0
+  ListPrinted bs = (number : Option ℕ) (tight plain : Bool) (l : Level) (out : List ℕ) (outer : List Level) (places : List Place)
+      → is_list l.kind ≡ false → 1 ≤ list_marker (after_endings (grouped bs))
+      → printed d default (on_list_at out number tight plain l outer (places_within bs ++ places)) (rows_of bs)
+      ≡ list_then out number tight l (list_ahead (grouped bs)) (after_list (grouped bs)) outer places
+
+  -- ---- an item
+
+  -- the end of an item
+  item_left : (number : Option ℕ) (tight last : Bool) (l inner : Level) (out : List ℕ) (outer : List Level) (places : List Place) → inner.kind ≡ kind.Item last
+      → row_printed d default (printed_at out inner (level_of (kind.List number) tight false false ∷ l ∷ outer) places) Exit
+      ≡ leave_list_if default last (on_list_at (lay out (fresh_unless inner.plain ++ Bytes (codes "</li>") ∷ [])) number tight false l outer places)
+  item_left number tight last l inner out outer places is =
+      ap (λ (k : Kind). exit_of default k (printed_at out inner (level_of (kind.List number) tight false false ∷ l ∷ outer) places)) is
+
+  -- an item on a list that is open
+  item_printed : (item : ItemOf) (kids : Blocks) (place : Place) (number : Option ℕ) (tight plain : Bool) (l : Level) (out : List ℕ) (outer : List Level) (places : List Place)
+      → ChildrenPrinted kids
+      → printed d default (on_list_at out number tight plain l outer (place ∷ (places_within kids ++ places))) (block_rows (Holds (Item item) kids))
+      ≡ leave_list_if default (not place.goes_on) (on_list_at (lay out (block_pieces d false tight false (Holds (Item item) (grouped kids)))) number tight false l outer places)
+  item_printed item kids place number tight plain l out outer places k =
+      let gs = grouped kids in
+      let start : List Piece = Fresh ∷ Bytes (codes "<li>") ∷ [] in
+      let new = new_level (kind.Item (not place.goes_on)) tight in
+      let inner = level_past new gs in
+      let around : List Level = level_of (kind.List number) tight false false ∷ l ∷ outer in
+      let body = children_pieces d false tight false gs in
+      let end : List Piece = Bytes (codes "</li>") ∷ [] in
+      fold-append (row_printed d default) (printed_at (lay out start) new around (places_within kids ++ places)) (rows_of kids) (Exit ∷ [])
+      ∙ ap (λ (p : Printed). row_printed d default p Exit) (k new (lay out start) around places refl)
+      ∙ item_left number tight (not place.goes_on) l inner (lay (lay out start) body) outer places (past_kind new gs)
+      ∙ ap (λ x. leave_list_if default (not place.goes_on) (on_list_at (lay (lay (lay out start) body) (fresh_unless x ++ end)) number tight false l outer places)) (sym (past_plain new gs))
+      ∙ ap (λ x. leave_list_if default (not place.goes_on) (on_list_at x number tight false l outer places)) (lay_more (lay out start) body (fresh_unless (ends_tight tight true gs) ++ end)
+      ∙ ap (λ ps. lay (lay out start) ps) (sym (append_assoc body (fresh_unless (ends_tight tight true gs)) end)))
+
+  -- what follows an item that is printed: more of its list, or what stands after it
+  item_then : (goes_on : Bool) (bs : Blocks) (number : Option ℕ) (tight : Bool) (l : Level) (out : List ℕ) (outer : List Level) (places : List Place)
+      → is_list l.kind ≡ false → (goes_on ≡ true → 1 ≤ list_marker (after_endings (grouped bs))) → ChildrenPrinted bs → ListPrinted bs
+      → printed d default (leave_list_if default (not goes_on) (on_list_at out number tight false l outer (places_within bs ++ places))) (rows_of bs)
+      ≡ list_then out number tight l (on_list goes_on (grouped bs)) (off_list goes_on (grouped bs)) outer places
+  item_then true bs number tight l out outer places no_list some children list = list number tight false l out outer places no_list (some refl)
+  item_then false bs number tight l out outer places no_list some children list = children l (lay out (Eol ∷ Bytes (number_end number) ∷ [])) outer places no_list
+
+  -- the pieces of an item, of what follows it on its list, and of what follows the list
+  split_list : (out : List ℕ) (item more end others : List Piece) → lay (lay (lay out item) (more ++ end)) others ≡ lay (lay out ((item ++ more) ++ end)) others
+  split_list out item more end others =
+      ap (λ x. lay x others) (lay_more out item (more ++ end) ∙ ap (λ ps. lay out ps) (sym (append_assoc item more end)))
+
+  -- ---- blocks in a container or the document
+
+  -- a block, and those after it
+  abbrev StepPrinted : Block → Blocks → Type 0
+  StepPrinted b bs = (l : Level) (out : List ℕ) (outer : List Level) (places : List Place) → is_list l.kind ≡ false
+      → printed d default (printed d default (printed_at out l outer (places_in b (grouped bs) ++ (places_within bs ++ places))) (block_rows b)) (rows_of bs)
+      ≡ printed_at (lay out (at_level l (before (grouped_block b) (grouped bs)))) (level_past l (before (grouped_block b) (grouped bs))) outer places
+
+  -- a block that is a row
+  leaf_step : (b : Block) (bs : Blocks) → ChildrenPrinted bs → (l : Level) (out : List ℕ) (outer : List Level) (places : List Place) → is_list l.kind ≡ false
+      → printed d default (row_printed d default (printed_at out l outer (places_within bs ++ places)) (Single b)) (rows_of bs)
+      ≡ printed_at (lay out (at_level l (Cons b (grouped bs)))) (level_past l (Cons b (grouped bs))) outer places
+  leaf_step b bs children l out outer places no_list =
+      let own = block_pieces d (is_document l.kind) l.tight l.silent b in
+      let after = level_after l (Single b) in
+      children after (lay out own) outer places no_list
+      ∙ ap (λ x. printed_at x (level_past after (grouped bs)) outer places) (lay_more out own (at_level after (grouped bs)))
+
+  quote_left : (l inner : Level) (out : List ℕ) (outer : List Level) (places : List Place) → inner.kind ≡ kind.Quote
+      → row_printed d default (printed_at out inner (l ∷ outer) places) Exit ≡ printed_at (lay out (Fresh ∷ Bytes (codes "</blockquote>") ∷ [])) l outer places
+  quote_left l inner out outer places is = ap (λ (k : Kind). exit_of default k (printed_at out inner (l ∷ outer) places)) is
+
+  quote_step : (kids bs : Blocks) → ChildrenPrinted kids → ChildrenPrinted bs → StepPrinted (Holds Quote kids) bs
+  quote_step kids bs k children l out outer places no_list =
+      let gs = grouped kids in
+      let start : List Piece = Fresh ∷ Bytes (codes "<blockquote>") ∷ [] in
+      let new = new_level kind.Quote false in
+      let body = children_pieces d false false false gs in
+      let end : List Piece = Fresh ∷ Bytes (codes "</blockquote>") ∷ [] in
+      let left = places_within bs ++ places in
+      ap (λ (p : Printed). printed d default p (rows_of bs))
+      (fold-append (row_printed d default) (printed_at (lay out start) new (held l ∷ outer) (places_within kids ++ left)) (rows_of kids) (Exit ∷ [])
+      ∙ ap (λ (p : Printed). row_printed d default p Exit) (k new (lay out start) (held l ∷ outer) left refl)
+      ∙ quote_left (held l) (level_past new gs) (lay (lay out start) body) outer left (past_kind new gs)
+      ∙ ap (λ x. printed_at x (held l) outer left) (lay_more (lay out start) body end))
+      ∙ children (held l) (lay (lay out start) (body ++ end)) outer places no_list
+      ∙ ap (λ x. printed_at x (level_past (held l) (grouped bs)) outer places) (lay_more out (start ++ (body ++ end)) (at_level (held l) (grouped bs)))
+
+  -- the list that an item starts, if none is open
+  list_started : (item : ItemOf) (kids : Blocks) (place : Place) (l : Level) (out : List ℕ) (outer : List Level) (places : List Place) → is_list l.kind ≡ false
+      → printed d default (printed_at out l outer (place ∷ places)) (block_rows (Holds (Item item) kids))
+      ≡ printed d default (on_list_at (lay out (Fresh ∷ Bytes (number_tag item.number) ∷ [])) item.number (not place.loose) true (held l) outer (place ∷ places)) (block_rows (Holds (Item item) kids))
+  list_started item kids place l out outer places no_list =
+      ap (λ x. printed d default (start_item default (not place.goes_on) (in_list default x item.number (not place.loose) (printed_at out l outer places))) (rows_of kids ++ Exit ∷ [])) no_list
+
+  -- where a list goes on, its next item has a marker
+  next_marker : (item : ItemOf) (gs : Blocks) → 1 ≤ item.marker → (list_marker (after_endings gs) == item.marker) ≡ true → 1 ≤ list_marker (after_endings gs)
+  next_marker item gs some same = subst (λ n. 1 ≤ n) (sym (eqb-true (list_marker (after_endings gs)) item.marker same)) some
+
+  -- the place says whether the list is loose
+  place_loose : (item : ItemOf) (kids gs : Blocks) → 1 ≤ item.marker
+      → (place_at (ahead_of gs) item.marker (has_gap kids)).loose
+      ≡ is_loose (Cons (Holds (Item item) kids) (on_list (list_marker (after_endings gs) == item.marker) gs))
+  place_loose item kids gs some = sym (ap (λ (a : Ahead). a.loose) (ahead_of_item item kids gs some))
+
+  item_step : (item : ItemOf) (kids bs : Blocks) → 1 ≤ item.marker → ChildrenPrinted kids → ChildrenPrinted bs → ListPrinted bs → StepPrinted (Holds (Item item) kids) bs
+  item_step item kids bs some k children list l out outer places no_list =
+      let gs = grouped bs in
+      let b = Holds (Item item) (grouped kids) in
+      let goes_on = list_marker (after_endings gs) == item.marker in
+      let place = place_at (ahead_of gs) item.marker (has_gap (grouped kids)) in
+      let left = places_within bs ++ places in
+      let start : List Piece = Fresh ∷ Bytes (number_tag item.number) ∷ [] in
+      let end : List Piece = Eol ∷ Bytes (number_end item.number) ∷ [] in
+      let tight = not place.loose in
+      let own = block_pieces d false tight false b in
+      let items = on_list goes_on gs in
+      let others = off_list goes_on gs in
+      let body = λ (t : Bool). children_pieces d false t false (Cons b items) in
+      let at = λ (x : List ℕ). printed_at x (level_past (held l) others) outer places in
+      ap (λ (p : Printed). printed d default p (rows_of bs))
+      (list_started item kids place l out outer (places_within kids ++ left) no_list
+      ∙ item_printed item kids place item.number tight true (held l) (lay out start) outer left k)
+      ∙ item_then goes_on bs item.number tight (held l) (lay (lay out start) own) outer places no_list (next_marker item gs some) children list
+      ∙ ap at (split_list (lay out start) own (children_pieces d false tight false items) end (at_level (held l) others))
+      ∙ ap (λ (loose : Bool). at (lay (lay (lay out start) (body (not loose) ++ end)) (at_level (held l) others))) (place_loose item (grouped kids) gs some)
+      ∙ ap at (lay_more out (start ++ (body (not (is_loose (Cons b items))) ++ end)) (at_level (held l) others))
+      ∙ ap (λ (cs : Blocks). printed_at (lay out (at_level l cs)) (level_past l cs) outer places) (sym (before_item_is item (grouped kids) gs some))
+
+  -- ---- blocks on a list
+
+  abbrev OnListPrinted : Block → Blocks → Type 0
+  OnListPrinted b bs = (number : Option ℕ) (tight plain : Bool) (l : Level) (out : List ℕ) (outer : List Level) (places : List Place)
+      → is_list l.kind ≡ false → 1 ≤ list_marker (after_endings (before (grouped_block b) (grouped bs)))
+      → printed d default (printed d default (on_list_at out number tight plain l outer (places_in b (grouped bs) ++ (places_within bs ++ places))) (block_rows b)) (rows_of bs)
+      ≡ list_then out number tight l (list_ahead (before (grouped_block b) (grouped bs))) (after_list (before (grouped_block b) (grouped bs))) outer places
+
+  -- an ending, by what it prints
+  ending_on_list : (own : List Piece) (bs : Blocks) → ListPrinted bs → (number : Option ℕ) (tight plain : Bool) (l : Level) (out : List ℕ) (outer : List Level) (places : List Place)
+      → is_list l.kind ≡ false → 1 ≤ list_marker (after_endings (grouped bs))
+      → printed d default (on_list_at (lay out own) number tight plain l outer (places_within bs ++ places)) (rows_of bs)
+      ≡ printed_at (lay (lay out ((own ++ children_pieces d false tight false (list_ahead (grouped bs))) ++ Eol ∷ Bytes (number_end number) ∷ [])) (at_level l (after_list (grouped bs))))
+      (level_past l (after_list (grouped bs))) outer places
+  ending_on_list own bs list number tight plain l out outer places no_list some =
+      let others = after_list (grouped bs) in
+      list number tight plain l (lay out own) outer places no_list some
+      ∙ ap (λ x. printed_at x (level_past l others) outer places)
+      (split_list out own (children_pieces d false tight false (list_ahead (grouped bs))) (Eol ∷ Bytes (number_end number) ∷ []) (at_level l others))
+
+  item_on_list : (item : ItemOf) (kids bs : Blocks) → 1 ≤ item.marker → ChildrenPrinted kids → ChildrenPrinted bs → ListPrinted bs → OnListPrinted (Holds (Item item) kids) bs
+  item_on_list item kids bs some k children list number tight plain l out outer places no_list listed_ahead =
+      let gs = grouped bs in
+      let b = Holds (Item item) (grouped kids) in
+      let goes_on = list_marker (after_endings gs) == item.marker in
+      let place = place_at (ahead_of gs) item.marker (has_gap (grouped kids)) in
+      let left = places_within bs ++ places in
+      let own = block_pieces d false tight false b in
+      let items = on_list goes_on gs in
+      let others = off_list goes_on gs in
+      ap (λ (p : Printed). printed d default p (rows_of bs)) (item_printed item kids place number tight plain l out outer left k)
+      ∙ item_then goes_on bs number tight l (lay out own) outer places no_list (next_marker item gs some) children list
+      ∙ ap (λ x. printed_at x (level_past l others) outer places)
+      (split_list out own (children_pieces d false tight false items) (Eol ∷ Bytes (number_end number) ∷ []) (at_level l others))
+      ∙ ap (λ (cs : Blocks). list_then out number tight l (list_ahead cs) (after_list cs) outer places) (sym (before_item_is item (grouped kids) gs some))
+
+  -- ---- all blocks
+
+  -- what holds of the children of a block
+  abbrev KidsPrinted : Block → Type 0
+  KidsPrinted (Holds c kids) = ChildrenPrinted kids
+  KidsPrinted b = Unit {0}
+
+  step : (b : Block) (bs : Blocks) → IsPrintable b → KidsPrinted b → ChildrenPrinted bs → ListPrinted bs → StepPrinted b bs
+  step (Paragraph ls) bs h k children list = leaf_step (Paragraph ls) bs children
+  step (Heading rank ls) bs h k children list = leaf_step (Heading rank ls) bs children
+  step Break bs h k children list = leaf_step Break bs children
+  step (IndentedCode ls) bs h k children list = leaf_step (IndentedCode ls) bs children
+  step (FencedCode info closed ls) bs h k children list = leaf_step (FencedCode info closed ls) bs children
+  step (Html ls) bs h k children list = leaf_step (Html ls) bs children
+  step (Definition label destination title) bs h k children list = leaf_step (Definition label destination title) bs children
+  step (Holds Quote kids) bs h k children list = quote_step kids bs k children
+  step (Holds (Item item) kids) bs h k children list = item_step item kids bs h.0 k children list
+  step (Items items) bs h k children list = absurd h
+  step (Ending ending) bs h k children list = leaf_step (Ending ending) bs children
+  step (Blank ending) bs h k children list = leaf_step (Blank ending) bs children
+
+  list_step : (b : Block) (bs : Blocks) → IsPrintable b → KidsPrinted b → ChildrenPrinted bs → ListPrinted bs → OnListPrinted b bs
+  list_step (Ending ending) bs h k children list number tight plain l out outer places no_list some =
+      ending_on_list (block_pieces d false tight false (Ending ending)) bs list number tight plain l out outer places no_list some
+  list_step (Blank ending) bs h k children list number tight plain l out outer places no_list some =
+      ending_on_list [] bs list number tight plain l out outer places no_list some
+  list_step (Holds (Item item) kids) bs h k children list number tight plain l out outer places no_list some =
+      item_on_list item kids bs h.0 k children list number tight plain l out outer places no_list some
+  list_step (Items items) bs h k children list number tight plain l out outer places no_list some = absurd h
+  list_step b bs h k children list number tight plain l out outer places no_list some = absurd (no_marker some)
+
+  pub record BlocksPrinted (bs : Blocks) : Type 0 where
+    pub children : ChildrenPrinted bs
+    pub list : ListPrinted bs
+
+  more_printed : (b : Block) (bs : Blocks) → IsPrintable b → KidsPrinted b → BlocksPrinted bs → BlocksPrinted (Cons b bs)
+  more_printed b bs h k others =
+      let rows = λ (p : Printed). fold-append (row_printed d default) p (block_rows b) (rows_of bs) in
+      let split = λ (places : List Place). append_assoc (places_in b (grouped bs)) (places_within bs) places in
+      record {
+        children = λ l out outer places no_list.
+            ap (λ ps. printed d default (printed_at out l outer ps) (rows_of (Cons b bs))) (split places)
+            ∙ rows (printed_at out l outer (places_in b (grouped bs) ++ (places_within bs ++ places)))
+            ∙ step b bs h k others.children others.list l out outer places no_list;
+        list = λ number tight plain l out outer places no_list some.
+            ap (λ ps. printed d default (on_list_at out number tight plain l outer ps) (rows_of (Cons b bs))) (split places)
+            ∙ rows (on_list_at out number tight plain l outer (places_in b (grouped bs) ++ (places_within bs ++ places)))
+            ∙ list_step b bs h k others.children others.list number tight plain l out outer places no_list some;
+      }
+
+  none_printed : BlocksPrinted Nil
+  none_printed = record {
+    children = λ l out outer places no_list. refl;
+    list = λ number tight plain l out outer places no_list some. absurd (no_marker some);
+  }
+
+  mutual
+    pub kids_printed : (b : Block) → IsPrintable b → KidsPrinted b
+    kids_printed (Paragraph ls) h = tt
+    kids_printed (Heading rank ls) h = tt
+    kids_printed Break h = tt
+    kids_printed (IndentedCode ls) h = tt
+    kids_printed (FencedCode info closed ls) h = tt
+    kids_printed (Html ls) h = tt
+    kids_printed (Definition label destination title) h = tt
+    kids_printed (Holds c kids) h = (blocks_printed kids h.1).children
+    kids_printed (Items items) h = tt
+    kids_printed (Ending ending) h = tt
+    kids_printed (Blank ending) h = tt
+
+    pub blocks_printed : (bs : Blocks) → CanBePrinted bs → BlocksPrinted bs
+    blocks_printed Nil h = none_printed
+    blocks_printed (Cons b bs) h = more_printed b bs h.0 (kids_printed b h.0) (blocks_printed bs h.1)

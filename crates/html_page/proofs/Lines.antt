@@ -1,0 +1,45 @@
+-- The lines of a block.
+use Rattle.std.proofs.Common.{◌≡◌, ◌≤◌, arith, length, get_or, List, [], ◌∷◌, refl}
+use Rattle.block_rows.specs.declared.row.Piece.{Piece}
+use Rattle.block_rows.specs.ParagraphLines.{AreLines}
+use Rattle.block_rows.specs.Rows.{first_codes, piece_line, piece_lines}
+use Rattle.definition_text.specs.BlockLines.{BlockLine, own_lines}
+use Rattle.html_page.specs.Printable.{AreHeadingLines}
+
+-- the first line
+pub first_codes_of : (pieces : List Piece) (d : Piece) → 1 ≤ length pieces → first_codes (piece_lines pieces) ≡ (piece_line (get_or pieces 0 d)).codes
+first_codes_of [] d some = absurd (omega (arith, some))
+first_codes_of (a ∷ others) d some = refl
+
+-- one line
+pub one_line : (pieces : List Piece) (d : Piece) → length pieces ≡ 1 → piece_lines pieces ≡ piece_line (get_or pieces 0 d) ∷ []
+one_line [] d one = absurd (omega (arith, one))
+one_line (a ∷ []) d one = refl
+one_line (a ∷ b ∷ others) d one = absurd (omega (arith, one))
+
+-- ---- lines without the ending of the last one
+
+pub with_ending : (ls : List BlockLine) → AreLines (own_lines ls) → AreLines ls
+with_ending [] h = tt
+with_ending (a ∷ []) h = h
+with_ending (a ∷ b ∷ []) h = h
+with_ending (a ∷ b ∷ c ∷ others) h = (h.0, h.1, h.2, with_ending (b ∷ c ∷ others) h.3)
+
+pub without_ending : (ls : List BlockLine) → AreLines ls → AreLines (own_lines ls)
+without_ending [] h = tt
+without_ending (a ∷ []) h = h
+without_ending (a ∷ b ∷ []) h = h
+without_ending (a ∷ b ∷ c ∷ others) h = (h.0, h.1, h.2, without_ending (b ∷ c ∷ others) h.3)
+
+-- the lines of a heading
+pub several_lines : (ls : List BlockLine) → (length ls ≡ 1 → ⊥) → AreHeadingLines (own_lines ls) → AreLines ls
+several_lines [] several h = tt
+several_lines (a ∷ []) several h = absurd (several refl)
+several_lines (a ∷ b ∷ []) several h = h
+several_lines (a ∷ b ∷ c ∷ others) several h = with_ending (a ∷ b ∷ c ∷ others) h
+
+pub heading_lines : (ls : List BlockLine) → AreLines ls → AreHeadingLines (own_lines ls)
+heading_lines [] h = tt
+heading_lines (a ∷ []) h = h.0
+heading_lines (a ∷ b ∷ []) h = h
+heading_lines (a ∷ b ∷ c ∷ others) h = without_ending (a ∷ b ∷ c ∷ others) h

@@ -1,0 +1,47 @@
+-- Columns that are left of a tab, before the bytes of a line.
+use Rattle.std.proofs.Common.{◌≡◌, ℕ, ◌+◌, ◌-◌, ◌<◌, zero, suc, List, [], ◌∷◌, ◌++◌, true, false, not, refl, ap, ◌∙◌, take, drop, length, get_or, arith}
+use Rattle.std.specs.Prelude.{map, replicate}
+use Rattle.std.specs.List.{prefix_len, suffix_len, list_all}
+use Rattle.std.proofs.lemmas.Bool.{ne_eqb, cond-true}
+use Rattle.definition_text.specs.Columns.{code_byte, tab_column, is_byte, bytes_of, is_white, trimmed}
+use Rattle.definition_text.specs.Encode.{encode}
+use Rattle.definition_text.proofs.CodeBytes.{code_bytes}
+
+-- ---- in text they are dropped
+
+dropped : (n : ℕ) (text : List ℕ)
+    → drop (prefix_len is_white (replicate n tab_column ++ text)) (replicate n tab_column ++ text) ≡ drop (prefix_len is_white text) text
+dropped zero text = refl
+dropped (suc n) text =
+    let rest = replicate n tab_column ++ text in
+    let more : 1 + prefix_len is_white rest ≡ suc (prefix_len is_white rest) = omega arith in
+    ap (λ k. drop k (tab_column ∷ rest)) more ∙ dropped n text
+
+pub trimmed_owed : (n : ℕ) (text : List ℕ) → trimmed (replicate n tab_column ++ text) ≡ trimmed text
+trimmed_owed n text = ap (λ rest. take (length rest - suffix_len is_white rest) rest) (dropped n text)
+
+-- ---- in code they are spaces
+
+pub code_owed : (n : ℕ) (text : List ℕ) → ((k : ℕ) → get_or text k 0 < 256)
+    → encode (map code_byte (replicate n tab_column ++ text)) ≡ replicate n 32 ++ encode text
+code_owed zero text h = ap encode (code_bytes text h)
+code_owed (suc n) text h = ap (λ x. 32 ∷ x) (code_owed n text h)
+
+-- ---- in HTML they are left out
+
+only_bytes : (text : List ℕ) → ((k : ℕ) → get_or text k 0 < 256) → bytes_of text ≡ text
+only_bytes [] h = refl
+only_bytes (b ∷ bs) h =
+    let byte : b < 256 = h 0 in
+    let is : is_byte b ≡ true = ap not (ne_eqb b 256 (λ e. omega arith)) in
+    cond-true (is_byte b) (b ∷ bytes_of bs) (bytes_of bs) is ∙ ap (λ xs. b ∷ xs) (only_bytes bs (λ k. h (suc k)))
+
+pub bytes_owed : (n : ℕ) (text : List ℕ) → ((k : ℕ) → get_or text k 0 < 256) → bytes_of (replicate n tab_column ++ text) ≡ text
+bytes_owed zero text h = only_bytes text h
+bytes_owed (suc n) text h = bytes_owed n text h
+
+-- ---- an info has none
+
+pub none_owed : (n : ℕ) (text : List ℕ) → list_all is_byte (replicate n tab_column ++ text) ≡ true → replicate n tab_column ++ text ≡ text
+none_owed zero text h = refl
+none_owed (suc n) text h = let wrong : false ≡ true = h in cc

@@ -1,0 +1,428 @@
+-- The blocks of a text can be printed: paragraphs have lines of the text, the ranks of headings are from 1 to 6, infos are bytes, and items have markers.
+use Rattle.std.proofs.Common.{◌≡◌, ℕ, zero, suc, ◌-◌, ◌<◌, ◌≤◌, get_or, lit≤, List, [], ◌∷◌, ◌++◌, Option, None, Some, Bool, true, false, ◌&&◌, ◌==◌, not, leb, refl, sym, subst, ap, take, drop, length}
+use Rattle.std.specs.Prelude.{if◌then◌else◌}
+use Rattle.std.specs.Option.{IfSome}
+use Rattle.std.specs.List.{list_all, prefix_len, suffix_len, position_or_len}
+use Rattle.std.proofs.lemmas.Bool.{and_parts, and_from, leb-true}
+use Rattle.markdown_options.specs.declared.configuration.Constructs.{Constructs}
+use Rattle.definition_text.specs.declared.beside.Beside.{Beside}
+use Rattle.definition_text.specs.declared.beside.Kind.{Kind}
+use Rattle.definition_text.specs.declared.beside.Kind.TheVariants.{Whitespace}
+use Rattle.definition_block.specs.declared.container.Container.{Container}
+use Rattle.definition_block.specs.declared.container.Container.TheVariants.{Quote, Item}
+use Rattle.definition_text.specs.Lines.{TextLine, lines}
+use Rattle.definition_text.specs.Columns.{Rest, whole, bare, bytes_of, indent, is_byte, is_white, is_blank, trimmed}
+use Rattle.definition_text.specs.Runs.{run, after_run, is_run}
+use Rattle.definition_block.specs.Started.{Started}
+use Rattle.definition_block.specs.Containers.{continues, starts}
+use Rattle.definition_block.specs.CodeFenced.{Fence, first_word, fence_of, fence_start, is_fence_end}
+use Rattle.definition_text.specs.Indents.{small_indent}
+use Rattle.definition_block.specs.CodeIndented.{starts_code_indented}
+use Rattle.definition_block.specs.ThematicBreak.{is_break}
+use Rattle.definition_block.specs.HeadingAtx.{Atx, atx_of, begins_apart, ends_apart, without_run, without_closing, heading_atx}
+use Rattle.definition_block.specs.HeadingSetext.{underline_of, underline}
+use Rattle.definition_block.specs.HtmlFlow.{html_start, html_ends_here, ends_before_blank}
+use Rattle.definition_text.specs.Content.{content_of}
+use Rattle.definition_inline.specs.Definition.{Definition as LinkDefinition, definition_at}
+use Rattle.definition_block.specs.Definitions.{Cut, cut_into, cut_after, cut_most, cut, defined, lines_before}
+use Rattle.block_rows.specs.ParagraphLines.{HaveNoEnding, AreLines}
+use Rattle.block_rows.proofs.OpenLines.{AreTextLines, AreLinesTo, SomeClear, StartedClear, clear-take, clear-drop, clear-filter, clear_codes, clear_bare, clear_start, clear_continue, lines_of_text, are_lines, open_step}
+use Rattle.markdown_options.specs.declared.line_ending.LineEnding.{LineEnding}
+use Rattle.markdown_options.specs.declared.line_ending.LineEnding.TheVariants.{LineFeed}
+use Rattle.definition_text.specs.BlockLines.{BlockLine, spaced_line, own_lines}
+use Rattle.definition_block.specs.Tree.{leaf_text, open_text, beside_in, beside_line, in_container, Block, Paragraph, Heading, Break, IndentedCode, FencedCode, Html, Definition, Holds, Items, Ending, Blank, Blocks, Nil, Cons, join, one, ended, OpenLeaf, Text, Indented, Fenced, OpenHtml, Opening, Leaf, Inside, Tree, tree, nothing, empty_tree, paragraph_of, close_leaf, close, blanks, is_ending, all_endings, front, trailing, without_last, last_of, holds, has_text, with_line, rest_line, html_with, takes, taken, or_heading, or_fence, or_html, begins, text_here, heading_of, underlined, turns, after, text_line_of, break_or_text, begun, leaf_line, start, new, began_blank, goes_on, grow, step, steps, closed, blocks}
+use Rattle.block_rows.specs.Rows.{Shown, shown, shown_as, rows_of}
+use Rattle.block_rows.specs.declared.row.Row.{Row}
+use Rattle.html_page.specs.Printable.{IsPrintableContainer, IsPrintable, ArePrintable, CanBePrinted}
+use Rattle.html_page.proofs.Choose.{choose_if, choose}
+use Rattle.html_page.proofs.Lines.{without_ending, heading_lines}
+use Rattle.html_page.proofs.Markers.{StartFits, starts_fits}
+use Rattle.html_page.proofs.RowsOf.{printable_rows_of}
+
+-- ---- infos are bytes
+
+abbrev AreBytes : List ℕ → Type 0
+AreBytes text = list_all is_byte text ≡ true
+
+bytes_front : (n : ℕ) (text : List ℕ) → AreBytes text → AreBytes (take n text)
+bytes_front zero text h = refl
+bytes_front (suc n) [] h = refl
+bytes_front (suc n) (b ∷ bs) h = let parts = and_parts (is_byte b) (list_all is_byte bs) h in and_from (is_byte b) _ parts.0 (bytes_front n bs parts.1)
+
+bytes_after : (n : ℕ) (text : List ℕ) → AreBytes text → AreBytes (drop n text)
+bytes_after zero text h = h
+bytes_after (suc n) [] h = refl
+bytes_after (suc n) (b ∷ bs) h = bytes_after n bs (and_parts (is_byte b) (list_all is_byte bs) h).1
+
+bytes_are_bytes : (rest : Rest) → AreBytes (bytes_of rest)
+bytes_are_bytes [] = refl
+bytes_are_bytes (code ∷ codes) =
+    choose_if AreBytes (is_byte code) (code ∷ bytes_of codes) (bytes_of codes) (λ h. and_from (is_byte code) _ h (bytes_are_bytes codes)) (bytes_are_bytes codes)
+
+trimmed_bytes : (text : List ℕ) → AreBytes text → AreBytes (trimmed text)
+trimmed_bytes text h =
+    let rest = drop (prefix_len is_white text) text in
+    bytes_front (length rest - suffix_len is_white rest) rest (bytes_after (prefix_len is_white text) text h)
+
+bare_clear : (rest : Rest) → HaveNoEnding rest → HaveNoEnding (bytes_of (bare rest))
+bare_clear rest h = clear-filter is_byte (bare rest) (clear_bare rest h)
+
+trimmed_clear : (text : List ℕ) → HaveNoEnding text → HaveNoEnding (trimmed text)
+trimmed_clear text h =
+    let rest = drop (prefix_len is_white text) text in
+    clear-take (length rest - suffix_len is_white rest) rest (clear-drop (prefix_len is_white text) text h)
+
+word_clear : (text : List ℕ) → HaveNoEnding text → HaveNoEnding (first_word text)
+word_clear text h = clear-take (position_or_len is_white (trimmed text)) (trimmed text) (trimmed_clear text h)
+
+word_bytes : (text : List ℕ) → AreBytes text → AreBytes (first_word text)
+word_bytes text h = bytes_front (position_or_len is_white (trimmed text)) (trimmed text) (trimmed_bytes text h)
+
+abbrev IsInfo : List ℕ → Type 0
+IsInfo text = AreBytes text × HaveNoEnding text
+
+-- the first word after a fence
+word_after : (n : ℕ) (text : List ℕ) → AreBytes text → HaveNoEnding text → IsInfo (first_word (drop n text))
+word_after n text h k = (word_bytes (drop n text) (bytes_after n text h), word_clear (drop n text) (clear-drop n text k))
+
+record FenceFits (o : Option Fence) : Type 0 where
+  info : IfSome o (λ fence. IsInfo fence.info)
+
+fence_of_fits : (columns : ℕ) (text : List ℕ) → AreBytes text → HaveNoEnding text → FenceFits (fence_of columns text)
+fence_of_fits columns text h k =
+    choose FenceFits (leb 3 (run 96 text) && list_all (λ b. not (b == 96)) (after_run 96 text)) _ _ record { info = word_after (run 96 text) text h k }
+    (choose FenceFits (leb 3 (run 126 text)) _ _ record { info = word_after (run 126 text) text h k } record { info = tt })
+
+fence_start_fits : (on : Constructs) (rest : Rest) → HaveNoEnding rest → FenceFits (fence_start on rest)
+fence_start_fits on rest clear =
+    choose FenceFits (on.code_fenced && small_indent on rest) _ _ (fence_of_fits (indent rest) (bytes_of (bare rest)) (bytes_are_bytes (bare rest)) (bare_clear rest clear)) record { info = tt }
+
+-- ---- ranks are from 1 to 6
+
+without_closing_clear : (text : List ℕ) → HaveNoEnding text → HaveNoEnding (without_closing text)
+without_closing_clear text h =
+    choose HaveNoEnding (ends_apart (without_run text)) _ _
+    (trimmed_clear (without_run text) (clear-take (length text - suffix_len (λ b. b == 35) text) text h)) h
+
+record AtxFits (o : Option Atx) : Type 0 where
+  rank : IfSome o (λ atx. (1 ≤ atx.rank) × (atx.rank ≤ 6))
+  content : IfSome o (λ atx. HaveNoEnding atx.content)
+
+no_atx : AtxFits None
+no_atx = record { rank = tt; content = tt }
+
+atx_of_fits : (text : List ℕ) → HaveNoEnding text → AtxFits (atx_of text)
+atx_of_fits text clear =
+    let rank = run 35 text in
+    choose_if AtxFits (leb 1 rank && leb rank 6 && begins_apart (after_run 35 text)) _ _
+    (λ h.
+    let all = and_parts (leb 1 rank && leb rank 6) _ h in
+    let both = and_parts (leb 1 rank) (leb rank 6) all.0 in
+    let after = after_run 35 text in
+    record {
+      rank = (leb-true 1 rank both.0, leb-true rank 6 both.1);
+      content = without_closing_clear (trimmed after) (trimmed_clear after (clear-drop rank text clear));
+    })
+    no_atx
+
+heading_fits : (on : Constructs) (rest : Rest) → HaveNoEnding rest → AtxFits (heading_atx on rest)
+heading_fits on rest clear = choose AtxFits (on.heading_atx && small_indent on rest) _ _ (atx_of_fits (bytes_of (bare rest)) (bare_clear rest clear)) no_atx
+
+record RankFits (o : Option ℕ) : Type 0 where
+  rank : IfSome o (λ rank. (1 ≤ rank) × (rank ≤ 6))
+
+underline_of_fits : (text : List ℕ) → RankFits (underline_of text)
+underline_of_fits text =
+    choose RankFits (is_run 1 61 text) (Some 1) (if is_run 1 45 text then Some 2 else None) record { rank = (lit≤ tt, lit≤ tt) }
+    (choose RankFits (is_run 1 45 text) (Some 2) None record { rank = (lit≤ tt, lit≤ tt) } record { rank = tt })
+
+underline_fits : (on : Constructs) (rest : Rest) → RankFits (underline on rest)
+underline_fits on rest =
+    choose RankFits (on.heading_setext && small_indent on rest) (underline_of (bytes_of (bare rest))) None (underline_of_fits (bytes_of (bare rest))) record { rank = tt }
+
+-- ---- blocks
+
+joined : (bs others : Blocks) → CanBePrinted bs → CanBePrinted others → CanBePrinted (join bs others)
+joined Nil others h k = k
+joined (Cons b bs) others h k = (h.0, joined bs others h.1 k)
+
+ending_printable : (b : Block) → is_ending b ≡ true → IsPrintable b
+ending_printable (Paragraph ls) h = let wrong : false ≡ true = h in cc
+ending_printable (Heading rank ls) h = let wrong : false ≡ true = h in cc
+ending_printable Break h = tt
+ending_printable (IndentedCode ls) h = tt
+ending_printable (FencedCode info closed ls) h = let wrong : false ≡ true = h in cc
+ending_printable (Html ls) h = let wrong : false ≡ true = h in cc
+ending_printable (Definition label destination title) h = let wrong : false ≡ true = h in cc
+ending_printable (Holds c kids) h = let wrong : false ≡ true = h in cc
+ending_printable (Items items) h = let wrong : false ≡ true = h in cc
+ending_printable (Ending ending) h = tt
+ending_printable (Blank ending) h = tt
+
+endings_printable : (bs : Blocks) → all_endings bs ≡ true → CanBePrinted bs
+endings_printable Nil h = tt
+endings_printable (Cons b bs) h =
+    let parts = and_parts (is_ending b) (all_endings bs) h in
+    (ending_printable b parts.0, endings_printable bs parts.1)
+
+trailing_printable : (bs : Blocks) → CanBePrinted (trailing bs)
+trailing_printable Nil = tt
+trailing_printable (Cons b bs) =
+    choose_if CanBePrinted (all_endings (Cons b bs)) (Cons b bs) (trailing bs) (λ h. endings_printable (Cons b bs) h) (trailing_printable bs)
+
+last_printable : (bs : Blocks) → CanBePrinted (last_of bs)
+last_printable Nil = tt
+last_printable (Cons b Nil) = choose_if CanBePrinted (is_ending b) (one b) Nil (λ h. (ending_printable b h, tt)) tt
+last_printable (Cons b (Cons c bs)) = last_printable (Cons c bs)
+
+front_printable : (bs : Blocks) → CanBePrinted bs → CanBePrinted (front bs)
+front_printable Nil h = tt
+front_printable (Cons b bs) h = choose CanBePrinted (all_endings (Cons b bs)) Nil (Cons b (front bs)) tt (h.0, front_printable bs h.1)
+
+without_last_printable : (bs : Blocks) → CanBePrinted bs → CanBePrinted (without_last bs)
+without_last_printable Nil h = tt
+without_last_printable (Cons b Nil) h = choose CanBePrinted (is_ending b) Nil (one b) tt h
+without_last_printable (Cons b (Cons c bs)) h = (h.0, without_last_printable (Cons c bs) h.1)
+
+holds_printable : (c : Container) (kids : Blocks) → IsPrintableContainer c → CanBePrinted kids → CanBePrinted (holds c kids)
+holds_printable Quote kids h k = ((tt, without_last_printable kids k), last_printable kids)
+holds_printable (Item item) kids h k = ((h, front_printable kids k), trailing_printable kids)
+
+blanks_printable : (ls : List BlockLine) → CanBePrinted (blanks ls)
+blanks_printable [] = tt
+blanks_printable (l ∷ ls) = (tt, blanks_printable ls)
+
+-- ---- definitions at the front of a paragraph
+
+cut_after_printable : (o : Option LinkDefinition) (ls : List BlockLine) (more : List BlockLine → Cut)
+    → ((left : List BlockLine) → CanBePrinted (more left).definitions) → CanBePrinted (cut_after o ls more).definitions
+cut_after_printable None ls more h = tt
+cut_after_printable (Some d) ls more h =
+    let count = lines_before d.rest ls in
+    joined (defined d (take count ls)) (more (drop count ls)).definitions (tt, (tt, tt)) (h (drop count ls))
+
+cut_most_printable : (most : ℕ) (ls : List BlockLine) → CanBePrinted (cut_most most ls).definitions
+cut_most_printable zero ls = tt
+cut_most_printable (suc most) ls = cut_after_printable (definition_at (content_of (own_lines ls))) ls (cut_most most) (cut_most_printable most)
+
+cut_printable : (on : Constructs) (ls : List BlockLine) → CanBePrinted (cut on ls).definitions
+cut_printable on ls = choose (λ (c : Cut). CanBePrinted c.definitions) on.definition (cut_most (length ls) ls) (cut_into Nil ls) (cut_most_printable (length ls) ls) tt
+
+-- the lines that are left of a paragraph
+lines_left : (n : ℕ) (ls : List BlockLine) → AreLines ls → AreLines (drop n ls)
+lines_left zero ls h = h
+lines_left (suc n) [] h = tt
+lines_left (suc n) (a ∷ []) h = lines_left n [] tt
+lines_left (suc n) (a ∷ b ∷ others) h = lines_left n (b ∷ others) h.3
+
+cut_after_left : (o : Option LinkDefinition) (ls : List BlockLine) (more : List BlockLine → Cut)
+    → AreLines ls → ((left : List BlockLine) → AreLines left → AreLines (more left).left) → AreLines (cut_after o ls more).left
+cut_after_left None ls more h k = h
+cut_after_left (Some d) ls more h k = let count = lines_before d.rest ls in k (drop count ls) (lines_left count ls h)
+
+cut_most_left : (most : ℕ) (ls : List BlockLine) → AreLines ls → AreLines (cut_most most ls).left
+cut_most_left zero ls h = h
+cut_most_left (suc most) ls h = cut_after_left (definition_at (content_of (own_lines ls))) ls (cut_most most) h (cut_most_left most)
+
+cut_left : (on : Constructs) (ls : List BlockLine) → AreLines ls → AreLines (cut on ls).left
+cut_left on ls h = choose (λ (c : Cut). AreLines c.left) on.definition (cut_most (length ls) ls) (cut_into Nil ls) (cut_most_left (length ls) ls h) h
+
+paragraph_printable : (ls : List BlockLine) → AreLines ls → CanBePrinted (paragraph_of ls)
+paragraph_printable [] h = tt
+paragraph_printable (l ∷ ls) h = (without_ending (l ∷ ls) h, (tt, tt))
+
+-- ---- what is open
+
+abbrev LeafFits : OpenLeaf → Type 0
+LeafFits (Text ls) = Unit {0}
+LeafFits (Indented ls pending) = Unit {0}
+LeafFits (Fenced fence opening ls) = IsInfo fence.info
+LeafFits (OpenHtml kind ls) = Unit {0}
+
+abbrev Fits : Opening → Type 0
+Fits (Leaf leaf) = LeafFits leaf
+Fits (Inside c kids inner) = IsPrintableContainer c × CanBePrinted kids × Fits inner
+
+record TreeFits (t : Tree) : Type 0 where
+  done : CanBePrinted t.done
+  now : Fits t.now
+
+fits : (t : Tree) → CanBePrinted t.done → Fits t.now → TreeFits t
+fits t h k = record { done = h; now = k }
+
+record OptionFits (o : Option Tree) : Type 0 where
+  tree : IfSome o TreeFits
+
+some_fits : (t : Tree) → CanBePrinted t.done → Fits t.now → OptionFits (Some t)
+some_fits t h k = record { tree = fits t h k }
+
+leaf_closed : (on : Constructs) (leaf : OpenLeaf) → LeafFits leaf → AreLines (leaf_text leaf) → CanBePrinted (close_leaf on leaf)
+leaf_closed on (Text ls) h clean =
+    joined (cut on ls).definitions (paragraph_of (cut on ls).left) (cut_printable on ls) (paragraph_printable (cut on ls).left (cut_left on ls clean))
+leaf_closed on (Indented ls pending) h clean = (tt, (tt, blanks_printable pending))
+leaf_closed on (Fenced fence opening ls) h clean = (h, (tt, tt))
+leaf_closed on (OpenHtml kind ls) h clean = (tt, (tt, tt))
+
+close_printable : (on : Constructs) (now : Opening) → Fits now → AreLines (open_text now) → CanBePrinted (close on now)
+close_printable on (Leaf leaf) h clean = leaf_closed on leaf h clean
+close_printable on (Inside c kids inner) h clean =
+    holds_printable c (join kids (close on inner)) h.0 (joined kids (close on inner) h.1 (close_printable on inner h.2 clean))
+
+-- what isn't gone on with can be closed
+record CanClose (now : Opening) : Type 0 where
+  fits : Fits now
+  lines : AreLines (open_text now)
+
+after_fits : (on : Constructs) (away : Opening) (t : Tree) → CanClose away → TreeFits t → TreeFits (after on away t)
+after_fits on away t h k = record { done = joined (close on away) t.done (close_printable on away h.fits h.lines) k.done; now = k.now }
+
+with_line_fits : (line : BlockLine) (now : Opening) → Fits now → Fits (with_line line now)
+with_line_fits line (Leaf (Text ls)) h = tt
+with_line_fits line (Leaf (Indented ls pending)) h = tt
+with_line_fits line (Leaf (Fenced fence opening ls)) h = h
+with_line_fits line (Leaf (OpenHtml kind ls)) h = tt
+with_line_fits line (Inside c kids inner) h = (h.0, h.1, with_line_fits line inner h.2)
+
+taken_fits : (o : Option Tree) (other : Tree) → OptionFits o → TreeFits other → TreeFits (taken o other)
+taken_fits None other h k = k
+taken_fits (Some t) other h k = h.tree
+
+-- ---- a line
+
+module _ (on : Constructs) (e : Beside) (r : Rest) where
+  html_with_fits : (kind : ℕ) (ls : List BlockLine) → TreeFits (html_with kind ls r e)
+  html_with_fits kind ls =
+      let more = ls ++ rest_line r e ∷ [] in
+      choose TreeFits (html_ends_here kind r) (tree (ended (Html (own_lines more)) e.ending) nothing) (tree Nil (Leaf (OpenHtml kind more)))
+      (fits (tree (ended (Html (own_lines more)) e.ending) nothing) (tt, (tt, tt)) tt) (fits (tree Nil (Leaf (OpenHtml kind more))) tt tt)
+
+  takes_fits : (leaf : OpenLeaf) → LeafFits leaf → OptionFits (takes on leaf r e)
+  takes_fits (Text ls) h = record { tree = tt }
+  takes_fits (Indented ls pending) h = choose OptionFits (is_blank r) _ _ (some_fits _ tt tt) (choose OptionFits (starts_code_indented on r) _ _ (some_fits _ tt tt) record { tree = tt })
+  takes_fits (Fenced fence opening ls) h = choose OptionFits (is_fence_end on fence r) _ _ (some_fits _ (h, (tt, tt)) tt) (some_fits _ tt h)
+  takes_fits (OpenHtml kind ls) h =
+      choose OptionFits (ends_before_blank kind && is_blank r) None (Some (html_with kind ls r e)) record { tree = tt } record { tree = html_with_fits kind ls }
+
+  or_heading_fits : (o : Option Atx) → AtxFits o → OptionFits (or_heading e.ending o)
+  or_heading_fits None h = record { tree = tt }
+  or_heading_fits (Some atx) h = some_fits (tree (ended (Heading atx.rank (spaced_line atx.content None ∷ [])) e.ending) nothing) ((h.rank, h.content), (tt, tt)) tt
+
+  or_fence_fits : (o : Option Fence) (other : Option Tree) → FenceFits o → OptionFits other → OptionFits (or_fence e.ending o other)
+  or_fence_fits None other h k = k
+  or_fence_fits (Some fence) other h k = some_fits (tree Nil (Leaf (Fenced fence e.ending []))) tt h.info
+
+  or_html_fits : (o : Option ℕ) (other : Option Tree) → OptionFits other → OptionFits (or_html r e o other)
+  or_html_fits None other h = h
+  or_html_fits (Some kind) other h = record { tree = html_with_fits kind [] }
+
+  begins_fits : (paragraph : Bool) → HaveNoEnding r → OptionFits (begins on paragraph r e)
+  begins_fits paragraph clear =
+      choose OptionFits (starts_code_indented on r && not paragraph) _ _ (some_fits _ tt tt)
+      (or_fence_fits (fence_start on r) (or_html r e (html_start on paragraph r) (or_heading e.ending (heading_atx on r))) (fence_start_fits on r clear)
+      (or_html_fits (html_start on paragraph r) (or_heading e.ending (heading_atx on r)) (or_heading_fits (heading_atx on r) (heading_fits on r clear))))
+
+  heading_of_fits : (rank : ℕ) (definitions : Blocks) (ls : List BlockLine) → (1 ≤ rank) × (rank ≤ 6) → CanBePrinted definitions → AreLines ls → OptionFits (heading_of rank definitions ls e.ending)
+  heading_of_fits rank definitions [] h k clean = record { tree = tt }
+  heading_of_fits rank definitions (l ∷ ls) h k clean =
+      let heading = ended (Heading rank (own_lines (l ∷ ls))) e.ending in
+      some_fits (tree (join definitions heading) nothing) (joined definitions heading k ((h, heading_lines (l ∷ ls) clean), (tt, tt))) tt
+
+  underlined_fits : (o : Option ℕ) (ls : List BlockLine) → RankFits o → AreLines ls → OptionFits (underlined on o ls e.ending)
+  underlined_fits None ls h clean = record { tree = tt }
+  underlined_fits (Some rank) ls h clean = heading_of_fits rank (cut on ls).definitions (cut on ls).left h.rank (cut_printable on ls) (cut_left on ls clean)
+
+  -- the lines of the open paragraph where the line is in all of its containers
+  lines_here : (away : Opening) → AreLines (open_text away) → AreLines (text_here away)
+  lines_here (Leaf leaf) clean = clean
+  lines_here (Inside c kids inner) clean = tt
+
+  turns_fits : (away : Opening) → AreLines (open_text away) → OptionFits (turns on away r e.ending)
+  turns_fits away clean = underlined_fits (underline on r) (text_here away) (underline_fits on r) (lines_here away clean)
+
+  text_fits : (away : Opening) → CanClose away → TreeFits (text_line_of on away r e)
+  text_fits away h =
+      let line = rest_line r e in
+      choose TreeFits (has_text away) _ _ (fits (tree Nil (with_line line away)) tt (with_line_fits line away h.fits))
+      (after_fits on away (tree Nil (Leaf (Text (line ∷ [])))) h (fits (tree Nil (Leaf (Text (line ∷ [])))) tt tt))
+
+  break_fits : (away : Opening) → CanClose away → TreeFits (break_or_text on away r e)
+  break_fits away h =
+      let t = tree (ended Break e.ending) nothing in
+      choose TreeFits (is_break on r) _ _ (after_fits on away t h (fits t (tt, (tt, tt)) tt)) (text_fits away h)
+
+  begun_fits : (o : Option Tree) (away : Opening) (other : Tree) → CanClose away → OptionFits o → TreeFits other → TreeFits (begun on o away other)
+  begun_fits None away other h k l = l
+  begun_fits (Some t) away other h k l = after_fits on away t h k.tree
+
+  leaf_line_fits : (away : Opening) → HaveNoEnding r → CanClose away → TreeFits (leaf_line on away r e)
+  leaf_line_fits away clear h =
+      let t = tree (one (Blank e.ending)) nothing in
+      choose TreeFits (is_blank r) _ _ (after_fits on away t h (fits t (tt, tt) tt))
+      (begun_fits (begins on (has_text away) r e) away (taken (turns on away r e.ending) (break_or_text on away r e)) h (begins_fits (has_text away) clear)
+      (taken_fits (turns on away r e.ending) (break_or_text on away r e) (turns_fits away h.lines) (break_fits away h)))
+
+  start_fits : (o : Option Started) (away : Opening) (other : Tree) (more : Started → Tree) → StartFits o → StartedClear o → CanClose away → TreeFits other → ((s : Started) → HaveNoEnding s.rest → TreeFits (more s)) → TreeFits (start on o away other more)
+  start_fits None away other more s clear h k l = k
+  start_fits (Some s) away other more c clear h k l =
+      let t = tree Nil (Inside s.container (more s).done (more s).now) in
+      let f = l s clear in
+      after_fits on away t h (fits t tt (c.container, f.done, f.now))
+
+  in_container_fits : (c : Container) (kids : Blocks) (t : Tree) → IsPrintableContainer c → CanBePrinted kids → TreeFits t → TreeFits (in_container c kids t)
+  in_container_fits c kids t h k f = fits (in_container c kids t) tt (h, joined kids t.done k f.done, f.now)
+
+-- containers that start, and a leaf
+new_fits : (on : Constructs) (e : Beside) (most : ℕ) (all : Bool) (away : Opening) (r : Rest) → HaveNoEnding r → CanClose away → TreeFits (new most on all away e r)
+new_fits on e zero all away r clear h = leaf_line_fits on e r away clear h
+new_fits on e (suc most) all away r clear h =
+    let interrupts = all && has_text away in
+    start_fits on e r (starts on interrupts r) away (leaf_line on away r e) _ (starts_fits on interrupts r) (clear_start on interrupts r clear) h (leaf_line_fits on e r away clear h)
+    (λ s k. new_fits on (beside_in s.container r e) most true nothing s.rest k record { fits = tt; lines = tt })
+
+goes_on_fits : (on : Constructs) (e : Beside) (r : Rest) (o : Option Rest) (c : Container) (kids : Blocks) (inner : Opening) (more : Rest → Tree)
+    → HaveNoEnding r → SomeClear o → CanClose (Inside c kids inner)
+    → ((rest : Rest) → HaveNoEnding rest → TreeFits (more rest)) → TreeFits (goes_on o on c kids inner e r more)
+goes_on_fits on e r None c kids inner more clear some h k = new_fits on e (length r) false (Inside c kids inner) r clear h
+goes_on_fits on e r (Some rest) c kids inner more clear some h k = in_container_fits on e r c kids (more rest) h.fits.0 h.fits.1 (k rest some)
+
+grow_fits : (on : Constructs) (e : Beside) (now : Opening) (r : Rest) → HaveNoEnding r → CanClose now → TreeFits (grow on e now r)
+grow_fits on e (Leaf leaf) r clear h =
+    taken_fits (takes on leaf r e) (new (length r) on true (Leaf leaf) e r) (takes_fits on e r leaf h.fits) (new_fits on e (length r) true (Leaf leaf) r clear h)
+grow_fits on e (Inside c kids inner) r clear h =
+    goes_on_fits on e r (continues on c (began_blank kids inner) r) c kids inner (grow on (beside_in c r e) inner) clear
+    (clear_continue on c (began_blank kids inner) r clear) h
+    (λ rest k. grow_fits on (beside_in c r e) inner rest k record { fits = h.fits.2; lines = h.lines })
+
+-- ---- the whole
+
+step_fits : (on : Constructs) (before : Kind) (t : Tree) (line : TextLine) → HaveNoEnding line.content → AreLines (open_text t.now) → TreeFits t
+    → TreeFits (step on before t line)
+step_fits on before t line clear clean h =
+    let beside = beside_line before line in
+    let more = grow_fits on beside t.now (whole line.content) (clear_codes 0 line.content clear) record { fits = h.now; lines = clean } in
+    record { done = joined t.done (grow on beside t.now (whole line.content)).done h.done more.done; now = more.now }
+
+closed_printable : (on : Constructs) (t : Tree) → TreeFits t → AreLines (open_text t.now) → CanBePrinted (closed on t)
+closed_printable on t h clean = joined t.done (close on t.now) h.done (close_printable on t.now h.now clean)
+
+-- after a line that ended with `e`
+steps_printable : (on : Constructs) (before : Kind) (e : LineEnding) (t : Tree) (ls : List TextLine) → AreTextLines ls → AreLinesTo (Some e) (open_text t.now)
+    → TreeFits t → CanBePrinted (closed on (steps on before t ls))
+steps_printable on before e t [] p k h = closed_printable on t h (are_lines (Some e) (open_text t.now) k)
+steps_printable on before e t (line ∷ []) p k h =
+    let more = step on before t line in
+    closed_printable on more (step_fits on before t line p (are_lines (Some e) (open_text t.now) k) h)
+    (are_lines line.ending (open_text more.now) (open_step on before e t line p k))
+steps_printable on before e t (line ∷ next ∷ others) p k h =
+    let more = step on before t line in
+    steps_printable on Whitespace p.1.0 more (next ∷ others) p.2 (subst (λ o. AreLinesTo o (open_text more.now)) p.1.1 (open_step on before e t line p.0 k))
+    (step_fits on before t line p.0 (are_lines (Some e) (open_text t.now) k) h)
+
+pub blocks_printable : (on : Constructs) (before : Kind) (text : List ℕ) → ((k : ℕ) → get_or text k 0 < 256) → CanBePrinted (blocks on before text)
+blocks_printable on before text bytes = steps_printable on before LineFeed empty_tree (lines text) (lines_of_text text bytes) tt (fits empty_tree tt tt)
+
+-- rows that stand for the blocks of a text
+pub shown_printable : (on : Constructs) (before : Kind) (text : List ℕ) (rows : List Row) (ls left : List BlockLine) → ((k : ℕ) → get_or text k 0 < 256)
+    → shown rows ls ≡ shown_as (rows_of (blocks on before text)) left → ArePrintable (shown rows ls).rows
+shown_printable on before text rows ls left bytes h =
+    subst ArePrintable (sym (ap (λ (s : Shown). s.rows) h)) (printable_rows_of (blocks on before text) (blocks_printable on before text bytes))

@@ -1,0 +1,92 @@
+-- The rows of blocks print what the blocks print.
+use Rattle.std.proofs.Common.{◌≡◌, ℕ, Bool, true, false, List, [], ◌∷◌, ◌++◌, refl, sym, ap, ◌∙◌}
+use Rattle.std.specs.List.{fold, All}
+use Rattle.std.proofs.lemmas.List.Sums.{fold-append}
+use Rattle.std.proofs.lemmas.List.Elements.{All-nil, All-cons, All-head, All-tail}
+use Rattle.definition_block.specs.declared.container.Container.{Container}
+use Rattle.definition_block.specs.declared.container.Container.TheVariants.{Quote, Item}
+use Rattle.definition_block.specs.Tree.{Block, Paragraph, Heading, Break, IndentedCode, FencedCode, Html, Definition, Holds, Items, Ending, Blank, Blocks, Nil, Cons}
+use Rattle.definition_block.specs.Lists.{grouped}
+use Rattle.definition_page.specs.Pieces.{print, layout}
+use Rattle.definition_page.specs.Document.{Document}
+use Rattle.definition_page.specs.Html.{children_pieces, ends_blank, is_blank_ending, last_piece, document_pieces}
+use Rattle.block_rows.specs.Rows.{BlockRow, Single, Exit, entered, rows_of, block_rows, spaced_definition}
+use Rattle.html_page.specs.declared.level.Kind.TheVariants as kind
+use Rattle.html_page.specs.declared.loose.Place.{Place}
+use Rattle.html_page.specs.Printable.{IsPrintable, IsPrintableRow, ArePrintable, CanBePrinted}
+use Rattle.html_page.specs.Loose.{Passed}
+use Rattle.html_page.specs.Levels.{new_level}
+use Rattle.html_page.specs.Printed.{Printed, printed_at, printed, is_blank_row, ends_blank_rows, rows_html}
+use Rattle.html_page.proofs.Places.{blocks_passed}
+use Rattle.html_page.proofs.Children.{blocks_printed}
+
+-- ---- whether the last row is the ending of a blank line
+
+abbrev blank_after : Bool → List BlockRow → Bool
+blank_after blank rows = fold (λ (before : Bool) row. is_blank_row row) blank rows
+
+block_ends_blank : (b : Block) (blank : Bool) → IsPrintable b → blank_after blank (block_rows b) ≡ is_blank_ending b
+block_ends_blank (Paragraph ls) blank h = refl
+block_ends_blank (Heading rank ls) blank h = refl
+block_ends_blank Break blank h = refl
+block_ends_blank (IndentedCode ls) blank h = refl
+block_ends_blank (FencedCode info closed ls) blank h = refl
+block_ends_blank (Html ls) blank h = refl
+block_ends_blank (Definition label destination title) blank h = refl
+block_ends_blank (Holds c kids) blank h =
+    fold-append (λ (before : Bool) row. is_blank_row row) (is_blank_row (entered c)) (rows_of kids) (Exit ∷ [])
+block_ends_blank (Items items) blank h = absurd h
+block_ends_blank (Ending ending) blank h = refl
+block_ends_blank (Blank ending) blank h = refl
+
+rows_end_blank : (bs : Blocks) (blank : Bool) → CanBePrinted bs → blank_after blank (rows_of bs) ≡ ends_blank blank bs
+rows_end_blank Nil blank h = refl
+rows_end_blank (Cons b bs) blank h =
+    fold-append (λ (before : Bool) row. is_blank_row row) blank (block_rows b) (rows_of bs)
+    ∙ ap (λ x. blank_after x (rows_of bs)) (block_ends_blank b blank h.0)
+    ∙ rows_end_blank bs (is_blank_ending b) h.1
+
+-- ---- the page
+
+pub rows_html_of : (d : Document) (default : List ℕ) (bs : Blocks) → CanBePrinted bs → rows_html d default (rows_of bs) ≡ layout default (document_pieces d bs)
+rows_html_of d default bs h =
+    let pieces = children_pieces d true false false (grouped bs) in
+    let start = new_level kind.Document false in
+    let last = λ (out : List ℕ) (blank : Bool). fold (print default) out (last_piece blank) in
+    let blank = ends_blank_rows (rows_of bs) in
+    ap (λ (ps : List Place). last (printed d default (printed_at [] start [] ps) (rows_of bs)).out blank) (ap (λ (p : Passed). p.places) (blocks_passed bs h [] []))
+    ∙ ap (λ (p : Printed). last p.out blank) ((blocks_printed d default bs h).children start [] [] [] refl)
+    ∙ ap (last (layout default pieces)) (rows_end_blank bs false h)
+    ∙ sym (fold-append (print default) [] pieces (last_piece (ends_blank false bs)))
+
+-- ---- what can be printed
+
+all_append : {X : Type 0} (P : X → Type 0) (xs ys : List X) → All P xs → All P ys → All P (xs ++ ys)
+all_append P [] ys h k = k
+all_append P (x ∷ xs) ys h k = All-cons P x (xs ++ ys) (All-head P x xs h) (all_append P xs ys (All-tail P x xs h) k)
+
+all_one : (row : BlockRow) → IsPrintableRow row → ArePrintable (row ∷ [])
+all_one row h = All-cons IsPrintableRow row [] h (All-nil IsPrintableRow)
+
+entered_printable : (c : Container) → IsPrintableRow (entered c)
+entered_printable Quote = tt
+entered_printable (Item item) = tt
+
+mutual
+  pub printable_block : (b : Block) → IsPrintable b → ArePrintable (block_rows b)
+  printable_block (Paragraph ls) h = all_one (Single (Paragraph ls)) h
+  printable_block (Heading rank ls) h = all_one (Single (Heading rank ls)) h
+  printable_block Break h = all_one (Single Break) h
+  printable_block (IndentedCode ls) h = all_one (Single (IndentedCode ls)) h
+  printable_block (FencedCode info closed ls) h = all_one (Single (FencedCode info closed ls)) h
+  printable_block (Html ls) h = all_one (Single (Html ls)) h
+  printable_block (Definition label destination title) h = all_one (Single (spaced_definition label destination title)) h
+  printable_block (Holds c kids) h =
+      All-cons IsPrintableRow (entered c) (rows_of kids ++ Exit ∷ []) (entered_printable c) (all_append IsPrintableRow (rows_of kids) (Exit ∷ []) (printable_rows_of kids h.1) (all_one Exit tt))
+  printable_block (Items items) h = absurd h
+  printable_block (Ending ending) h = all_one (Single (Ending ending)) h
+  printable_block (Blank ending) h = all_one (Single (Blank ending)) h
+
+  pub printable_rows_of : (bs : Blocks) → CanBePrinted bs → ArePrintable (rows_of bs)
+  printable_rows_of Nil h = All-nil IsPrintableRow
+  printable_rows_of (Cons b bs) h = all_append IsPrintableRow (block_rows b) (rows_of bs) (printable_block b h.0) (printable_rows_of bs h.1)

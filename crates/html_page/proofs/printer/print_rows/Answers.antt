@@ -1,0 +1,90 @@
+use Rattle.std.proofs.Common.{◌≡◌, ℕ, Bool, ◌+◌, List, string_bytes, sym, ap, ◌∙◌, take, drop, get_or, arith, length, ◌-◌, subst}
+use Rattle.std.specs.List.{fold}
+use Rattle.std.proofs.lemmas.List.{take_rest, take_all}
+use Rattle.markdown_options.specs.declared.line_ending.LineEnding.{LineEnding}
+use Rattle.markdown_options.specs.LineEndings.{ending_bytes}
+use Rattle.block_rows.specs.declared.row.Row.{Row}
+use Rattle.block_rows.specs.declared.row.Row.TheVariants.{Paragraph}
+use Rattle.definition_page.specs.Document.{document}
+use Rattle.html_text.specs.Texts.{text_tables}
+use Rattle.definition_text.specs.BlockLines.{BlockLine}
+use Rattle.block_rows.specs.Rows.{Shown, row_shown, piece_lines, piece_line, shown, lines_taken}
+use Rattle.html_page.specs.Printable.{IsPrintableRow}
+use Rattle.html_page.specs.Printed.{Printed, row_printed, printed, blank_page, ends_blank_rows, rows_html, printed_of}
+use Rattle.definition_page.specs.Pieces.{Fresh, print}
+use Rattle.definition_page.specs.Html.{last_piece}
+use Rattle.html_page.specs.declared.printer.Printer.{Printer}
+use Rattle.html_page.proofs.RowsOf.{rows_html_of}
+use Rattle.block_rows.proofs.RowSteps.{shown_more, taken_more, left_more}
+use Rattle.html_page.proofs.RowSteps.{printed_more, printable_at}
+use Rattle.html_page.proofs.printer.print_rows.Goals as goal
+use Rattle.html_page.proofs.printer.print_rows.Goals.{then-ends_blank+in_ok-fresh, else-ends_blank}
+
+pub row-requires-clause-printable : goal.row-requires-clause-printable
+row-requires-clause-printable g c =
+    let rows = c.args.rows.now in
+    let pieces = c.args.pieces.now in
+    let i = c.loop-row.row-index in
+    let row : Row = get_or rows i (Paragraph 0) in
+    subst (λ (ls : List BlockLine). IsPrintableRow (row_shown row ls))
+    (c.loop-row.invariant.left ∙ sym (ap piece_lines (take_rest pieces c.loop-row.taken)))
+    (printable_at rows (piece_lines pieces) i (Paragraph 0) c.loop-row-test.true c.requires.printable)
+
+pub loop-row-preserved : goal.loop-row-preserved
+loop-row-preserved g c =
+    let rows = c.args.rows.now in
+    let pieces = c.args.pieces.now in
+    let i = c.loop-row.row-index in
+    let row : Row = get_or rows i (Paragraph 0) in
+    let default = ending_bytes c.args.default_ending in
+    let all = piece_lines pieces in
+    let start = blank_page (shown rows all).rows in
+    let so_far = shown (take i rows) all in
+    let k = c.loop-row.invariant in
+    let more = shown_more rows all i (Paragraph 0) c.loop-row-test.true in
+    let rest : List BlockLine = piece_lines (take (length pieces - c.loop-row.taken) (drop c.loop-row.taken pieces)) in
+    let at : rest ≡ so_far.left = ap piece_lines (take_rest pieces c.loop-row.taken) ∙ sym k.left in
+    record {
+      same_default = c.in_ok-row.ensures.default ∙ k.same_default;
+      printed = λ ds has.
+          let d = document c.args.texts.now.options.now (text_tables (g.T.Tables.reference_of c.args.texts.now.tables.now) (g.T.Tables.punctuation_of c.args.texts.now.tables.now)) ds in
+          c.in_ok-row.ensures.printed ds has
+          ∙ ap (λ (e : LineEnding). row_printed d (ending_bytes e) (printed_of c.loop-row.printer) (row_shown row rest)) k.same_default
+          ∙ ap (λ (ls : List BlockLine). row_printed d default (printed_of c.loop-row.printer) (row_shown row ls)) at
+          ∙ ap (λ (p : Printed). row_printed d default p (row_shown row so_far.left)) (k.printed ds has)
+          ∙ sym (ap (λ (s : Shown). printed d default start s.rows) more ∙ printed_more d default start so_far.rows (row_shown row so_far.left));
+      left =
+          ap (λ (s : Shown). s.left) more
+          ∙ ap (drop (lines_taken row)) k.left
+          ∙ left_more piece_line (lines_taken row) c.loop-row.taken pieces
+          ∙ ap (λ n. piece_lines (drop (c.loop-row.taken + n) pieces)) (sym c.lines_taken.ensures);
+      enough = omega (arith, k.enough, c.lines_taken.ensures, taken_more rows i (Paragraph 0) c.loop-row-test.true);
+    }
+
+pub returns : goal.returns
+returns g c = λ ds has bs rows_are can.
+    let d = document c.args.texts.now.options.now (text_tables (g.T.Tables.reference_of c.args.texts.now.tables.now) (g.T.Tables.punctuation_of c.args.texts.now.tables.now)) ds in
+    let rows = c.args.rows.now in
+    let all = piece_lines c.args.pieces.now in
+    let default = ending_bytes c.args.default_ending in
+    let every = (shown rows all).rows in
+    let start = blank_page every in
+    let k = c.loop-row.invariant in
+    let out = string_bytes c.loop-row.printer.page.html in
+    let whole : take c.loop-row.row-index rows ≡ rows = take_all c.loop-row.row-index rows c.loop-row-test.false in
+    let laid_out : out ≡ (printed d default start every).out =
+    ap (λ (p : Printed). p.out) (k.printed ds has ∙ ap (λ (rs : List Row). printed d default start (shown rs all).rows) whole) in
+    let ends = λ (x : List ℕ) (blank : Bool). fold (print default) x (last_piece blank) in
+    let ended : string_bytes c.if-ends_blank.printer.page.html ≡ ends out c.ends_blank.result = elim c.if-ends_blank.branch [
+      | then-ends_blank+in_ok-fresh w ↦
+          ap (λ (p : Printer _). string_bytes p.page.html) w.printer-is
+          ∙ w.in_ok-fresh.ensures.printed
+          ∙ ap (λ (e : LineEnding). print (ending_bytes e) out Fresh) k.same_default
+          ∙ ap (ends out) (sym w.if-ends_blank.true)
+      | else-ends_blank w ↦ ap (λ (p : Printer _). string_bytes p.page.html) w.printer-is ∙ ap (ends out) (sym w.if-ends_blank.false)
+    ] in
+    ended
+    ∙ ap (ends out) (c.ends_blank.ensures all)
+    ∙ ap (λ x. ends x (ends_blank_rows every)) laid_out
+    ∙ ap (rows_html d default) rows_are
+    ∙ rows_html_of d default bs can

@@ -1,0 +1,50 @@
+-- What can be printed.
+use Rattle.std.specs.Prelude.{◌≡◌, ◌≤◌, true, List, [], ◌∷◌}
+use Rattle.std.specs.List.{list_all, All}
+use Rattle.definition_block.specs.declared.container.Container.{Container}
+use Rattle.definition_block.specs.declared.container.Container.TheVariants.{Quote, Item}
+use Rattle.definition_text.specs.Columns.{is_byte}
+use Rattle.block_rows.specs.ParagraphLines.{HaveNoEnding, AreLines}
+use Rattle.definition_text.specs.BlockLines.{BlockLine}
+use Rattle.definition_block.specs.Tree.{Block, Paragraph, Heading, Break, IndentedCode, FencedCode, Html, Definition, Holds, Items, Ending, Blank, Blocks, Nil, Cons}
+use Rattle.block_rows.specs.Rows.{BlockRow, Single, EnterQuote, EnterItem, Exit}
+
+-- whether a container can be printed: an item has a marker
+abbrev pub IsPrintableContainer : Container → Type 0
+IsPrintableContainer Quote = Unit {0}
+IsPrintableContainer (Item item) = 1 ≤ item.marker
+
+-- the lines of a heading: an ATX heading has one, which may be empty
+abbrev pub AreHeadingLines : List BlockLine → Type 0
+AreHeadingLines [] = Unit {0}
+AreHeadingLines (line ∷ []) = HaveNoEnding line.codes
+AreHeadingLines (line ∷ next ∷ others) = AreLines (line ∷ next ∷ others)
+
+-- Whether blocks can all be printed: a paragraph has lines of a text, a heading has a rank from 1 to 6 and such lines, an info is made of bytes and has no line ending, and so it is in each container. Lists are made when they are printed.
+abbrev mutual
+  pub IsPrintable : Block → Type 0
+  IsPrintable (Paragraph ls) = AreLines ls
+  IsPrintable (Heading rank ls) = ((1 ≤ rank) × (rank ≤ 6)) × AreHeadingLines ls
+  IsPrintable Break = Unit {0}
+  IsPrintable (IndentedCode ls) = Unit {0}
+  IsPrintable (FencedCode info closed ls) = (list_all is_byte info ≡ true) × HaveNoEnding info
+  IsPrintable (Html ls) = Unit {0}
+  IsPrintable (Definition label destination title) = Unit {0}
+  IsPrintable (Holds c kids) = IsPrintableContainer c × CanBePrinted kids
+  IsPrintable (Items items) = ⊥
+  IsPrintable (Ending ending) = Unit {0}
+  IsPrintable (Blank ending) = Unit {0}
+
+  pub CanBePrinted : Blocks → Type 0
+  CanBePrinted Nil = Unit {0}
+  CanBePrinted (Cons b bs) = IsPrintable b × CanBePrinted bs
+
+-- the same of rows
+abbrev pub IsPrintableRow : BlockRow → Type 0
+IsPrintableRow (Single b) = IsPrintable b
+IsPrintableRow EnterQuote = Unit {0}
+IsPrintableRow (EnterItem marker number) = Unit {0}
+IsPrintableRow Exit = Unit {0}
+
+abbrev pub ArePrintable : List BlockRow → Type 0
+ArePrintable rows = All IsPrintableRow rows

@@ -1,0 +1,80 @@
+//! Headings (CommonMark 4.2 and 4.3).
+ghost use Rattle.std.specs.Prelude.{◌≡◌, ◌≤◌, ◌+◌, ◌++◌, ◌∷◌, [], List, OnOk, string_bytes, codes, true, false};
+ghost use Rattle.definition_page.specs.Document.{document, text_of};
+ghost use Rattle.definition_inline.specs.Definition.{Definition};
+ghost use Rattle.definition_text.specs.BlockLines.{own_lines};
+ghost use Rattle.definition_block.specs.Tree.{Heading};
+ghost use Rattle.definition_page.specs.Html.{block_pieces};
+ghost use Rattle.block_rows.specs.Rows.{piece_lines};
+ghost use Rattle.html_text.specs.Texts.{HasDefinitions, text_tables};
+ghost use Rattle.html_page.specs.Printable.{AreHeadingLines};
+ghost use Rattle.html_page.specs.Printed.{laid};
+
+use crate::page::Page;
+use html_text::Texts;
+use block_rows::Piece;
+use markdown_options::Tables;
+use std::alloc::{AllocError, Allocator};
+
+impl<A: Allocator + Clone> Page<A> {
+    /// Prints a heading of a rank (CommonMark 4.2 and 4.3).
+    pub(crate) fn heading<T: Tables>(
+        &mut self,
+        texts: &Texts<'_, T, A>,
+        rank: u8,
+        lines: &[Piece<'_>],
+    ) -> Result<(), AllocError>
+        requires { (1 ≤ rank) × (rank ≤ 6) }
+        ensures default { self.new.default_ending ≡ self.old.default_ending }
+        ensures printed { (ds : List Definition) → HasDefinitions texts.now.labels.now texts.now.links.now ds → AreHeadingLines (own_lines (piece_lines lines.now)) →
+            OnOk result (string_bytes self.new.html ≡ laid self.old.default_ending (string_bytes self.old.html) (block_pieces (document texts.now.options.now (text_tables (T.reference_of texts.now.tables.now) (T.punctuation_of texts.now.tables.now)) ds) true false false (Heading rank (own_lines (piece_lines lines.now))))) }
+    {
+        self.fresh()?;
+        self.heading_tag("<h", rank)?;
+        self.heading_text(texts, lines)?;
+        self.heading_tag("</h", rank)
+    }
+
+    /// Prints the text of a heading, which may be one empty line.
+    fn heading_text<T: Tables>(
+        &mut self,
+        texts: &Texts<'_, T, A>,
+        lines: &[Piece<'_>],
+    ) -> Result<(), AllocError>
+        ensures default { self.new.default_ending ≡ self.old.default_ending }
+        ensures printed { (ds : List Definition) → HasDefinitions texts.now.labels.now texts.now.links.now ds → AreHeadingLines (own_lines (piece_lines lines.now)) →
+            OnOk result (string_bytes self.new.html ≡ string_bytes self.old.html ++ text_of (document texts.now.options.now (text_tables (T.reference_of texts.now.tables.now) (T.punctuation_of texts.now.tables.now)) ds) (own_lines (piece_lines lines.now))) }
+    {
+        if lines.len() == 1 {
+            texts.push_line(&mut self.html, &mut self.buffers, &lines[0])
+        } else {
+            texts.push_text(&mut self.html, &mut self.buffers, lines)
+        }
+    }
+
+    /// Prints a tag that ends with a rank.
+    fn heading_tag(&mut self, name: &str, rank: u8) -> Result<(), AllocError>
+        requires { (1 ≤ rank) × (rank ≤ 6) }
+        ensures default { self.new.default_ending ≡ self.old.default_ending }
+        ensures printed { OnOk result (string_bytes self.new.html ≡ string_bytes self.old.html ++ (name.now ++ (48 + rank) ∷ codes ">")) }
+    {
+        self.html.push_str(name)?;
+        self.html.push_str(digit(rank))?;
+        self.html.push_str(">")
+    }
+}
+
+/// The digit of a rank.
+fn digit(rank: u8) -> &'static str
+    requires { (1 ≤ rank) × (rank ≤ 6) }
+    ensures { result.now ≡ (48 + rank) ∷ [] }
+{
+    match rank {
+        1 => "1",
+        2 => "2",
+        3 => "3",
+        4 => "4",
+        5 => "5",
+        _ => "6",
+    }
+}

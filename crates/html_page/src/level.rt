@@ -1,0 +1,75 @@
+//! What holds a row (CommonMark 5).
+ghost use Rattle.std.specs.Prelude.{◌≡◌, List};
+ghost use Rattle.definition_text.specs.BlockLines.{BlockLine};
+ghost use Rattle.block_rows.specs.Rows.{row_shown};
+ghost use Rattle.html_page.specs.Levels.{is_document, is_list, level_after, new_level};
+
+use block_rows::Row;
+
+/// What holds a row: the document, or the innermost container or list that is open.
+#[derive(Clone, Copy)]
+pub(crate) enum Kind {
+    Document,
+    Quote,
+    /// A list, with the number of its first item.
+    List { number: Option<u32> },
+    /// An item, which may be the last of its list.
+    Item { last: bool },
+}
+
+/// What holds a row, and what was printed in it so far.
+#[derive(Clone, Copy)]
+pub(crate) struct Level {
+    pub(crate) kind: Kind,
+    /// Whether paragraphs in it are printed as their text alone (CommonMark 5.3).
+    pub(crate) tight: bool,
+    /// Whether its last block that prints anything, if it has any, is such a paragraph.
+    pub(crate) plain: bool,
+    /// Whether the last row silences an ending right after it.
+    pub(crate) silent: bool,
+}
+
+impl Level {
+    /// Nothing was printed yet.
+    pub(crate) fn new(kind: Kind, tight: bool) -> Level
+        ensures { result ≡ new_level kind tight }
+    {
+        Level {
+            kind,
+            tight,
+            plain: true,
+            silent: false,
+        }
+    }
+
+    /// The level after one more row in it. An ending right after a tight paragraph or a definition
+    /// prints nothing, nor does one after fenced code at the top that isn't closed.
+    pub(crate) fn after(self, row: Row) -> Level
+        ensures { (ls : List BlockLine) → result ≡ level_after self (row_shown row ls) }
+    {
+        let (plain, silent) = match row {
+            Row::Paragraph(_) | Row::WholeParagraph(_) => (self.tight, self.tight),
+            Row::Definition(_) => (self.plain, true),
+            Row::UnclosedCode(_) => (false, self.is_document()),
+            Row::Ending(_) | Row::Blank(_) => (self.plain, false),
+            _ => (false, false),
+        };
+        Level {
+            plain,
+            silent,
+            ..self
+        }
+    }
+
+    pub(crate) fn is_document(self) -> bool
+        ensures { result ≡ is_document self.kind }
+    {
+        matches!(self.kind, Kind::Document)
+    }
+
+    pub(crate) fn is_list(self) -> bool
+        ensures { result ≡ is_list self.kind }
+    {
+        matches!(self.kind, Kind::List { .. })
+    }
+}

@@ -1,0 +1,161 @@
+//! Which lists are loose (CommonMark 5.3), and where they end.
+ghost use Rattle.std.specs.Prelude.{◌≡◌, List, IfOk, OnOk, reverse};
+ghost use Rattle.std.specs.List.{list_any};
+ghost use Rattle.definition_text.specs.BlockLines.{BlockLine};
+ghost use Rattle.block_rows.specs.Rows.{row_shown, shown};
+ghost use Rattle.html_page.specs.Loose.{before_block, before_ending, before_item, place_at, passed_of, pass_row, pass_item, left_behind, places_of, starts_item};
+
+use block_rows::Row;
+use std::alloc::{AllocError, Allocator};
+
+/// What is known of an item where it starts.
+#[derive(Clone, Copy, Default)]
+pub(crate) struct Place {
+    /// Whether the list from this item on is loose.
+    pub(crate) loose: bool,
+    /// Whether the list goes on after this item.
+    pub(crate) goes_on: bool,
+}
+
+/// What stands after a place, among the children of one container.
+#[derive(Clone, Copy, Default)]
+struct Ahead {
+    /// Whether a block does.
+    some: bool,
+    /// Whether an ending comes first.
+    ended: bool,
+    /// Whether two endings or more do.
+    apart: bool,
+    /// The marker of the item that comes first, or after endings, and 0 if no item does.
+    marker: u8,
+    /// Whether the list from this item on is loose.
+    loose: bool,
+    /// Whether some two neighbouring children have a line between them. A list counts as one.
+    gap: bool,
+}
+
+impl Ahead {
+    /// Before a block that is no item.
+    fn before_block(self) -> Ahead
+        ensures { result ≡ before_block self }
+    {
+        Ahead {
+            some: true,
+            gap: self.apart && self.some || self.gap,
+            ..Ahead::default()
+        }
+    }
+
+    /// Before an ending.
+    fn before_ending(self) -> Ahead
+        ensures { result ≡ before_ending self }
+    {
+        Ahead {
+            ended: true,
+            apart: self.ended,
+            ..self
+        }
+    }
+
+    /// What is known of an item before this, whose own children may have a gap.
+    fn place(self, marker: u8, gap: bool) -> Place
+        ensures { result ≡ place_at self marker gap }
+    {
+        let goes_on = self.marker == marker;
+        Place {
+            loose: gap || goes_on && (self.apart || self.loose),
+            goes_on,
+        }
+    }
+
+    /// Before an item.
+    fn before_item(self, marker: u8, place: Place) -> Ahead
+        ensures { result ≡ before_item self marker place }
+    {
+        Ahead {
+            some: true,
+            marker,
+            loose: place.loose,
+            gap: !place.goes_on && self.apart && self.some || self.gap,
+            ..Ahead::default()
+        }
+    }
+}
+
+/// A pass over rows from their end to their front.
+#[derive(Drop)]
+struct Pass<A: Allocator> {
+    ahead: Ahead,
+    /// What stands after the containers that are open.
+    outer: Vec<Ahead, A>,
+    /// The places of the items so far, that of the first item last.
+    places: Vec<Place, A>,
+}
+
+impl<A: Allocator> Pass<A> {
+    /// One row more, in front of the others.
+    fn row(&mut self, row: Row) -> Result<(), AllocError>
+        ensures { OnOk result ((ls : List BlockLine) → passed_of self.new ≡ pass_row (passed_of self.old) (row_shown row ls)) }
+    {
+        match row {
+            Row::Exit => {
+                self.outer.push(self.ahead)?;
+                self.ahead = Ahead::default();
+            }
+            Row::EnterItem { marker, .. } => self.item(marker)?,
+            Row::EnterQuote => self.ahead = self.leave().before_block(),
+            Row::Ending(_) | Row::Blank(_) => self.ahead = self.ahead.before_ending(),
+            _ => self.ahead = self.ahead.before_block(),
+        }
+        Ok(())
+    }
+
+    /// The start of an item.
+    fn item(&mut self, marker: u8) -> Result<(), AllocError>
+        ensures { OnOk result (passed_of self.new ≡ pass_item (passed_of self.old) marker) }
+    {
+        let gap = self.ahead.gap;
+        let after = self.leave();
+        let place = after.place(marker, gap);
+        self.ahead = after.before_item(marker, place);
+        self.places.push(place)?;
+        Ok(())
+    }
+
+    /// What stands after the container that starts here.
+    fn leave(&mut self) -> Ahead
+        ensures ahead { result ≡ (left_behind (passed_of self.old)).ahead }
+        ensures others { passed_of self.new ≡ record (passed_of self.old) { outer = (left_behind (passed_of self.old)).outer } }
+    {
+        self.outer.pop().unwrap_or_default()
+    }
+}
+
+/// The places of all items, that of the first item last.
+pub(crate) fn places<A: Allocator + Clone>(
+    alloc: A,
+    rows: &[Row],
+) -> Result<Vec<Place, A>, AllocError>
+    ensures { IfOk result (λ places. (ls : List BlockLine) → reverse places.items ≡ places_of (shown rows.now ls).rows) }
+{
+    if !has_items(rows) {
+        return Ok(Vec::new(alloc));
+    }
+    let mut pass = Pass {
+        ahead: Ahead::default(),
+        outer: Vec::new(alloc.clone()?),
+        places: Vec::new(alloc),
+    };
+    for row in rows.iter().rev() {
+        pass.row(*row)?;
+    }
+    let Pass { places, .. } = pass;
+    Ok(places)
+}
+
+/// Whether an item starts in some row.
+fn has_items(rows: &[Row]) -> bool
+    ensures { result ≡ list_any starts_item rows.now }
+{
+    rows.iter().any(|row| matches!(row, Row::EnterItem { .. }))
+}

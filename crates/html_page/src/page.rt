@@ -1,0 +1,165 @@
+//! The page, printed piece by piece.
+ghost use Rattle.std.specs.Prelude.{◌≡◌, ◌≤◌, ◌<◌, ℕ, List, slice_index, ◌++◌, OnOk, string_bytes, length, true, false};
+ghost use Rattle.markdown_options.specs.LineEndings.{ending_bytes};
+ghost use Rattle.definition_page.specs.Document.{Document, document};
+ghost use Rattle.definition_text.specs.Lines.{ending_text};
+ghost use Rattle.definition_inline.specs.Definition.{Definition};
+ghost use Rattle.block_rows.specs.ParagraphLines.{AreLines};
+ghost use Rattle.definition_text.specs.BlockLines.{own_lines};
+ghost use Rattle.definition_block.specs.Tree.{Paragraph, Break};
+ghost use Rattle.definition_page.specs.Pieces.{Fresh, is_fresh, print};
+ghost use Rattle.definition_page.specs.Html.{block_pieces};
+ghost use Rattle.block_rows.specs.Rows.{lines_taken, piece_lines, row_shown, whole_lines};
+ghost use Rattle.html_text.specs.Texts.{HasDefinitions, text_tables};
+ghost use Rattle.html_page.specs.Levels.{row_pieces};
+ghost use Rattle.html_page.specs.Printable.{IsPrintableRow};
+ghost use Rattle.html_page.specs.Printed.{laid};
+
+use crate::level::Level;
+use html_text::{TextBuffers, Texts};
+use block_rows::{Piece, Row};
+use markdown_options::{LineEnding, Tables};
+use std::alloc::{AllocError, Allocator};
+
+/// A page that is being printed.
+#[derive(Drop)]
+pub(crate) struct Page<A: Allocator + Clone> {
+    pub(crate) html: String<A>,
+    pub(crate) buffers: TextBuffers<A>,
+    pub(crate) default_ending: LineEnding,
+}
+
+impl<A: Allocator + Clone> Page<A> {
+    /// Prints a block, or the ending of a line. A block takes its lines from the front of these.
+    /// A definition (CommonMark 4.7) prints nothing, nor does any other row here.
+    pub(crate) fn block<T: Tables>(
+        &mut self,
+        texts: &Texts<'_, T, A>,
+        row: Row,
+        level: Level,
+        lines: &[Piece<'_>],
+    ) -> Result<(), AllocError>
+        requires enough { lines_taken row ≤ length lines.now }
+        requires printable { IsPrintableRow (row_shown row (piece_lines lines.now)) }
+        ensures default { self.new.default_ending ≡ self.old.default_ending }
+        ensures printed { (ds : List Definition) → HasDefinitions texts.now.labels.now texts.now.links.now ds →
+            OnOk result (string_bytes self.new.html ≡ laid self.old.default_ending (string_bytes self.old.html) (row_pieces (document texts.now.options.now (text_tables (T.reference_of texts.now.tables.now) (T.punctuation_of texts.now.tables.now)) ds) level (row_shown row (piece_lines lines.now)))) }
+    {
+        let top = level.is_document();
+        match row {
+            Row::Paragraph(count) => self.paragraph(texts, level.tight, &lines[..count]),
+            Row::WholeParagraph(count) => {
+                self.whole_paragraph(texts, level.tight, count, lines[0].text)
+            }
+            Row::Heading(rank) => self.heading(texts, rank, &lines[..1]),
+            Row::SetextHeading { rank, count } => self.heading(texts, rank, &lines[..count]),
+            Row::Break => self.thematic_break(),
+            Row::IndentedCode(count) => self.indented_code(&lines[..count]),
+            Row::FencedCode(count) => {
+                self.fenced_code(texts, lines[0].text, true, top, &lines[1..][..count])
+            }
+            Row::UnclosedCode(count) => {
+                self.fenced_code(texts, lines[0].text, false, top, &lines[1..][..count])
+            }
+            Row::Html(count) => self.html_block(&texts.options.compile, &lines[..count]),
+            Row::Ending(_) if level.silent => Ok(()),
+            Row::Ending(ending) => self.push_ending(ending),
+            Row::Definition(_)
+            | Row::Blank(_)
+            | Row::EnterQuote
+            | Row::EnterItem { .. }
+            | Row::Exit => Ok(()),
+        }
+    }
+
+    /// Prints a paragraph (CommonMark 4.8). That of a tight item is its text alone.
+    fn paragraph<T: Tables>(
+        &mut self,
+        texts: &Texts<'_, T, A>,
+        tight: bool,
+        lines: &[Piece<'_>],
+    ) -> Result<(), AllocError>
+        ensures default { self.new.default_ending ≡ self.old.default_ending }
+        ensures printed { (ds : List Definition) → HasDefinitions texts.now.labels.now texts.now.links.now ds → AreLines (piece_lines lines.now) →
+            OnOk result (string_bytes self.new.html ≡ laid self.old.default_ending (string_bytes self.old.html) (block_pieces (document texts.now.options.now (text_tables (T.reference_of texts.now.tables.now) (T.punctuation_of texts.now.tables.now)) ds) true tight false (Paragraph (own_lines (piece_lines lines.now))))) }
+    {
+        if tight {
+            return texts.push_text(&mut self.html, &mut self.buffers, lines);
+        }
+        self.fresh()?;
+        self.html.push_str("<p>")?;
+        texts.push_text(&mut self.html, &mut self.buffers, lines)?;
+        self.html.push_str("</p>")
+    }
+
+    /// Prints a paragraph of the first lines of a text, so many (CommonMark 4.8).
+    fn whole_paragraph<T: Tables>(
+        &mut self,
+        texts: &Texts<'_, T, A>,
+        tight: bool,
+        count: usize,
+        text: &str,
+    ) -> Result<(), AllocError>
+        ensures default { self.new.default_ending ≡ self.old.default_ending }
+        ensures printed { (ds : List Definition) → HasDefinitions texts.now.labels.now texts.now.links.now ds →
+            OnOk result (string_bytes self.new.html ≡ laid self.old.default_ending (string_bytes self.old.html) (block_pieces (document texts.now.options.now (text_tables (T.reference_of texts.now.tables.now) (T.punctuation_of texts.now.tables.now)) ds) true tight false (Paragraph (own_lines (whole_lines count text.now))))) }
+        ensures bytes { (k : ℕ) → slice_index text.now k < 256 }
+    {
+        if tight {
+            return texts.push_whole(&mut self.html, &mut self.buffers, count, text);
+        }
+        self.fresh()?;
+        self.html.push_str("<p>")?;
+        texts.push_whole(&mut self.html, &mut self.buffers, count, text)?;
+        self.html.push_str("</p>")
+    }
+
+    /// Prints a thematic break (CommonMark 4.1).
+    fn thematic_break(&mut self) -> Result<(), AllocError>
+        ensures default { self.new.default_ending ≡ self.old.default_ending }
+        ensures printed { (d : Document) → OnOk result (string_bytes self.new.html ≡ laid self.old.default_ending (string_bytes self.old.html) (block_pieces d true false false Break)) }
+    {
+        self.fresh()?;
+        self.html.push_str("<hr />")
+    }
+
+    /// Prints an ending, if there is one.
+    pub(crate) fn push_ending(&mut self, ending: Option<LineEnding>) -> Result<(), AllocError>
+        ensures default { self.new.default_ending ≡ self.old.default_ending }
+        ensures printed { OnOk result (string_bytes self.new.html ≡ string_bytes self.old.html ++ ending_text ending) }
+    {
+        match ending {
+            Some(ending) => self.html.push_str(ending.as_str()),
+            None => Ok(()),
+        }
+    }
+
+    /// Asks for a fresh line.
+    pub(crate) fn fresh(&mut self) -> Result<(), AllocError>
+        ensures default { self.new.default_ending ≡ self.old.default_ending }
+        ensures printed { OnOk result (string_bytes self.new.html ≡ print (ending_bytes self.old.default_ending) (string_bytes self.old.html) Fresh) }
+    {
+        if is_fresh(self.html.as_bytes()) {
+            return Ok(());
+        }
+        self.eol()
+    }
+
+    /// Prints the default ending.
+    pub(crate) fn eol(&mut self) -> Result<(), AllocError>
+        ensures default { self.new.default_ending ≡ self.old.default_ending }
+        ensures printed { OnOk result (string_bytes self.new.html ≡ string_bytes self.old.html ++ ending_bytes self.old.default_ending) }
+    {
+        self.html.push_str(self.default_ending.as_str())
+    }
+}
+
+/// Whether nothing, CR or LF stands at the end.
+fn is_fresh(bytes: &[u8]) -> bool
+    ensures { result ≡ is_fresh bytes.now }
+{
+    match bytes.last() {
+        None => true,
+        Some(byte) => *byte == b'\n' || *byte == b'\r',
+    }
+}

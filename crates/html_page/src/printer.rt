@@ -1,0 +1,116 @@
+//! Rows to HTML.
+ghost use Rattle.std.specs.Prelude.{◌≡◌, ◌≤◌, ◌<◌, ◌^◌, ◌+◌, List, IfOk, OnOk, string_bytes, length};
+ghost use Rattle.markdown_options.specs.LineEndings.{ending_bytes};
+ghost use Rattle.definition_page.specs.Document.{document};
+ghost use Rattle.definition_inline.specs.Definition.{Definition};
+ghost use Rattle.definition_text.specs.BlockLines.{BlockLine};
+ghost use Rattle.definition_block.specs.Tree.{Blocks};
+ghost use Rattle.definition_page.specs.Pieces.{layout};
+ghost use Rattle.definition_page.specs.Html.{document_pieces};
+ghost use Rattle.block_rows.specs.Rows.{all_taken, lines_taken, piece_lines, rows_of, row_shown, shown};
+ghost use Rattle.html_text.specs.Texts.{HasDefinitions, text_tables};
+ghost use Rattle.html_page.specs.Printable.{IsPrintableRow, ArePrintable, CanBePrinted};
+ghost use Rattle.html_page.specs.Printed.{ends_blank_rows, is_blank_row, printed_of, row_printed};
+
+use crate::level::{Kind, Level};
+use crate::loose::{Place, places};
+use crate::page::Page;
+use html_text::{TextBuffers, Texts};
+use block_rows::{Piece, Row};
+use markdown_options::{LineEnding, Tables};
+use std::alloc::{AllocError, Allocator};
+
+/// A page that is being printed, and what is open on it.
+#[derive(Drop)]
+pub(crate) struct Printer<A: Allocator + Clone> {
+    pub(crate) page: Page<A>,
+    pub(crate) level: Level,
+    /// The levels around it.
+    pub(crate) outer: Vec<Level, A>,
+    /// The places of the items to come, the next one last.
+    pub(crate) places: Vec<Place, A>,
+}
+
+impl<A: Allocator + Clone> Printer<A> {
+    /// Prints a row. A block takes its lines from the front of these.
+    fn row<T: Tables>(
+        &mut self,
+        texts: &Texts<'_, T, A>,
+        row: Row,
+        lines: &[Piece<'_>],
+    ) -> Result<(), AllocError>
+        requires enough { lines_taken row ≤ length lines.now }
+        requires printable { IsPrintableRow (row_shown row (piece_lines lines.now)) }
+        ensures default { self.new.page.default_ending ≡ self.old.page.default_ending }
+        ensures printed { (ds : List Definition) → HasDefinitions texts.now.labels.now texts.now.links.now ds →
+            OnOk result (printed_of self.new ≡ row_printed (document texts.now.options.now (text_tables (T.reference_of texts.now.tables.now) (T.punctuation_of texts.now.tables.now)) ds) (ending_bytes self.old.page.default_ending) (printed_of self.old) (row_shown row (piece_lines lines.now))) }
+    {
+        match row {
+            Row::EnterQuote => self.enter_quote(),
+            Row::EnterItem { number, .. } => self.enter_item(number),
+            Row::Exit => self.exit(),
+            _ => {
+                self.page.block(texts, row, self.level, lines)?;
+                self.level = self.level.after(row);
+                Ok(())
+            }
+        }
+    }
+}
+
+/// The HTML of a block tree by its rows, whose blocks take their lines from `pieces`. Its texts are
+/// read by the labels and links of all definitions of the document.
+///
+/// Items are put into lists here (CommonMark 5.3). Other rows print something, too. Room is made
+/// for `room` bytes at once.
+pub fn print_rows<T: Tables, A: Allocator + Clone>(
+    alloc: A,
+    room: usize,
+    default_ending: LineEnding,
+    texts: &Texts<'_, T, A>,
+    rows: &[Row],
+    pieces: &[Piece<'_>],
+) -> Result<String<A>, AllocError>
+    requires enough { all_taken rows.now ≤ length pieces.now }
+    requires printable { ArePrintable (shown rows.now (piece_lines pieces.now)).rows }
+    ensures { (ds : List Definition) → HasDefinitions texts.now.labels.now texts.now.links.now ds → (bs : Blocks) → (shown rows.now (piece_lines pieces.now)).rows ≡ rows_of bs → CanBePrinted bs →
+        IfOk result (λ html. string_bytes html ≡ layout (ending_bytes default_ending) (document_pieces (document texts.now.options.now (text_tables (T.reference_of texts.now.tables.now) (T.punctuation_of texts.now.tables.now)) ds) bs)) }
+{
+    let mut printer = Printer {
+        page: Page {
+            html: String::with_capacity(alloc.clone()?, room)?,
+            buffers: TextBuffers::new(alloc.clone()?)?,
+            default_ending,
+        },
+        level: Level::new(Kind::Document, false),
+        outer: Vec::new(alloc.clone()?),
+        places: places(alloc, rows)?,
+    };
+    let mut taken = 0;
+    for row in rows {
+        printer.row(texts, *row, &pieces[taken..])?;
+        taken += row.lines_taken();
+    }
+    if ends_blank(rows) {
+        printer.page.fresh()?;
+    }
+    let Printer { page, .. } = printer;
+    let Page { html, .. } = page;
+    Ok(html)
+}
+
+/// Whether the last row is the ending of a blank line.
+fn ends_blank(rows: &[Row]) -> bool
+    ensures { (ls : List BlockLine) → result ≡ ends_blank_rows (shown rows.now ls).rows }
+{
+    match rows.last() {
+        None => false,
+        Some(row) => is_blank_ending(*row),
+    }
+}
+
+fn is_blank_ending(row: Row) -> bool
+    ensures { (ls : List BlockLine) → result ≡ is_blank_row (row_shown row ls) }
+{
+    matches!(row, Row::Blank(Some(_)))
+}

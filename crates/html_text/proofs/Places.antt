@@ -1,0 +1,38 @@
+-- Links lead where the definitions do, at each place, and so rows that lead by either are the same.
+use Rattle.std.proofs.Common.{◌≡◌, ℕ, List, [], ◌∷◌, ◌++◌, refl, sym, ap, ◌∙◌, map, slice_index_or}
+use Rattle.std.proofs.lemmas.List.Concat.{flat_map-cons}
+use Rattle.std.proofs.Math.ListN.{get_or-map}
+use Rattle.definition_inline.specs.Inline as inline
+use Rattle.definition_inline.specs.Definition.{Definition}
+use Rattle.definition_page.specs.Targets.{linked_at, no_definition}
+use Rattle.inline_rows.specs.declared.row.Linked.{Linked}
+use Rattle.inline_rows.specs.declared.row.LinkTarget.{LinkTarget}
+use Rattle.inline_rows.specs.declared.row.LinkTarget.TheVariants.{Resource, Definition as ByPlace}
+use Rattle.inline_rows.specs.declared.row.InlineRow.{InlineRow}
+use Rattle.inline_rows.specs.declared.row.InlineRow.TheVariants.{Text, Leaf, EnterSpan, EnterLink, EnterImage, Exit}
+use Rattle.inline_rows.specs.View.{linked_view, target_linked, row_view, rows_view}
+use Rattle.inline_rows.specs.InlineRows as rows
+use Rattle.html_inline.specs.Opens.{nowhere, place_linked}
+
+abbrev leads_to_one : Definition → inline.Linked
+leads_to_one d = inline.linked d.destination d.title
+
+pub same_place : (links : List Linked) (ds : List Definition) → map linked_view links ≡ map leads_to_one ds → (place : ℕ) → place_linked links place ≡ linked_at ds place
+same_place links ds is place = ap (λ l. slice_index_or l place nowhere) is ∙ get_or-map leads_to_one ds place no_definition
+
+module _ (at beside : ℕ → inline.Linked) (same : (place : ℕ) → at place ≡ beside place) where
+  same_target : (t : LinkTarget) → target_linked at t ≡ target_linked beside t
+  same_target (Resource l) = refl
+  same_target (ByPlace place) = same place
+
+  same_row : (r : InlineRow) → row_view at r ≡ row_view beside r
+  same_row (Text text) = refl
+  same_row (Leaf part) = refl
+  same_row (EnterSpan span) = refl
+  same_row (EnterLink target) = ap (λ l. rows.EnterLink l ∷ []) (same_target target)
+  same_row (EnterImage target) = ap (λ l. rows.EnterImage l ∷ []) (same_target target)
+  same_row Exit = refl
+
+  pub same_rows : (rs : List InlineRow) → rows_view at rs ≡ rows_view beside rs
+  same_rows [] = refl
+  same_rows (r ∷ rs) = flat_map-cons (row_view at) r rs ∙ ap (λ x. x ++ rows_view at rs) (same_row r) ∙ ap (λ x. row_view beside r ++ x) (same_rows rs) ∙ sym (flat_map-cons (row_view beside) r rs)

@@ -1,0 +1,33 @@
+//! Buffers that are used again for each text.
+ghost use Rattle.std.specs.Prelude.{◌≡◌, [], ℕ, Bool, IfOk, string_bytes};
+ghost use Rattle.inline_content.specs.Buffers.{buffer_view};
+
+use inline_content::ContentBuffer;
+use html_inline::Scratch;
+use std::alloc::{AllocError, Allocator};
+
+/// Buffers that are used again for each text.
+#[derive(Drop)]
+pub struct TextBuffers<A: Allocator + Clone> {
+    /// What rows are allocated by.
+    pub(crate) alloc: A,
+    /// The content of lines that are put together.
+    pub(crate) content: ContentBuffer<A>,
+    /// Room for what is printed.
+    pub(crate) scratch: Scratch<A>,
+}
+
+impl<A: Allocator + Clone> TextBuffers<A> {
+    /// Buffers that hold nothing yet.
+    pub fn new(alloc: A) -> Result<TextBuffers<A>, AllocError>
+        ensures content { (is_punctuation : ℕ → Bool) → IfOk result (λ buffers. buffer_view is_punctuation buffers.content ≡ []) }
+        ensures stack { IfOk result (λ buffers. buffers.scratch.stack.items ≡ []) }
+        ensures text { IfOk result (λ buffers. string_bytes buffers.scratch.text ≡ []) }
+    {
+        Ok(TextBuffers {
+            content: ContentBuffer::new(alloc.clone()?)?,
+            scratch: Scratch::new(alloc.clone()?)?,
+            alloc,
+        })
+    }
+}

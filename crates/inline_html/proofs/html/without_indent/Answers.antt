@@ -1,9 +1,0 @@
-use Rattle.std.proofs.Common.{ap, arith, ◌∙◌}
-use Rattle.markdown_definition.specs.Columns.{indent}
-use Rattle.inline_html.proofs.KeptText.{white_boundary}
-use Rattle.inline_html.proofs.html.without_indent.Goals as goal
-
-pub range_from-requires : goal.range_from-requires
-range_from-requires c = λ some.
-    white_boundary c.args.text.now c.white_size-size.result (λ k. omega (arith, c.type_inv.text k)) c.utf8.text
-    (c.white_size-size.ensures.size ∙ ap indent c.as_bytes.ensures.value) some

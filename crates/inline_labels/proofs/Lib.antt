@@ -1,0 +1,5 @@
+pub mod Chunks
+pub mod FirstWord
+pub mod Joined
+pub mod Places
+pub mod LabelWords

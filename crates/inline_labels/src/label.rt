@@ -1,0 +1,74 @@
+//! Labels as they are matched (CommonMark 6.3).
+//!
+//! Two labels match if they have the same words once their case is folded.
+ghost use Rattle.std.specs.Prelude.{◌≡◌, ◌++◌, IfErr, IfOk, OnOk, string_bytes};
+ghost use Rattle.markdown_options.specs.Messages.{IsOutOfMemory};
+ghost use Rattle.definition_text.specs.Content.{content_codes};
+ghost use Rattle.definition_inline.specs.LabelMatch.{case_folded, word_folded, normal_label};
+ghost use Rattle.inline_labels.specs.Chunks.{replacement_of};
+
+use crate::words::Words;
+use caseless::Caseless;
+use markdown_options::Message;
+use std::alloc::{AllocError, Allocator};
+
+/// Makes `normal` the label as it is matched: its case folded in full, no white space at the ends,
+/// and one space for white space inside (CommonMark 6.3). The label is what stands between its
+/// brackets. Without memory `normal` holds the beginning of it.
+pub fn normalize_label<A: Allocator>(normal: &mut String<A>, label: &[u8]) -> Result<(), AllocError>
+    ensures { OnOk result (string_bytes normal.new ≡ normal_label (content_codes label.now)) }
+{
+    normal.clear();
+    let mut separator = "";
+    for word in Words::new(label) {
+        normal.push_str(separator)?;
+        push_word(normal, word)?;
+        separator = " ";
+    }
+    Ok(())
+}
+
+/// A label as it is matched (CommonMark 6.3): its case folded in full, no white space at the ends,
+/// and one space for white space inside. The value is what stands between its brackets. The only
+/// error is want of memory.
+pub fn normalize_identifier<A: Allocator>(alloc: A, value: &str) -> Result<String<A>, Message>
+    ensures text { IfOk result (λ text. string_bytes text ≡ normal_label (content_codes value.now)) }
+    ensures memory { IfErr result IsOutOfMemory }
+{
+    let mut normal = String::with_capacity(alloc, value.len())?;
+    normalize_label(&mut normal, value.as_bytes())?;
+    Ok(normal)
+}
+
+/// Adds a word with its case folded; bytes that are no text count as U+FFFD.
+fn push_word<A: Allocator>(normal: &mut String<A>, word: &[u8]) -> Result<(), AllocError>
+    ensures { OnOk result (string_bytes normal.new ≡ string_bytes normal.old ++ word_folded word.now) }
+{
+    for chunk in word.utf8_chunks() {
+        push_chunk(normal, chunk.valid(), chunk.invalid())?;
+    }
+    Ok(())
+}
+
+/// Adds a text with its case folded, and U+FFFD for the bytes after it that are no text.
+fn push_chunk<A: Allocator>(
+    normal: &mut String<A>,
+    text: &str,
+    no_text: &[u8],
+) -> Result<(), AllocError>
+    ensures { OnOk result (string_bytes normal.new ≡ string_bytes normal.old ++ (case_folded text.now ++ replacement_of no_text.now)) }
+{
+    push_folded(normal, text)?;
+    if no_text.is_empty() {
+        Ok(())
+    } else {
+        normal.push(char::REPLACEMENT_CHARACTER)
+    }
+}
+
+/// Adds a text with its case folded in full.
+fn push_folded<A: Allocator>(normal: &mut String<A>, text: &str) -> Result<(), AllocError>
+    ensures { OnOk result (string_bytes normal.new ≡ string_bytes normal.old ++ case_folded text.now) }
+{
+    normal.extend(text.chars().default_case_fold())
+}

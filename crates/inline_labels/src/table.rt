@@ -1,0 +1,57 @@
+//! The labels of definitions, each with the place of the first definition that has it
+//! (CommonMark 4.7).
+ghost use Rattle.std.specs.Prelude.{◌≡◌, ℕ, List, [], ◌∷◌, ◌++◌, false, length, IfOk, OnOk, OnErr, is_none};
+ghost use Rattle.definition_text.specs.Content.{content_codes};
+ghost use Rattle.definition_inline.specs.LabelMatch.{first_match};
+
+use crate::label::normalize_label;
+use std::alloc::{AllocError, Allocator};
+use std::collections::BTreeMap;
+
+/// The places of definitions by their labels: of equal labels the first counts (CommonMark 4.7).
+#[derive(Drop)]
+pub struct LabelTable<A: Allocator + Clone> {
+    places: BTreeMap<String<A>, usize, A>,
+    alloc: A,
+}
+
+impl<A: Allocator + Clone> LabelTable<A> {
+    ghost use Rattle.inline_labels.specs.Table.{HasLabels};
+
+    /// A table without labels.
+    pub fn new(alloc: A) -> Result<LabelTable<A>, AllocError>
+        ensures { IfOk result (λ table. HasLabels table []) }
+    {
+        Ok(LabelTable {
+            places: BTreeMap::new(alloc.clone()?),
+            alloc,
+        })
+    }
+
+    /// Adds the label of a definition, unless one that matches it is there, and answers whether it
+    /// was new (CommonMark 4.7). The place is how many labels were given before, repeats counted.
+    /// Without memory the table stays as it was.
+    pub fn insert(&mut self, label: &[u8], place: usize) -> Result<bool, AllocError>
+        ensures added { (labels : List (List ℕ)) → HasLabels self.old labels → place ≡ length labels → OnOk result (HasLabels self.new (labels ++ content_codes label.now ∷ [])) }
+        ensures new { (labels : List (List ℕ)) → HasLabels self.old labels → IfOk result (λ is_new. is_new ≡ is_none (first_match (content_codes label.now) labels)) }
+        ensures repeated { (labels : List (List ℕ)) → HasLabels self.old labels → IfOk result (λ is_new. is_new ≡ false → HasLabels self.new labels) }
+        ensures err { (labels : List (List ℕ)) → HasLabels self.old labels → OnErr result (HasLabels self.new labels) }
+    {
+        let mut normal = String::new(self.alloc.clone()?);
+        normalize_label(&mut normal, label)?;
+        if self.places.contains_key(normal.as_str()) {
+            return Ok(false);
+        }
+        self.places.insert(normal, place)?;
+        Ok(true)
+    }
+
+    /// The place of the first label that matches this one (CommonMark 6.3).
+    pub fn find(&self, label: &[u8]) -> Result<Option<usize>, AllocError>
+        ensures { (labels : List (List ℕ)) → HasLabels self.now labels → IfOk result (λ place. place ≡ first_match (content_codes label.now) labels) }
+    {
+        let mut normal = String::new(self.alloc.clone()?);
+        normalize_label(&mut normal, label)?;
+        Ok(self.places.get(normal.as_str()).copied())
+    }
+}

@@ -1,8 +1,0 @@
-//! Links in links.
-ghost use Rattle.inline_laws.specs.NestedLinks.{LinksHoldNoLinks};
-
-/// No link holds another, at any level of nesting.
-#[tactic(auto, using(crate::proofs::NestedLinks::links_hold_no_links))]
-pub fn nested_links_law()
-    ensures { LinksHoldNoLinks }
-{}

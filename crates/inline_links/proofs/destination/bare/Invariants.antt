@@ -1,0 +1,16 @@
+use Rattle.std.proofs.Common.{◌≡◌, ◌≤◌, ◌-◌, length, drop, false}
+use Rattle.definition_text.specs.Content.{content_codes}
+use Rattle.definition_inline.specs.Destination.{bare_end}
+use Rattle.inline_links.specs.Codes.{IsCut}
+use Rattle.inline_links.proofs.destination.bare.Given as goal
+
+abbrev pub invariant-loop-read : goal.invariant-loop-read
+invariant-loop-read l = record {
+  within : l.end ≤ length l.content;
+  few : l.opened ≤ l.end;
+  cut : IsCut l.content l.end;
+  same : bare_end l.depth l.escaped l.opened (content_codes (drop l.end l.content)) ≡ bare_end l.depth false 0 (content_codes l.content);
+}
+
+abbrev pub decreases-loop-read : goal.decreases-loop-read
+decreases-loop-read l = length l.content - l.end

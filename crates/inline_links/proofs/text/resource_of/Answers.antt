@@ -1,0 +1,41 @@
+use Rattle.std.proofs.Common.{◌≡◌, Some, arith, ap, sym, ◌∙◌, subst}
+use Rattle.std.specs.Option.{IfSome, option_map}
+use Rattle.definition_text.specs.Content.{content_codes}
+use Rattle.definition_inline.specs.Resource.{resource_at}
+use Rattle.inline_links.specs.Codes.{IsShorterRest}
+use Rattle.inline_links.specs.Texts.{IsLater, IsText}
+use Rattle.inline_links.specs.View.{resource_of}
+use Rattle.inline_links.proofs.Places.{is_later}
+use Rattle.inline_links.proofs.Texts.{is_text, resource_text}
+use Rattle.inline_links.proofs.text.resource_of.Goals as goal
+
+pub text_of-requires : goal.text_of-requires
+text_of-requires c =
+    let xs = c.args.content.now in
+    let found : resource_at (content_codes xs) ≡ Some (resource_of c.in_ok-read.read) =
+    ap (λ bytes. resource_at (content_codes bytes)) (sym c.as_bytes.ensures.value) ∙ sym c.in_ok-read.ensures.read in
+    let title = (resource_text (content_codes xs) (resource_of c.in_ok-read.read) (is_text xs (λ k. omega (arith, c.type_inv.content k)) c.utf8.content) found).title in
+    subst (λ o. IfSome (option_map (λ text. content_codes text.now) o) IsText) c.in-Some.is title
+
+pub text_of-requires-2 : goal.text_of-requires-2
+text_of-requires-2 c =
+    let xs = c.args.content.now in
+    let found : resource_at (content_codes xs) ≡ Some (resource_of c.in_ok-read.read) =
+    ap (λ bytes. resource_at (content_codes bytes)) (sym c.as_bytes.ensures.value) ∙ sym c.in_ok-read.ensures.read in
+    (resource_text (content_codes xs) (resource_of c.in_ok-read.read) (is_text xs (λ k. omega (arith, c.type_inv.content k)) c.utf8.content) found).destination
+
+pub text_of-requires-3 : goal.text_of-requires-3
+text_of-requires-3 c =
+    let xs = c.args.content.now in
+    let found : resource_at (content_codes xs) ≡ Some (resource_of c.in_ok-read.read) =
+    ap (λ bytes. resource_at (content_codes bytes)) (sym c.as_bytes.ensures.value) ∙ sym c.in_ok-read.ensures.read in
+    (resource_text (content_codes xs) (resource_of c.in_ok-read.read) (is_text xs (λ k. omega (arith, c.type_inv.content k)) c.utf8.content) found).rest
+
+pub returns-clause-place : goal.returns-clause-place
+returns-clause-place c =
+    let xs = c.args.content.now in
+    let found : resource_at (content_codes xs) ≡ Some (resource_of c.in_ok-read.read) =
+    ap (λ bytes. resource_at (content_codes bytes)) (sym c.as_bytes.ensures.value) ∙ sym c.in_ok-read.ensures.read in
+    let parts = resource_text (content_codes xs) (resource_of c.in_ok-read.read) (is_text xs (λ k. omega (arith, c.type_inv.content k)) c.utf8.content) found in
+    let place = subst (λ bytes. IsShorterRest bytes c.in_ok-read.read.rest.now) c.as_bytes.ensures.value c.in_ok-read.ensures.place in
+    subst (IsLater xs) (sym c.text_of-3.ensures) (is_later xs c.in_ok-read.read.rest.now parts.front place parts.whole)

@@ -1,0 +1,34 @@
+-- What was read, in codes.
+use Rattle.std.specs.Prelude.{Option, None, Some}
+use Rattle.std.specs.Option.{option_map}
+use Rattle.definition_text.specs.Content.{content_codes, part}
+use Rattle.definition_text.specs.Content as content
+use Rattle.definition_inline.specs.Definition.{definition}
+use Rattle.definition_inline.specs.Definition as link_definition
+use Rattle.inline_links.specs.declared.part.Part.{Part}
+use Rattle.definition_inline.specs.Resource as resource
+use Rattle.inline_links.specs.declared.resource.LinkResource.{LinkResource}
+use Rattle.inline_links.specs.declared.definition.LinkDefinition.{LinkDefinition}
+
+abbrev pub part_of : Part → content.Part
+part_of read = part (content_codes read.text.now) (content_codes read.rest.now)
+
+abbrev pub found_part : Option Part → Option content.Part
+found_part None = None
+found_part (Some read) = Some (part_of read)
+
+abbrev pub definition_of : LinkDefinition → link_definition.Definition
+definition_of read =
+    definition (content_codes read.label.now) (content_codes read.destination.now) (option_map (λ text. content_codes text.now) read.title) (content_codes read.rest.now)
+
+abbrev pub found_definition : Option LinkDefinition → Option link_definition.Definition
+found_definition None = None
+found_definition (Some read) = Some (definition_of read)
+
+abbrev pub resource_of : LinkResource → resource.LinkResource
+resource_of read =
+    record { destination = content_codes read.destination.now; title = option_map (λ text. content_codes text.now) read.title; rest = content_codes read.rest.now }
+
+abbrev pub found_resource : Option LinkResource → Option resource.LinkResource
+found_resource None = None
+found_resource (Some read) = Some (resource_of read)

@@ -1,0 +1,392 @@
+-- Text in a content: what the scan makes of it, and what stands after it.
+use Rattle.std.proofs.Common.{◌≡◌, ℕ, zero, suc, ◌+◌, ◌-◌, ◌<◌, ◌≤◌, List, [], ◌∷◌, ◌++◌, Bool, true, false, not, eqb, leb, ◌||◌, ◌&&◌, Option, None, Some, refl, sym, ap, ◌∙◌, get_or, length, drop, take, map, arith, ◌⊎◌, inl, inr}
+use Rattle.std.proofs.lemmas.Bool.{cases_Bool, cond-false, cond-true, eqb-true, eq-eqb, ne_eqb, le-leb, false≢true, true≢false, not-true, not-false, or_parts, or_cases, or_from, and_left, and_right, and_from}
+use Rattle.std.proofs.lemmas.List.{append-nil, append_assoc, get_or-drop, length-drop, drop-drop}
+use Rattle.markdown_options.specs.declared.configuration.Constructs.{Constructs}
+use Rattle.definition_text.specs.Columns.{is_white, indent, bare}
+use Rattle.definition_text.specs.Content.{content_codes, is_eol}
+use Rattle.definition_inline.specs.HardBreak.{ends_here, escaped_break_at, line_end_at, line_spaces_at}
+use Rattle.definition_inline.specs.Strings.{begins_with_eol}
+use Rattle.definition_inline.specs.CharacterEscape.{escape_at}
+use Rattle.definition_inline.specs.CharacterReference.{reference_at, reference_of}
+use Rattle.definition_inline.specs.CodeText.{code_text_at}
+use Rattle.definition_inline.specs.Autolink.{autolink_at}
+use Rattle.definition_inline.specs.HtmlText.{html_text_at}
+use Rattle.definition_text.specs.InlineCode.{InlineCode, codes_of}
+use Rattle.definition_inline.specs.Inline.{Data, Leaf, or_else}
+use Rattle.definition_inline.specs.Attention.{run_at}
+use Rattle.definition_inline.specs.Spans.{Token, Item}
+use Rattle.definition_inline.specs.Scan.{InlineContext, leaf_at, label_start_at, text, Reading, reading, read_tokens, Next, step, scan}
+use Rattle.definition_inline.proofs.Scanning.{scan_step, step_last}
+use Rattle.inline_leaves.specs.Leaves.{IsAfter, IsWhite}
+use Rattle.inline_leaves.specs.Scanned.{leaf_in, without_labels}
+use Rattle.inline_leaves.proofs.Codes.{plain_code, plain_drop, at_return, is_after, cut_plain, cut_after_byte}
+use Rattle.inline_parser.specs.Plain.{is_special, starts, is_text_at}
+
+-- ---- a code at which nothing starts
+
+-- a code that isn't one of these
+pub record IsOther (c : ℕ) : Type 0 where
+  pub backslash : eqb c 92 ≡ false
+  pub ampersand : eqb c 38 ≡ false
+  pub backtick : eqb c 96 ≡ false
+  pub less : eqb c 60 ≡ false
+  pub star : eqb c 42 ≡ false
+  pub underscore : eqb c 95 ≡ false
+  pub exclamation : eqb c 33 ≡ false
+  pub opening : eqb c 91 ≡ false
+  pub closing : eqb c 93 ≡ false
+  pub ending : is_eol c ≡ false
+
+pub is_other : (c : ℕ) → starts c ≡ false → IsOther c
+is_other c h =
+    let p = or_parts (is_special c) (is_eol c) h in
+    let a = or_parts (eqb c 92) _ p.0 in
+    let b = or_parts (eqb c 38) _ a.1 in
+    let d = or_parts (eqb c 96) _ b.1 in
+    let e = or_parts (eqb c 60) _ d.1 in
+    let f = or_parts (eqb c 42) _ e.1 in
+    let g = or_parts (eqb c 95) _ f.1 in
+    let i = or_parts (eqb c 33) _ g.1 in
+    let j = or_parts (eqb c 91) (eqb c 93) i.1 in
+    record {
+      backslash = a.0;
+      ampersand = b.0;
+      backtick = d.0;
+      less = e.0;
+      star = f.0;
+      underscore = g.0;
+      exclamation = i.0;
+      opening = j.0;
+      closing = j.1;
+      ending = p.1;
+    }
+
+-- a space, a tab or a column of a tab
+white_cases : (c : ℕ) → is_white c ≡ true → (c ≡ 32) ⊎ ((c ≡ 9) ⊎ (c ≡ 256))
+white_cases c h =
+    elim (or_cases (eqb c 32 || eqb c 9) (eqb c 256) h) [
+      | inl p ↦
+          elim (or_cases (eqb c 32) (eqb c 9) p) [
+            | inl q ↦ inl (eqb-true c 32 q)
+            | inr q ↦ inr (inl (eqb-true c 9 q))
+          ]
+      | inr p ↦ inr (inr (eqb-true c 256 p))
+    ]
+
+pub white_starts_not : (c : ℕ) → is_white c ≡ true → starts c ≡ false
+white_starts_not c h = elim (white_cases c h) [
+  | inl e ↦ ap starts e
+  | inr p ↦ elim p [
+    | inl e ↦ ap starts e
+    | inr e ↦ ap starts e
+  ]
+]
+
+-- what text is: nothing starts at it, and it isn't white space at the end of its line
+pub text_is : (c : ℕ) (cs : List ℕ) → is_text_at (c ∷ cs) ≡ true → (starts c ≡ false) × ((leb 1 (indent (c ∷ cs)) && ends_here (bare (c ∷ cs))) ≡ false)
+text_is c cs h = elim (cases_Bool (is_white c)) [
+  | inl white ↦ (
+    white_starts_not c white,
+    and_right (leb 1 (indent (c ∷ cs))) _ (not-true _ (sym (cond-true (is_white c) _ _ white) ∙ h)),
+  )
+  | inr dark ↦ (
+    not-true _ (sym (cond-false (is_white c) _ _ dark) ∙ h),
+    and_left (leb 1 (indent (c ∷ cs))) _ (ap (λ k. leb 1 k) (cond-false (is_white c) _ _ dark)),
+  )
+]
+
+flip : (a b : ℕ) → eqb a b ≡ false → eqb b a ≡ false
+flip a b h = ne_eqb b a (λ e. true≢false (sym (eq-eqb a b (sym e)) ∙ h))
+
+-- ---- each construct
+
+no_escape : (on : Constructs) (c : ℕ) (cs : List ℕ) → eqb c 92 ≡ false → escape_at on (c ∷ cs) ≡ None
+no_escape on c [] h = refl
+no_escape on c (next ∷ cs) h = cond-false _ _ _ (and_right on.character_escape _ (and_left (eqb c 92) _ h))
+
+no_escaped_break : (on : Constructs) (c : ℕ) (cs : List ℕ) → eqb c 92 ≡ false → escaped_break_at on (c ∷ cs) ≡ None
+no_escaped_break on c cs h = cond-false _ _ _ (and_right on.hard_break_escape _ (and_left (eqb c 92) _ h))
+
+no_reference : (on : Constructs) (names : List ℕ → Option (List ℕ)) (c : ℕ) (cs : List ℕ) → eqb c 38 ≡ false → reference_at on names (c ∷ cs) ≡ None
+no_reference on names c cs h = elim (cases_Bool on.character_reference) [
+  | inl is ↦ cond-true on.character_reference _ _ is ∙ ap (reference_of names (c ∷ cs)) (cond-false (eqb c 38) _ _ h)
+  | inr isnt ↦ cond-false on.character_reference _ _ isnt
+]
+
+no_code : (on : Constructs) (c : ℕ) (cs : List ℕ) → eqb c 96 ≡ false → code_text_at on (c ∷ cs) ≡ None
+no_code on c cs h = cond-false _ _ _ (and_right on.code_text _ (ap (λ n. not (eqb n 0)) (cond-false (eqb c 96) _ 0 h)))
+
+no_autolink : (on : Constructs) (c : ℕ) (cs : List ℕ) → eqb c 60 ≡ false → autolink_at on (c ∷ cs) ≡ None
+no_autolink on c cs h = cond-false _ _ _ (and_right on.autolink _ (and_left (eqb 60 c) _ (flip c 60 h)))
+
+no_html : (on : Constructs) (c : ℕ) (cs : List ℕ) → eqb c 60 ≡ false → html_text_at on (c ∷ cs) ≡ None
+no_html on c cs h = cond-false _ _ _ (and_right on.html_text _ (and_left (eqb 60 c) _ (flip c 60 h)))
+
+or_none : (one other : Option Leaf) → one ≡ None → or_else one other ≡ other
+or_none one other h = ap (λ o. or_else o other) h
+
+pub text_leaf : (context : InlineContext) (c : ℕ) (cs : List ℕ) → is_text_at (c ∷ cs) ≡ true → leaf_at context (c ∷ cs) ≡ None
+text_leaf context c cs h =
+    let is = text_is c cs h in
+    let o = is_other c is.0 in
+    let on = context.on in
+    or_none (escape_at on (c ∷ cs)) _ (no_escape on c cs o.backslash)
+    ∙ or_none (escaped_break_at on (c ∷ cs)) _ (no_escaped_break on c cs o.backslash)
+    ∙ or_none (reference_at on context.names (c ∷ cs)) _ (no_reference on context.names c cs o.ampersand)
+    ∙ or_none (code_text_at on (c ∷ cs)) _ (no_code on c cs o.backtick)
+    ∙ or_none (autolink_at on (c ∷ cs)) _ (no_autolink on c cs o.less)
+    ∙ or_none (html_text_at on (c ∷ cs)) _ (no_html on c cs o.less)
+    ∙ or_none (line_end_at (c ∷ cs)) _ (cond-false (is_eol c) _ _ o.ending)
+    ∙ cond-false _ _ _ is.1
+
+pub text_run : (on : Constructs) (c : InlineCode) (cs : List InlineCode) → starts c.code ≡ false → run_at on (c ∷ cs) ≡ None
+text_run on c cs h =
+    let o = is_other c.code h in
+    cond-false _ _ _ (and_right on.attention _ (or_from (eqb c.code 42) (eqb c.code 95) o.star o.underscore))
+
+pub text_start : (on : Constructs) (c : ℕ) (cs : List ℕ) → starts c ≡ false → label_start_at on (c ∷ cs) ≡ None
+text_start on c cs h =
+    let o = is_other c h in
+    cond-false _ _ _ (and_right on.label_start_image _ (and_left (eqb 33 c) _ (flip c 33 o.exclamation)))
+    ∙ cond-false _ _ _ (and_right on.label_start_link _ (and_left (eqb 91 c) _ (flip c 91 o.opening)))
+
+-- ---- what the scan makes of text
+
+-- one code of text
+pub text_step : (context : InlineContext) (r : Reading) (c : InlineCode) (cs : List InlineCode) → is_text_at (codes_of (c ∷ cs)) ≡ true
+    → step context r c cs ≡ Next 0 (read_tokens (Item (Data c.code) ∷ []) r)
+text_step context r c cs h =
+    let free = (text_is c.code (codes_of cs) h).0 in
+    step_last context r c cs (text_leaf context c.code (codes_of cs) h) (text_run context.on c cs free) (text_start context.on c.code (codes_of cs) free)
+    ∙ cond-false _ _ _ (and_right context.on.label_end _ (is_other c.code free).closing)
+
+-- tokens that are read one after another
+pub read_none : (r : Reading) → read_tokens [] r ≡ r
+read_none r = ap (λ tokens. reading (text tokens r.now.holds_link) r.open_labels) (append-nil r.now.tokens)
+
+pub read_more : (first more : List Token) (r : Reading) → read_tokens more (read_tokens first r) ≡ read_tokens (first ++ more) r
+read_more first more r = ap (λ tokens. reading (text tokens r.now.holds_link) r.open_labels) (append_assoc r.now.tokens first more)
+
+-- codes of text
+pub text_steps : (context : InlineContext) (n : ℕ) (r : Reading) (content : List InlineCode)
+    → ((k : ℕ) → k < n → is_text_at (drop k (codes_of content)) ≡ true)
+    → scan context 0 r content ≡ scan context 0 (read_tokens (map Item (map Data (take n (codes_of content)))) r) (drop n content)
+text_steps context zero r content h = ap (λ x. scan context 0 x content) (sym (read_none r))
+text_steps context (suc n) r [] h = ap (λ x. scan context 0 x []) (sym (read_none r))
+text_steps context (suc n) r (c ∷ cs) h =
+    let next = read_tokens (Item (Data c.code) ∷ []) r in
+    scan_step context r next c cs 0 (text_step context r c cs (h 0 (omega arith)))
+    ∙ text_steps context n next cs (λ k lt. h (suc k) (omega arith))
+    ∙ ap (λ x. scan context 0 x (drop n cs)) (read_more (Item (Data c.code) ∷ []) (map Item (map Data (take n (codes_of cs)))) r)
+
+-- a code at which a construct may start, but none does
+pub other_step : (context : InlineContext) (r : Reading) (c : InlineCode) (cs : List InlineCode) → leaf_at context (codes_of (c ∷ cs)) ≡ None
+    → run_at context.on (c ∷ cs) ≡ None → label_start_at context.on (codes_of (c ∷ cs)) ≡ None → (context.on.label_end && eqb c.code 93) ≡ false
+    → scan context 0 r (c ∷ cs) ≡ scan context 0 (read_tokens (map Item (map Data (c.code ∷ []))) r) cs
+other_step context r c cs no_leaf no_run no_start no_end =
+    scan_step context r (read_tokens (Item (Data c.code) ∷ []) r) c cs 0 (step_last context r c cs no_leaf no_run no_start ∙ cond-false _ _ _ no_end)
+
+-- ---- a code that isn't text, where no leaf begins
+
+abbrev is_there : Option Leaf → Bool
+is_there None = false
+is_there (Some found) = true
+
+there_not : (one : Option Leaf) → is_there one ≡ true → one ≡ None → ⊥
+there_not one is none = false≢true (sym (ap is_there none) ∙ is)
+
+else_none : (one other : Option Leaf) → or_else one other ≡ None → other ≡ None
+else_none None other h = h
+else_none (Some found) other h = absurd (there_not (Some found) refl h)
+
+last_leaves : (context : InlineContext) (codes : List ℕ) → leaf_at context codes ≡ None → or_else (line_end_at codes) (line_spaces_at context.on codes) ≡ None
+last_leaves context codes h =
+    let on = context.on in
+    else_none (html_text_at on codes) _ (else_none (autolink_at on codes) _ (else_none (code_text_at on codes) _
+    (else_none (reference_at on context.names codes) _ (else_none (escaped_break_at on codes) _ (else_none (escape_at on codes) _ h)))))
+
+no_leaf_no_eol : (context : InlineContext) (c : ℕ) (cs : List ℕ) → leaf_at context (c ∷ cs) ≡ None → is_eol c ≡ false
+no_leaf_no_eol context c cs h = elim (cases_Bool (is_eol c)) [
+  | inl is ↦
+      absurd (there_not _ (ap (λ o. is_there (or_else o (line_spaces_at context.on (c ∷ cs)))) (cond-true (is_eol c) _ _ is)) (last_leaves context (c ∷ cs) h))
+  | inr isnt ↦ isnt
+]
+
+pub special_first : (context : InlineContext) (c : ℕ) (cs : List ℕ) → is_text_at (c ∷ cs) ≡ false → leaf_at context (c ∷ cs) ≡ None
+    → (starts c ≡ true) × (is_eol c ≡ false)
+special_first context c cs h none = elim (cases_Bool (is_white c)) [
+  | inl white ↦
+      let ends : ends_here (bare (c ∷ cs)) ≡ true = not-false _ (sym (cond-true (is_white c) _ _ white) ∙ h) in
+      let size : indent (c ∷ cs) ≡ 1 + indent cs = cond-true (is_white c) _ _ white in
+      let some : leb 1 (indent (c ∷ cs)) ≡ true = le-leb 1 (indent (c ∷ cs)) (omega arith) in
+      absurd (there_not (line_spaces_at context.on (c ∷ cs)) (ap is_there (cond-true _ _ _ (and_from (leb 1 (indent (c ∷ cs))) _ some ends))) (else_none (line_end_at (c ∷ cs)) _ (last_leaves context (c ∷ cs) none)))
+  | inr dark ↦ (not-false _ (sym (cond-false (is_white c) _ _ dark) ∙ h), no_leaf_no_eol context c cs none)
+]
+
+-- ---- bytes
+
+special_ascii : (c : ℕ) → is_special c ≡ true → c < 128
+special_ascii c h = elim (cases_Bool (leb 128 c)) [
+  | inl high ↦ absurd (false≢true (sym (not_special c high) ∙ h))
+  | inr low ↦ below c low
+]
+  where
+    below : (c : ℕ) → leb 128 c ≡ false → c < 128
+    below c low = grind arith
+
+    not_special : (c : ℕ) → leb 128 c ≡ true → is_special c ≡ false
+    not_special c high =
+        let le : 128 ≤ c = grind arith in
+        or_from (eqb c 92) _ (ne_eqb c 92 (λ e. omega arith))
+        (or_from (eqb c 38) _ (ne_eqb c 38 (λ e. omega arith))
+        (or_from (eqb c 96) _ (ne_eqb c 96 (λ e. omega arith))
+        (or_from (eqb c 60) _ (ne_eqb c 60 (λ e. omega arith))
+        (or_from (eqb c 42) _ (ne_eqb c 42 (λ e. omega arith))
+        (or_from (eqb c 95) _ (ne_eqb c 95 (λ e. omega arith))
+        (or_from (eqb c 33) _ (ne_eqb c 33 (λ e. omega arith))
+        (or_from (eqb c 91) (eqb c 93) (ne_eqb c 91 (λ e. omega arith)) (ne_eqb c 93 (λ e. omega arith)))))))))
+
+-- so many bytes at the front are text
+pub record IsText (bytes : List ℕ) (size : ℕ) : Type 0 where
+  pub within : size ≤ length bytes
+  pub text : (k : ℕ) → k < size → is_text_at (drop k (content_codes bytes)) ≡ true
+  pub plain : (k : ℕ) → k < size → get_or bytes k 0 ≡ 13 → ⊥
+
+pub no_text : (bytes : List ℕ) → IsText bytes 0
+no_text bytes = record { within = omega arith; text = λ k lt. absurd (omega arith); plain = λ k lt. absurd (omega arith) }
+
+-- text, and more of it
+pub more_text : (bytes : List ℕ) (at size next : ℕ) → next ≡ at + size → IsText bytes at → IsText (drop at bytes) size → IsText bytes next
+more_text bytes at size next e first more = record {
+  within = omega (arith, e, first.within, more.within, length-drop at bytes);
+  text = λ k lt. elim (cases_Bool (leb at k)) [
+    | inl after ↦
+        let le : at ≤ k = grind arith in
+        let there : at + (k - at) ≡ k = omega arith in
+        ap is_text_at (ap (λ n. drop n (content_codes bytes)) (sym there) ∙ sym (drop-drop (k - at) at (content_codes bytes)) ∙ ap (drop (k - at)) (plain_drop at bytes first.within first.plain))
+        ∙ more.text (k - at) (omega (arith, lt, e))
+    | inr before ↦ first.text k (grind arith)
+  ];
+  plain = λ k lt. elim (cases_Bool (leb at k)) [
+    | inl after ↦
+        let le : at ≤ k = grind arith in
+        let there : at + (k - at) ≡ k = omega arith in
+        λ return. more.plain (k - at) (omega (arith, lt, e)) (get_or-drop at bytes (k - at) 0 ∙ ap (λ n. get_or bytes n 0) there ∙ return)
+    | inr before ↦ first.plain k (grind arith)
+  ];
+}
+
+-- a byte at which nothing starts
+pub byte_text : (b : ℕ) (bs : List ℕ) → is_white b ≡ false → starts b ≡ false → IsText (b ∷ bs) 1
+byte_text b bs dark free = record {
+  within = omega arith;
+  text = λ k lt. here k (omega arith);
+  plain = λ k lt. no_return k (omega arith);
+}
+  where
+    apart : b ≡ 13 → ⊥
+    apart e = false≢true (sym (is_other b free).ending ∙ ap is_eol e)
+
+    here : (k : ℕ) → k ≡ 0 → is_text_at (drop k (content_codes (b ∷ bs))) ≡ true
+    here k e = ap (λ n. is_text_at (drop n (content_codes (b ∷ bs)))) e ∙ ap is_text_at (plain_code b bs apart) ∙ cond-false (is_white b) _ _ dark ∙ ap not free
+
+    no_return : (k : ℕ) → k ≡ 0 → get_or (b ∷ bs) k 0 ≡ 13 → ⊥
+    no_return k e return = apart (ap (λ n. get_or (b ∷ bs) n 0) (sym e) ∙ return)
+
+-- white space before something else on its line
+white_at : (codes : List ℕ) (k : ℕ) → k < indent codes → ends_here (bare codes) ≡ false → is_text_at (drop k codes) ≡ true
+white_at [] k lt on = absurd (omega arith)
+white_at (c ∷ cs) zero lt on = elim (cases_Bool (is_white c)) [
+  | inl white ↦ cond-true (is_white c) _ _ white ∙ ap not on
+  | inr dark ↦ let e : indent (c ∷ cs) ≡ 0 = cond-false (is_white c) _ _ dark in absurd (omega arith)
+]
+white_at (c ∷ cs) (suc k) lt on = elim (cases_Bool (is_white c)) [
+  | inl white ↦
+      let e : indent (c ∷ cs) ≡ 1 + indent cs = cond-true (is_white c) _ _ white in
+      let f : indent (c ∷ cs) ≡ suc (indent cs) = omega arith in
+      white_at cs k (omega arith) (sym (ap (λ n. ends_here (drop n (c ∷ cs))) f) ∙ on)
+  | inr dark ↦ let e : indent (c ∷ cs) ≡ 0 = cond-false (is_white c) _ _ dark in absurd (omega arith)
+]
+
+pub white_text : (bytes : List ℕ) (size : ℕ) → IsWhite bytes size → ends_here (content_codes (drop size bytes)) ≡ false → IsText bytes size
+white_text bytes size white on = record {
+  within = white.within;
+  text = λ k lt. white_at (content_codes bytes) k (omega (arith, lt, white.indent)) (ap ends_here (sym white.bare) ∙ on);
+  plain = λ k lt e. false≢true (ap is_white (sym e) ∙ white.passes k lt);
+}
+
+-- ---- where text ends
+
+-- white space at the end of its line
+pub white_stop : (b : ℕ) (bs : List ℕ) (size : ℕ) → IsWhite (b ∷ bs) size → is_white b ≡ true → ends_here (content_codes (drop size (b ∷ bs))) ≡ true
+    → is_text_at (content_codes (b ∷ bs)) ≡ false
+white_stop b bs size is white ends =
+    let same = plain_code b bs (λ e. false≢true (ap is_white (sym e) ∙ white)) in
+    ap is_text_at same ∙ cond-true (is_white b) _ _ white
+    ∙ ap not (ap (λ cs. ends_here (bare cs)) (sym same) ∙ ap ends_here (sym is.bare) ∙ ends)
+
+-- a byte at which something may start
+pub special_stop : (b : ℕ) (bs : List ℕ) → is_white b ≡ false → starts b ≡ true → is_text_at (content_codes (b ∷ bs)) ≡ false
+special_stop b bs dark special = elim (cases_Bool (eqb b 13)) [
+  | inl h ↦
+      ap (λ x. is_text_at (content_codes (x ∷ bs))) (eqb-true b 13 h)
+      ∙ at_return is_text_at false bs (λ cs. refl) (λ cs. refl)
+  | inr h ↦ ap is_text_at (cond-false (eqb b 13) _ _ h) ∙ cond-false (is_white b) _ _ dark ∙ ap not special
+]
+
+-- the end of text that isn't empty
+pub text_end : (bytes : List ℕ) (size : ℕ) → IsText bytes size → 0 < size → IsAfter bytes (drop size bytes)
+text_end bytes size is some = is_after bytes (drop size bytes) size refl some is.within (cut_plain bytes size is.within is.plain)
+
+-- the first byte where text ends and no leaf begins: no line ending, and one code
+pub record IsSpecial (bytes : List ℕ) : Type 0 where
+  pub ascii : get_or bytes 0 0 < 128
+  pub apart_return : get_or bytes 0 0 ≡ 13 → ⊥
+  pub apart_feed : get_or bytes 0 0 ≡ 10 → ⊥
+  pub special : is_special (get_or bytes 0 0) ≡ true
+  pub place : IsAfter bytes (drop 1 bytes)
+
+pub special_byte : (on : Constructs) (names : List ℕ → Option (List ℕ)) (bytes : List ℕ) → 0 < length bytes
+    → is_text_at (content_codes bytes) ≡ false → leaf_in on names (content_codes bytes) ≡ None → IsSpecial bytes
+special_byte on names [] some stop none = absurd (omega arith)
+special_byte on names (b ∷ bs) some stop none = elim (cases_Bool (eqb b 13)) [
+  | inl h ↦ absurd (returned (eqb-true b 13 h))
+  | inr h ↦ other (λ e. true≢false (sym (ap (λ x. eqb x 13) e) ∙ h))
+]
+  where
+    context : InlineContext
+    context = without_labels on names
+
+    ends : (codes : List ℕ) → is_text_at codes ≡ false → leaf_at context codes ≡ None → begins_with_eol codes ≡ true → ⊥
+    ends [] stop none eol = false≢true eol
+    ends (c ∷ cs) stop none eol = false≢true (sym (special_first context c cs stop none).1 ∙ eol)
+
+    returned : b ≡ 13 → ⊥
+    returned e = ends (content_codes (b ∷ bs)) stop none (ap (λ x. begins_with_eol (content_codes (x ∷ bs))) e ∙ at_return begins_with_eol true bs (λ cs. refl) (λ cs. refl))
+
+    other : (b ≡ 13 → ⊥) → IsSpecial (b ∷ bs)
+    other apart =
+        let same = plain_code b bs apart in
+        let first = special_first context b (content_codes bs) (ap is_text_at (sym same) ∙ stop) (ap (leaf_at context) (sym same) ∙ none) in
+        let special : is_special b ≡ true = elim (or_cases (is_special b) (is_eol b) first.0) [
+          | inl is ↦ is
+          | inr eol ↦ absurd (false≢true (sym first.1 ∙ eol))
+        ] in
+        record {
+          ascii = special_ascii b special;
+          apart_return = apart;
+          apart_feed = λ e. false≢true (sym first.1 ∙ ap is_eol e);
+          special = special;
+          place = is_after (b ∷ bs) bs 1 refl (omega arith) (omega arith) (cut_after_byte (b ∷ bs) 1 (omega arith) apart);
+        }
+
+-- a place at which text ends
+pub stops_at : (bytes : List ℕ) (size : ℕ) → IsText bytes size → is_text_at (content_codes (drop size bytes)) ≡ false
+    → is_text_at (drop size (content_codes bytes)) ≡ false
+stops_at bytes size is stop = ap is_text_at (plain_drop size bytes is.within is.plain) ∙ stop
+
+-- no text at the front
+pub nothing_is_text : (bytes : List ℕ) (size : ℕ) → size ≡ 0 → 0 < length bytes
+    → (size < length bytes → is_text_at (drop size (content_codes bytes)) ≡ false) → is_text_at (content_codes bytes) ≡ false
+nothing_is_text bytes size e some stops = ap (λ n. is_text_at (drop n (content_codes bytes))) (sym e) ∙ stops (omega arith)

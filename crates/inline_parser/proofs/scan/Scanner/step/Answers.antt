@@ -1,0 +1,86 @@
+use Rattle.std.proofs.Common.{IfSome, ◌≡◌, ℕ, ◌<◌, true, false, map, sym, ap, ◌∙◌, length, arith, subst, take, drop, get_or}
+use Rattle.std.specs.Str.{IsUtf8}
+use Rattle.definition_text.specs.Content.{content_codes}
+use Rattle.definition_inline.specs.Inline.{Data}
+use Rattle.definition_inline.specs.Scan as scan
+use Rattle.definition_inline.specs.Scan.{read_tokens, start_bytes}
+use Rattle.definition_inline.specs.Spans.{Item}
+use Rattle.definition_page.specs.InlineHtml.{leads_to}
+use Rattle.definition_page.specs.Targets.{linked_at, linked_by}
+use Rattle.inline_content.specs.View.{view_at}
+use Rattle.inline_leaves.specs.Leaves.{parts_of, found_leaf, IsAfter}
+use Rattle.inline_parser.specs.Plain.{is_text_at}
+use Rattle.inline_parser.specs.Scanned.{context_by}
+use Rattle.inline_parser.proofs.Follow as follow
+use Rattle.inline_parser.proofs.Follow.{on_ok}
+use Rattle.inline_parser.proofs.Texts as texts
+use Rattle.inline_parser.proofs.scan.Scanner.step.Goals as goal
+
+pub text-requires-clause-boundary : goal.text-requires-clause-boundary
+text-requires-clause-boundary g c =
+    let value = c.as_bytes.ensures.value in
+    follow.ascii_boundary c.args.self.now.rest.now c.text_size-size.result (omega (arith, c.text_size-size.ensures.within, ap length value))
+    (subst (λ bs. c.text_size-size.result < length bs → get_or bs c.text_size-size.result 0 < 128) value c.text_size-size.ensures.ascii)
+
+pub text-requires-clause-next : goal.text-requires-clause-next
+text-requires-clause-next g c =
+    subst (λ bs. IsAfter bs (drop c.text_size-size.result bs)) c.as_bytes.ensures.value (c.text_size-size.ensures.ending c.if-size-gt0.true)
+
+pub returns-then-size-gt0-clause-read : goal.returns-then-size-gt0-clause-read
+returns-then-size-gt0-clause-read g c ds final has f =
+    let source = c.args.source.now in
+    let on = source.on.now in
+    let names = g.T.Tables.reference_of source.tables.now in
+    let p = g.T.Tables.punctuation_of source.tables.now in
+    let rest = c.args.self.now.rest.now in
+    let place = c.requires.placed.place in
+    let leads = leads_to (linked_by ds) in
+    let at = linked_at ds in
+    let n = c.text_size-size.result in
+    let value = c.as_bytes.ensures.value in
+    on_ok c.text.result c.text.ensures.rest (c.text.ensures.read leads at f.now f.shows)
+    (λ left shows.
+    record {
+      now = read_tokens (map (λ i. Item i) (map (λ b. Data b) (take n rest))) f.now;
+      shows = shows;
+      same =
+          ap (λ r. scan.scan (context_by on names ds) 0 (read_tokens (map (λ i. Item i) (map (λ b. Data b) (take n rest))) f.now) (view_at p source.content r)) left
+          ∙ follow.text_follows on names p ds source.content rest n f.now final place (omega (arith, c.text_size-size.ensures.within, ap length value))
+          (subst (λ bs. (k : ℕ) → k < n → is_text_at (drop k (content_codes bs)) ≡ true) value c.text_size-size.ensures.text)
+          (subst (λ bs. (k : ℕ) → k < n → get_or bs k 0 ≡ 13 → ⊥) value c.text_size-size.ensures.plain)
+          (subst (λ bs. IsAfter bs (drop n bs)) value (c.text_size-size.ensures.ending c.if-size-gt0.true)) f.same;
+    })
+
+pub run_or_label-requires-clause-first : goal.run_or_label-requires-clause-first
+run_or_label-requires-clause-first g c =
+    let source = c.args.source.now in
+    let rest = c.args.self.now.rest.now in
+    let n = c.text_size-size.result in
+    let none = texts.nothing_is_text rest n (omega (arith, c.if-size-gt0.false)) c.requires.some
+    (subst (λ bs. n < length bs → is_text_at (drop n (content_codes bs)) ≡ false) c.as_bytes.ensures.value c.text_size-size.ensures.stops) in
+    follow.single_of rest (subst IsUtf8 c.as_bytes.ensures.value c.as_bytes.ensures.utf8) c.requires.some
+    (texts.special_byte source.on.now (g.T.Tables.reference_of source.tables.now) rest c.requires.some none
+    (sym c.in_ok-leaf.ensures.read ∙ ap (found_leaf rest) c.in-None.is))
+
+pub returns-in-Some-clause-read : goal.returns-in-Some-clause-read
+returns-in-Some-clause-read g c ds final has f =
+    let source = c.args.source.now in
+    let on = source.on.now in
+    let names = g.T.Tables.reference_of source.tables.now in
+    let p = g.T.Tables.punctuation_of source.tables.now in
+    let rest = c.args.self.now.rest.now in
+    let place = c.requires.placed.place in
+    let leads = leads_to (linked_by ds) in
+    let at = linked_at ds in
+    let found = c.in-Some.leaf in
+    on_ok c.leaf.result c.leaf.ensures.rest (c.leaf.ensures.read leads at f.now f.shows)
+    (λ left shows.
+    record {
+      now = read_tokens (map (λ i. Item i) (parts_of found.part)) f.now;
+      shows = shows;
+      same =
+          ap (λ r. scan.scan (context_by on names ds) 0 (read_tokens (map (λ i. Item i) (parts_of found.part)) f.now) (view_at p source.content r)) left
+          ∙ follow.leaf_follows on names p ds source.content rest found.after.now (parts_of found.part) f.now final place
+          (ap (found_leaf rest) (sym c.in-Some.is) ∙ c.in_ok-leaf.ensures.read)
+          (subst (λ o. IfSome o (λ leaf. IsAfter rest leaf.after.now)) c.in-Some.is c.in_ok-leaf.ensures.place) f.same;
+    })

@@ -1,0 +1,82 @@
+-- A content that is being read, as the definition reads it.
+use Rattle.std.specs.Prelude.{◌≡◌, ◌<◌, ◌≤◌, ℕ, Bool, false, List, [], ◌∷◌, Option, None, drop, take, length, slice_index}
+use Rattle.std.specs.List.{All, prefix_len}
+use Rattle.std.specs.Str.{IsCharBoundary}
+use Rattle.markdown_options.specs.declared.configuration.Constructs.{Constructs}
+use Rattle.definition_text.specs.Columns.{is_white}
+use Rattle.definition_text.specs.Content.{content_codes}
+use Rattle.definition_text.specs.InlineCode.{InlineCode}
+use Rattle.definition_inline.specs.Definition.{Definition}
+use Rattle.definition_page.specs.InlineHtml.{leads_to}
+use Rattle.definition_inline.specs.Scan as scan
+use Rattle.definition_inline.specs.LabelEnd.{Ended}
+use Rattle.definition_inline.specs.Scan.{InlineContext, ended_by, start_bytes}
+use Rattle.definition_page.specs.Targets.{is_label_of, labels_of, linked_at, linked_by}
+use Rattle.inline_content.specs.declared.content.Content.{Content}
+use Rattle.inline_content.specs.View.{content_view, view_at}
+use Rattle.inline_leaves.specs.Leaves.{size_before, IsAfter, IsEnd}
+use Rattle.inline_labels.specs.declared.table.LabelTable.{LabelTable}
+use Rattle.inline_labels.specs.Table.{HasLabels}
+use Rattle.inline_links.specs.Codes.{IsRest}
+use Rattle.inline_runs.specs.declared.run.Run.{Run}
+use Rattle.inline_parser.specs.declared.label.LabelStart.{LabelStart}
+use Rattle.inline_parser.specs.declared.label.OpenLabel.{OpenLabel}
+use Rattle.inline_parser.specs.declared.scan.Scanner.{Scanner}
+use Rattle.inline_parser.specs.Shows.{Shows, IsSound, start_view}
+
+-- the context of a document with these definitions
+abbrev pub context_by : Constructs → (List ℕ → Option (List ℕ)) → List Definition → InlineContext
+context_by on names ds = record { on = on; names = names; is_defined = is_label_of ds }
+
+-- what was read, and that the scan of what is left gives this in the end
+pub record Follows {A : Type 0} (on : Constructs) (names : List ℕ → Option (List ℕ)) (is_punctuation : ℕ → Bool) (ds : List Definition) (content : Content) (s : Scanner A) (final : scan.Reading) : Type 0 where
+  pub now : scan.Reading
+  pub shows : Shows (leads_to (linked_by ds)) (linked_at ds) s.reading now
+  pub same : scan.scan (context_by on names ds) 0 now (view_at is_punctuation content s.rest.now) ≡ final
+
+-- a rest of a content, whose codes are the last of the content's
+pub record IsPlace (content rest : List ℕ) : Type 0 where
+  pub rest_of : IsRest content rest
+  pub fewer : length (content_codes rest) ≤ length (content_codes content)
+  pub codes : content_codes rest ≡ drop (size_before content rest) (content_codes content)
+
+-- what is left, of the content and of what stands after each label start that is open
+pub record IsPlaced {A : Type 0} (content : Content) (s : Scanner A) : Type 0 where
+  pub searched : s.searches.content ≡ content.text
+  pub place : IsPlace content.text.now s.rest.now
+  pub labels : All (λ (o : OpenLabel). IsRest o.from.now s.rest.now) s.reading.labels.items
+  pub sound : IsSound s.reading
+
+-- what a `]` forms with the innermost label start that is open, if there is one
+abbrev pub ended_here : InlineContext → List ℕ → List scan.OpenLabel → scan.Text → Option Ended
+ended_here context content [] inner = None
+ended_here context content (label ∷ others) inner = ended_by context content label inner
+
+-- a byte that is a code of one byte
+pub record IsSingle (bytes : List ℕ) : Type 0 where
+  pub ascii : slice_index bytes 0 < 128
+  pub apart : slice_index bytes 0 ≡ 13 → ⊥
+  pub boundary : IsCharBoundary bytes 1
+  pub next : IsAfter bytes (drop 1 bytes)
+  pub code : content_codes bytes ≡ slice_index bytes 0 ∷ content_codes (drop 1 bytes)
+
+-- a run comes first
+pub record IsRunFront (bytes : List ℕ) (run : Run) : Type 0 where
+  pub end : IsEnd bytes run.size
+  pub first : take 1 bytes ≡ run.marker ∷ []
+
+-- a label start comes first
+pub record StartsLabel (bytes : List ℕ) (start : LabelStart) : Type 0 where
+  pub end : IsEnd bytes (length (start_bytes (start_view start)))
+  pub first : take (length (start_bytes (start_view start))) bytes ≡ start_bytes (start_view start)
+
+-- what all of a content is read as, but for the spaces and tabs at its start
+abbrev pub scanned : Constructs → (List ℕ → Option (List ℕ)) → (ℕ → Bool) → List Definition → Content → scan.Reading
+scanned on names is_punctuation ds content =
+    let view = content_view is_punctuation content in
+    scan.scan (context_by on names ds) 0 (scan.reading (scan.text [] false) []) (drop (prefix_len (λ (c : InlineCode). is_white c.code) view) view)
+
+-- a content that is being read to this end
+pub record IsScanning {A : Type 0} (on : Constructs) (names : List ℕ → Option (List ℕ)) (is_punctuation : ℕ → Bool) (labels : LabelTable A) (content : Content) (s : Scanner A) : Type 0 where
+  pub placed : IsPlaced content s
+  pub follows : (ds : List Definition) → HasLabels labels (labels_of ds) → Follows on names is_punctuation ds content s (scanned on names is_punctuation ds content)

@@ -1,0 +1,204 @@
+//! What is read of a content so far (CommonMark appendix, phase 2).
+//!
+//! Rows are made from left to right. A label start and the bytes of a run are rows of text at
+//! first. Where a label forms something, the row of its start becomes the start of a link or an
+//! image, and the runs after it are told apart. The runs that are left are told apart at the end.
+ghost use Rattle.std.specs.Prelude.{◌≡◌, OnOk, IfOk};
+ghost use Rattle.std.specs.Prelude.{ℕ, false, List, ◌∷◌, ◌++◌, [], length, map, replicate};
+ghost use Rattle.definition_inline.specs.Inline.{Target, Linked, Data};
+ghost use Rattle.inline_rows.specs.InlineRows.{inline_rows};
+ghost use Rattle.definition_inline.specs.Scan as scan;
+ghost use Rattle.definition_inline.specs.Scan.{read_tokens, whole_text};
+ghost use Rattle.definition_inline.specs.Spans.{Item, Delimiters, Token, emphasized};
+ghost use Rattle.inline_leaves.specs.Leaves.{parts_of};
+ghost use Rattle.inline_runs.specs.View.{run_view};
+ghost use Rattle.inline_rows.specs.View.{rows_view, target_linked};
+ghost use Rattle.inline_rows.specs.declared.row.InlineRow.{InlineRow as SeenRow};
+ghost use Rattle.inline_spans.specs.Container.{IsContainer, AreTold, AreWithin};
+ghost use Rattle.std.specs.List.{All};
+ghost use Rattle.inline_links.specs.Codes.{IsRest};
+ghost use Rattle.inline_parser.specs.declared.label.OpenLabel.{OpenLabel as SeenLabel};
+ghost use Rattle.inline_parser.specs.Shows.{Shows, IsSound, OpensAt, opened, formed_last, unformed_last};
+
+use crate::label::{LabelStart, OpenLabel};
+use inline_runs::{Pairing, Run};
+use inline_leaves::LeafPart;
+use inline_rows::{InlineRow, LinkTarget};
+use inline_spans::tell_apart;
+use std::alloc::{AllocError, Allocator};
+
+/// The rows so far, and what is open.
+#[derive(Drop)]
+pub(crate) struct Reading<'a, A: Allocator> {
+    pub(crate) rows: Vec<InlineRow<'a>, A>,
+    /// The runs that aren't told apart yet.
+    runs: Vec<Run, A>,
+    /// The places of their first rows.
+    slots: Vec<usize, A>,
+    /// The label starts that are open, the innermost last.
+    pub(crate) labels: Vec<OpenLabel<'a>, A>,
+    /// Whether a link stands after the innermost of them.
+    pub(crate) holds_link: bool,
+    pairing: Pairing<A>,
+}
+
+impl<'a, A: Allocator + Clone> Reading<'a, A> {
+    /// Before anything is read.
+    pub(crate) fn new(alloc: A) -> Result<Reading<'a, A>, AllocError>
+        ensures nothing { (leads : Target → Linked) (at : ℕ → Linked) → IfOk result (λ reading. Shows leads at reading (scan.reading (scan.text [] false) [])) }
+        ensures sound { IfOk result IsSound }
+        ensures none { IfOk result (λ reading. reading.labels.items ≡ []) }
+    {
+        Ok(Reading {
+            rows: Vec::new(alloc.clone()?),
+            runs: Vec::new(alloc.clone()?),
+            slots: Vec::new(alloc.clone()?),
+            labels: Vec::new(alloc.clone()?),
+            holds_link: false,
+            pairing: Pairing::new(alloc)?,
+        })
+    }
+}
+
+impl<'a, A: Allocator> Reading<'a, A> {
+    /// Bytes that are text.
+    pub(crate) fn text(&mut self, text: &'a str) -> Result<(), AllocError>
+        requires sound { IsSound self.old }
+        ensures sound { OnOk result (IsSound self.new) }
+        ensures from { (rest : List ℕ) → All (λ (o : SeenLabel). IsRest o.from.now rest) self.old.labels.items → OnOk result (All (λ (o : SeenLabel). IsRest o.from.now rest) self.new.labels.items) }
+        ensures read { (leads : Target → Linked) (at : ℕ → Linked) (r : scan.Reading) → Shows leads at self.old r → OnOk result (Shows leads at self.new (read_tokens (map Item (map Data text.now)) r)) }
+    {
+        self.rows.push(InlineRow::Text(text))?;
+        Ok(())
+    }
+
+    /// A construct that holds no other.
+    pub(crate) fn leaf(&mut self, part: LeafPart<'a>) -> Result<(), AllocError>
+        requires sound { IsSound self.old }
+        ensures sound { OnOk result (IsSound self.new) }
+        ensures from { (rest : List ℕ) → All (λ (o : SeenLabel). IsRest o.from.now rest) self.old.labels.items → OnOk result (All (λ (o : SeenLabel). IsRest o.from.now rest) self.new.labels.items) }
+        ensures read { (leads : Target → Linked) (at : ℕ → Linked) (r : scan.Reading) → Shows leads at self.old r → OnOk result (Shows leads at self.new (read_tokens (map Item (parts_of part.entry)) r)) }
+    {
+        self.rows.push(InlineRow::Leaf(part))?;
+        Ok(())
+    }
+
+    /// A run of this one byte (CommonMark 6.2).
+    pub(crate) fn run(&mut self, run: Run, byte: &'a str) -> Result<(), AllocError>
+        requires sound { IsSound self.old }
+        requires byte { byte.now ≡ run.marker ∷ [] }
+        ensures sound { OnOk result (IsSound self.new) }
+        ensures from { (rest : List ℕ) → All (λ (o : SeenLabel). IsRest o.from.now rest) self.old.labels.items → OnOk result (All (λ (o : SeenLabel). IsRest o.from.now rest) self.new.labels.items) }
+        ensures read { (leads : Target → Linked) (at : ℕ → Linked) (r : scan.Reading) → Shows leads at self.old r → OnOk result (Shows leads at self.new (read_tokens (Delimiters (run_view run) ∷ []) r)) }
+    {
+        self.slots.push(self.rows.len())?;
+        self.runs.push(run)?;
+        push_copies(&mut self.rows, InlineRow::Text(byte), run.size)?;
+        Ok(())
+    }
+
+    /// A label start of these bytes, before the content from there on (CommonMark 6.3 and 6.4).
+    pub(crate) fn start(
+        &mut self,
+        start: LabelStart,
+        text: &'a str,
+        from: &'a str,
+    ) -> Result<(), AllocError>
+        requires sound { IsSound self.old }
+        requires text { OpensAt start text.now }
+        ensures sound { OnOk result (IsSound self.new) }
+        ensures from { (rest : List ℕ) → All (λ (o : SeenLabel). IsRest o.from.now rest) self.old.labels.items → IsRest from.now rest → OnOk result (All (λ (o : SeenLabel). IsRest o.from.now rest) self.new.labels.items) }
+        ensures read { (leads : Target → Linked) (at : ℕ → Linked) (r : scan.Reading) → Shows leads at self.old r → OnOk result (Shows leads at self.new (opened start from.now r)) }
+    {
+        self.labels.push(OpenLabel {
+            start,
+            row: self.rows.len(),
+            runs: self.runs.len(),
+            from,
+            holds_link: self.holds_link,
+        })?;
+        self.holds_link = false;
+        self.rows.push(InlineRow::Text(text))?;
+        Ok(())
+    }
+
+    /// The innermost label start that is open forms nothing (CommonMark 6.3).
+    pub(crate) fn unform(&mut self)
+        requires sound { IsSound self.old }
+        ensures sound { IsSound self.new }
+        ensures from { (rest : List ℕ) → All (λ (o : SeenLabel). IsRest o.from.now rest) self.old.labels.items → All (λ (o : SeenLabel). IsRest o.from.now rest) self.new.labels.items }
+        ensures read { (leads : Target → Linked) (at : ℕ → Linked) (r : scan.Reading) → Shows leads at self.old r → Shows leads at self.new (unformed_last r) }
+    {
+        if let Some(label) = self.labels.pop() {
+            self.holds_link = label.around_holds_link(self.holds_link);
+        }
+    }
+
+    /// The innermost label start that is open forms a link or an image (CommonMark 6.3 and 6.4).
+    pub(crate) fn form(&mut self, target: LinkTarget<'a>) -> Result<(), AllocError>
+        requires sound { IsSound self.old }
+        ensures sound { OnOk result (IsSound self.new) }
+        ensures from { (rest : List ℕ) → All (λ (o : SeenLabel). IsRest o.from.now rest) self.old.labels.items → OnOk result (All (λ (o : SeenLabel). IsRest o.from.now rest) self.new.labels.items) }
+        ensures read { (leads : Target → Linked) (at : ℕ → Linked) (r : scan.Reading) (t : Target) → target_linked at target.entry ≡ leads t → Shows leads at self.old r → OnOk result (Shows leads at self.new (formed_last t r)) }
+    {
+        let Some(label) = self.labels.pop() else {
+            return Ok(());
+        };
+        tell_inner(
+            &mut self.rows,
+            &self.runs[label.runs..],
+            &self.slots[label.runs..],
+            &mut self.pairing,
+        )?;
+        self.runs.truncate(label.runs);
+        self.slots.truncate(label.runs);
+        self.rows[label.row] = label.start.entered(target);
+        self.holds_link = label.around_holds_link(label.start.makes_link(self.holds_link));
+        self.rows.push(InlineRow::Exit)?;
+        Ok(())
+    }
+
+    /// The rows where nothing is left: label starts that are open form nothing.
+    pub(crate) fn finish(self) -> Result<Vec<InlineRow<'a>, A>, AllocError>
+        requires sound { IsSound self }
+        ensures read { (leads : Target → Linked) (at : ℕ → Linked) (r : scan.Reading) → Shows leads at self.entry r → IfOk result (λ rows. rows_view at rows.items ≡ inline_rows leads (emphasized (whole_text r).tokens)) }
+    {
+        let Reading {
+            mut rows,
+            runs,
+            slots,
+            mut pairing,
+            ..
+        } = self;
+        tell_inner(&mut rows, &runs, &slots, &mut pairing)?;
+        Ok(rows)
+    }
+}
+
+/// Tells the runs of a container apart.
+fn tell_inner<A: Allocator>(
+    rows: &mut Vec<InlineRow<'_>, A>,
+    runs: &[Run],
+    slots: &[usize],
+    pairing: &mut Pairing<A>,
+) -> Result<(), AllocError>
+    requires { AreWithin runs.now slots.now (length rows.old.items) }
+    ensures length { length rows.new.items ≡ length rows.old.items }
+    ensures told { (leads : Target → Linked) (at : ℕ → Linked) (outer inner : List SeenRow) (tokens : List Token) → rows.old.items ≡ outer ++ inner → IsContainer leads at inner (length outer) runs.now slots.now tokens → OnOk result (AreTold leads at outer tokens rows.new.items) }
+{
+    tell_apart(rows, runs, slots, pairing)
+}
+
+/// This row so many times.
+fn push_copies<'a, A: Allocator>(
+    rows: &mut Vec<InlineRow<'a>, A>,
+    row: InlineRow<'a>,
+    count: usize,
+) -> Result<(), AllocError>
+    ensures { OnOk result (rows.new.items ≡ rows.old.items ++ replicate count row.entry) }
+{
+    for _i in 0..count {
+        rows.push(row)?;
+    }
+    Ok(())
+}

@@ -1,0 +1,313 @@
+//! The scan of a content from left to right (CommonMark 6 and appendix, phase 2).
+//!
+//!     content ::= white* (text | leaf | run | start | ']')*
+ghost use Rattle.std.specs.Prelude.{◌≡◌, ◌<◌, ◌≤◌, ◌==◌, ◌&&◌, ℕ, List, [], ◌∷◌, Option, None, true, length, map, IfOk, IfSome, OnOk, take, drop, slice_index};
+ghost use Rattle.std.specs.List.{All, prefix_len};
+ghost use Rattle.std.specs.Option.{option_map};
+ghost use Rattle.std.specs.Str.{IsCharBoundary};
+ghost use Rattle.markdown_options.specs.declared.configuration.Constructs.{Constructs as SeenConstructs};
+ghost use Rattle.definition_inline.specs.Attention.{run_at};
+ghost use Rattle.definition_text.specs.Columns.{is_white};
+ghost use Rattle.definition_text.specs.Content.{content_codes};
+ghost use Rattle.definition_inline.specs.Inline.{Target, Linked, Data};
+ghost use Rattle.definition_page.specs.InlineHtml.{leads_to};
+ghost use Rattle.inline_rows.specs.InlineRows.{inline_rows};
+ghost use Rattle.definition_inline.specs.Definition.{Definition};
+ghost use Rattle.definition_inline.specs.Scan as scan;
+ghost use Rattle.definition_inline.specs.Scan.{inlines, label_start_at, read_tokens, start_bytes};
+ghost use Rattle.definition_inline.specs.Spans.{Item, Delimiters};
+ghost use Rattle.definition_page.specs.Targets.{labels_of, linked_at, linked_by};
+ghost use Rattle.inline_runs.specs.View.{run_view};
+ghost use Rattle.inline_content.specs.View.{content_view, view_at};
+ghost use Rattle.inline_content.specs.declared.content.Content.{Content as SeenContent};
+ghost use Rattle.inline_leaves.specs.Leaves.{parts_of, size_before, IsAfter};
+ghost use Rattle.inline_leaves.specs.Scanned.{leaf_in};
+ghost use Rattle.inline_rows.specs.View.{rows_view};
+ghost use Rattle.inline_label_ends.specs.Ends.{IsAfterEnd, IsEnded};
+ghost use Rattle.inline_labels.specs.Table.{HasLabels};
+ghost use Rattle.inline_links.specs.Codes.{IsRest};
+ghost use Rattle.inline_parser.specs.Scanned.{context_by, ended_here, Follows, IsPlace, IsPlaced, IsRunFront, IsSingle, StartsLabel};
+ghost use Rattle.inline_parser.specs.Shows.{opened, start_view, IsSound, Shows};
+ghost use Rattle.inline_parser.specs.declared.label.OpenLabel.{OpenLabel as SeenLabel};
+
+use crate::label::{LabelStart, OpenLabel};
+use crate::plain::text_size;
+use crate::reading::Reading;
+use inline_runs::Run;
+use inline_content::Content;
+use inline_leaves::Leaf;
+use inline_leaves::cut::{cut_after, text_before};
+use inline_leaves::leaf_at::leaf_at;
+use inline_leaves::searches::Searches;
+use inline_leaves::space::white_size;
+use inline_rows::InlineRow;
+use inline_label_ends::{LabelEnd, label_end};
+use inline_labels::LabelTable;
+use markdown_options::{Constructs, Tables};
+use std::alloc::{AllocError, Allocator};
+
+/// What a content is read by.
+#[derive(Drop)]
+pub(crate) struct Source<'a, T, A: Allocator + Clone> {
+    pub(crate) on: &'a Constructs,
+    pub(crate) tables: &'a T,
+    pub(crate) labels: &'a LabelTable<A>,
+    pub(crate) content: Content<'a>,
+}
+
+/// A content that is being read.
+#[derive(Drop)]
+pub(crate) struct Scanner<'a, A: Allocator> {
+    pub(crate) searches: Searches<'a, A>,
+    /// What is left of it.
+    pub(crate) rest: &'a str,
+    pub(crate) reading: Reading<'a, A>,
+}
+
+/// The inline structure of a content as rows (CommonMark 6).
+pub fn inline_rows<'a, T: Tables, A: Allocator + Clone>(
+    alloc: A,
+    on: &'a Constructs,
+    tables: &'a T,
+    labels: &'a LabelTable<A>,
+    content: Content<'a>,
+) -> Result<Vec<InlineRow<'a>, A>, AllocError>
+    ensures { (ds : List Definition) → HasLabels labels.now (labels_of ds) → IfOk result (λ rows. rows_view (linked_at ds) rows.items ≡ inline_rows (leads_to (linked_by ds)) (inlines (context_by on.now (T.reference_of tables.now) ds) (content_view (T.punctuation_of tables.now) content.entry))) }
+{
+    let source = Source {
+        on,
+        tables,
+        labels,
+        content,
+    };
+    let mut scanner = Scanner {
+        searches: Searches::new(alloc.clone()?, content.text()),
+        rest: after_white(content.text()),
+        reading: Reading::new(alloc)?,
+    };
+    while !scanner.rest.is_empty() {
+        scanner.step(&source)?;
+    }
+    let Scanner { reading, .. } = scanner;
+    reading.finish()
+}
+
+/// The content after its spaces and tabs.
+fn after_white(text: &str) -> &str
+    ensures place { IsPlace text.now result.now }
+    ensures size { size_before text.now result.now ≡ prefix_len is_white (content_codes text.now) }
+{
+    let size = white_size(text.as_bytes());
+    if size == 0 {
+        return text;
+    }
+    cut_after(text, size)
+}
+
+/// The content from a place on that isn't inside a character.
+fn rest_from(text: &str, at: usize) -> &str
+    requires { IsCharBoundary text.now at }
+    ensures { result.now ≡ drop at text.now }
+{
+    &text[at..]
+}
+
+/// The first byte of a text, which is ASCII.
+fn first_byte(text: &str) -> &str
+    requires some { 0 < length text.now }
+    requires ascii { slice_index text.now 0 < 128 }
+    ensures { result.now ≡ take 1 text.now }
+{
+    text_before(text, 1)
+}
+
+impl<'a, A: Allocator + Clone> Scanner<'a, A> {
+    /// Reads what comes next.
+    fn step<T: Tables>(&mut self, source: &Source<'a, T, A>) -> Result<(), AllocError>
+        requires placed { IsPlaced source.now.content self.old }
+        requires some { 0 < length self.old.rest.now }
+        ensures placed { OnOk result (IsPlaced source.now.content self.new) }
+        ensures shorter { OnOk result (length self.new.rest.now < length self.old.rest.now) }
+        ensures read { (ds : List Definition) (final : scan.Reading) → HasLabels source.now.labels.now (labels_of ds) → Follows source.now.on.now (T.reference_of source.now.tables.now) (T.punctuation_of source.now.tables.now) ds source.now.content self.old final → OnOk result (Follows source.now.on.now (T.reference_of source.now.tables.now) (T.punctuation_of source.now.tables.now) ds source.now.content self.new final) }
+    {
+        let size = text_size(self.rest.as_bytes());
+        if size > 0 {
+            return self.text(size);
+        }
+        match leaf_at(source.on, source.tables, &mut self.searches, self.rest)? {
+            Some(leaf) => self.leaf(leaf),
+            None => self.run_or_label(source),
+        }
+    }
+
+    /// Bytes of text, so many.
+    fn text(&mut self, size: usize) -> Result<(), AllocError>
+        requires sound { IsSound self.old.reading }
+        requires boundary { IsCharBoundary self.old.rest.now size }
+        requires next { IsAfter self.old.rest.now (drop size self.old.rest.now) }
+        ensures placed { (content : SeenContent) → IsPlaced content self.old → OnOk result (IsPlaced content self.new) }
+        ensures rest { OnOk result (self.new.rest.now ≡ drop size self.old.rest.now) }
+        ensures read { (leads : Target → Linked) (at : ℕ → Linked) (r : scan.Reading) → Shows leads at self.old.reading r → OnOk result (Shows leads at self.new.reading (read_tokens (map Item (map Data (take size self.old.rest.now))) r)) }
+    {
+        self.reading.text(text_before(self.rest, size))?;
+        self.rest = rest_from(self.rest, size);
+        Ok(())
+    }
+
+    /// A construct that holds no other.
+    fn leaf(&mut self, leaf: Leaf<'a>) -> Result<(), AllocError>
+        requires sound { IsSound self.old.reading }
+        requires next { IsAfter self.old.rest.now leaf.after.now }
+        ensures placed { (content : SeenContent) → IsPlaced content self.old → OnOk result (IsPlaced content self.new) }
+        ensures rest { OnOk result (self.new.rest.now ≡ leaf.entry.after.now) }
+        ensures read { (leads : Target → Linked) (at : ℕ → Linked) (r : scan.Reading) → Shows leads at self.old.reading r → OnOk result (Shows leads at self.new.reading (read_tokens (map Item (parts_of leaf.entry.part)) r)) }
+    {
+        self.reading.leaf(leaf.part)?;
+        self.rest = leaf.after;
+        Ok(())
+    }
+
+    /// A run, a label start, a `]`, or a byte of text.
+    fn run_or_label<T: Tables>(&mut self, source: &Source<'a, T, A>) -> Result<(), AllocError>
+        requires placed { IsPlaced source.now.content self.old }
+        requires some { 0 < length self.old.rest.now }
+        requires no_leaf { leaf_in source.now.on.now (T.reference_of source.now.tables.now) (content_codes self.old.rest.now) ≡ None }
+        requires first { IsSingle self.old.rest.now }
+        ensures placed { OnOk result (IsPlaced source.now.content self.new) }
+        ensures shorter { OnOk result (length self.new.rest.now < length self.old.rest.now) }
+        ensures read { (ds : List Definition) (final : scan.Reading) → HasLabels source.now.labels.now (labels_of ds) → Follows source.now.on.now (T.reference_of source.now.tables.now) (T.punctuation_of source.now.tables.now) ds source.now.content self.old final → OnOk result (Follows source.now.on.now (T.reference_of source.now.tables.now) (T.punctuation_of source.now.tables.now) ds source.now.content self.new final) }
+    {
+        match source.content.run_at(source.on, source.tables, self.rest) {
+            Some(run) => self.run(run),
+            None => self.label_or_byte(source),
+        }
+    }
+
+    /// A run (CommonMark 6.2).
+    fn run(&mut self, run: Run) -> Result<(), AllocError>
+        requires sound { IsSound self.old.reading }
+        requires first { IsSingle self.old.rest.now }
+        requires front { IsRunFront self.old.rest.now run }
+        ensures placed { (content : SeenContent) → IsPlaced content self.old → OnOk result (IsPlaced content self.new) }
+        ensures rest { OnOk result (self.new.rest.now ≡ drop run.size self.old.rest.now) }
+        ensures read { (leads : Target → Linked) (at : ℕ → Linked) (r : scan.Reading) → Shows leads at self.old.reading r → OnOk result (Shows leads at self.new.reading (read_tokens (Delimiters (run_view run) ∷ []) r)) }
+    {
+        self.reading.run(run, first_byte(self.rest))?;
+        self.rest = cut_after(self.rest, run.size);
+        Ok(())
+    }
+
+    /// A label start, a `]`, or a byte of text.
+    fn label_or_byte<T: Tables>(&mut self, source: &Source<'a, T, A>) -> Result<(), AllocError>
+        requires placed { IsPlaced source.now.content self.old }
+        requires some { 0 < length self.old.rest.now }
+        requires no_leaf { leaf_in source.now.on.now (T.reference_of source.now.tables.now) (content_codes self.old.rest.now) ≡ None }
+        requires first { IsSingle self.old.rest.now }
+        requires no_run { run_at source.now.on.now (view_at (T.punctuation_of source.now.tables.now) source.now.content self.old.rest.now) ≡ None }
+        ensures placed { OnOk result (IsPlaced source.now.content self.new) }
+        ensures shorter { OnOk result (length self.new.rest.now < length self.old.rest.now) }
+        ensures read { (ds : List Definition) (final : scan.Reading) → HasLabels source.now.labels.now (labels_of ds) → Follows source.now.on.now (T.reference_of source.now.tables.now) (T.punctuation_of source.now.tables.now) ds source.now.content self.old final → OnOk result (Follows source.now.on.now (T.reference_of source.now.tables.now) (T.punctuation_of source.now.tables.now) ds source.now.content self.new final) }
+    {
+        if let Some(start) = label_start_at(source.on, self.rest) {
+            return self.start(start);
+        }
+        if is_label_end(source.on, self.rest) {
+            self.end(source)
+        } else {
+            self.text(1)
+        }
+    }
+
+    /// A label start (CommonMark 6.3 and 6.4).
+    fn start(&mut self, start: LabelStart) -> Result<(), AllocError>
+        requires sound { IsSound self.old.reading }
+        requires front { StartsLabel self.old.rest.now start }
+        ensures placed { (content : SeenContent) → IsPlaced content self.old → OnOk result (IsPlaced content self.new) }
+        ensures rest { OnOk result (self.new.rest.now ≡ drop (length (start_bytes (start_view start))) self.old.rest.now) }
+        ensures read { (leads : Target → Linked) (at : ℕ → Linked) (r : scan.Reading) → Shows leads at self.old.reading r → OnOk result (Shows leads at self.new.reading (opened start (drop (length (start_bytes (start_view start))) self.old.rest.now) r)) }
+    {
+        let size = start.size();
+        let after = cut_after(self.rest, size);
+        self.reading
+            .start(start, text_before(self.rest, size), after)?;
+        self.rest = after;
+        Ok(())
+    }
+
+    /// A `]`: what it forms, or else text (CommonMark 6.3 and 6.4).
+    fn end<T: Tables>(&mut self, source: &Source<'a, T, A>) -> Result<(), AllocError>
+        requires placed { IsPlaced source.now.content self.old }
+        requires some { 0 < length self.old.rest.now }
+        requires no_leaf { leaf_in source.now.on.now (T.reference_of source.now.tables.now) (content_codes self.old.rest.now) ≡ None }
+        requires first { IsSingle self.old.rest.now }
+        requires no_run { run_at source.now.on.now (view_at (T.punctuation_of source.now.tables.now) source.now.content self.old.rest.now) ≡ None }
+        requires no_start { label_start_at source.now.on.now (content_codes self.old.rest.now) ≡ None }
+        requires bracket { (source.now.on.now.label_end && (slice_index self.old.rest.now 0 == 93)) ≡ true }
+        ensures placed { OnOk result (IsPlaced source.now.content self.new) }
+        ensures shorter { OnOk result (length self.new.rest.now < length self.old.rest.now) }
+        ensures read { (ds : List Definition) (final : scan.Reading) → HasLabels source.now.labels.now (labels_of ds) → Follows source.now.on.now (T.reference_of source.now.tables.now) (T.punctuation_of source.now.tables.now) ds source.now.content self.old final → OnOk result (Follows source.now.on.now (T.reference_of source.now.tables.now) (T.punctuation_of source.now.tables.now) ds source.now.content self.new final) }
+    {
+        let after = cut_after(self.rest, 1);
+        match self.ended(source.labels, after)? {
+            Some(end) => {
+                self.reading.form(end.target)?;
+                self.rest = end.after;
+                Ok(())
+            }
+            None => {
+                self.reading.unform();
+                self.text(1)
+            }
+        }
+    }
+
+    /// What a `]` before this content forms with the innermost label start that is open, unless a
+    /// link would hold a link (CommonMark 6.3).
+    fn ended(
+        &self,
+        labels: &LabelTable<A>,
+        after: &'a str,
+    ) -> Result<Option<LabelEnd<'a>>, AllocError>
+        requires placed { All (λ (o : SeenLabel). IsRest o.from.now self.now.rest.now) self.now.reading.labels.items }
+        requires bracket { self.now.rest.now ≡ 93 ∷ after.now }
+        ensures read { (leads : Target → Linked) (at : ℕ → Linked) (r : scan.Reading) (on : SeenConstructs) (names : List ℕ → Option (List ℕ)) (ds : List Definition) → HasLabels labels.now (labels_of ds) → Shows leads at self.now.reading r → IfOk result (λ found. IsEnded (labels_of ds) after.now found (ended_here (context_by on names ds) (content_codes self.now.rest.now) r.open_labels r.now)) }
+        ensures place { IfOk result (λ found. IfSome found (λ end. IsAfterEnd after.now end.after.now)) }
+    {
+        match self.reading.labels.last() {
+            Some(label) => {
+                if !label.start.may_form(self.reading.holds_link) {
+                    return Ok(None);
+                }
+                let from = label.from;
+                label_end(
+                    labels,
+                    text_before(from, from.len() - self.rest.len()),
+                    after,
+                )
+            }
+            None => Ok(None),
+        }
+    }
+}
+
+/// Whether a `]` comes first that may end a label (CommonMark 6.3).
+fn is_label_end(on: &Constructs, rest: &str) -> bool
+    requires { 0 < length rest.now }
+    ensures { result ≡ (on.now.label_end && (slice_index rest.now 0 == 93)) }
+{
+    on.label_end && rest.as_bytes()[0] == b']'
+}
+
+/// The label start that a content begins with (CommonMark 6.3 and 6.4).
+fn label_start_at(on: &Constructs, rest: &str) -> Option<LabelStart>
+    ensures read { option_map start_view result ≡ label_start_at on.now (content_codes rest.now) }
+    ensures front { IfSome result (λ start. StartsLabel rest.now start) }
+{
+    if on.label_start_image && rest.starts_with("![") {
+        return Some(LabelStart::Image);
+    }
+    if on.label_start_link && rest.starts_with("[") {
+        return Some(LabelStart::Link);
+    }
+    None
+}

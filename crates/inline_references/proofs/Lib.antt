@@ -1,0 +1,6 @@
+pub mod ReferenceForms
+pub mod Values
+pub mod Decoding
+pub mod Table
+pub mod Written
+pub mod Alone

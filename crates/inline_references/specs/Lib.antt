@@ -1,0 +1,6 @@
+pub mod LawfulRows
+pub mod Markers
+pub mod Places
+pub mod Groups
+pub mod Laws
+pub mod Grammar

@@ -1,0 +1,60 @@
+//! Texts with references in them.
+ghost use Rattle.std.specs.Prelude.{◌≡◌, ◌++◌, ◌∷◌, ◌≤◌, IfOk, IfErr, OnOk, length, string_bytes};
+ghost use Rattle.markdown_options.specs.Messages.{IsOutOfMemory};
+ghost use Rattle.definition_inline.specs.Decoded.{decoded};
+
+use crate::decode::push_value;
+use crate::reference::character_reference;
+use markdown_options::{Message, Tables};
+use std::alloc::{AllocError, Allocator};
+
+/// A text with the text of each of its references in place of it. What is no reference, or has a
+/// name that the tables don't know, stays (CommonMark 2.5).
+pub fn parse<A: Allocator, T: Tables>(
+    alloc: A,
+    value: &str,
+    tables: &T,
+) -> Result<String<A>, Message>
+    ensures text { IfOk result (λ text. string_bytes text ≡ decoded (T.reference_of tables.now) value.now) }
+    ensures memory { IfErr result IsOutOfMemory }
+{
+    let mut text = String::with_capacity(alloc, value.len())?;
+    push_decoded(&mut text, value, tables)?;
+    Ok(text)
+}
+
+/// Prints a text with the text of each of its references in place of it (CommonMark 2.5).
+pub fn push_decoded<A: Allocator, T: Tables>(
+    out: &mut String<A>,
+    value: &str,
+    tables: &T,
+) -> Result<(), AllocError>
+    ensures { OnOk result (string_bytes out.new ≡ string_bytes out.old ++ decoded (T.reference_of tables.now) value.now) }
+{
+    let mut rest = value;
+    while let Some((before, after)) = rest.split_once('&') {
+        out.push_str(before)?;
+        rest = push_reference(out, after, tables)?;
+    }
+    out.push_str(rest)
+}
+
+/// Prints what the `&` before a text begins, and returns the text that is left.
+fn push_reference<'a, A: Allocator, T: Tables>(
+    out: &mut String<A>,
+    after: &'a str,
+    tables: &T,
+) -> Result<&'a str, AllocError>
+    ensures printed { IfOk result (λ rest. string_bytes out.new ++ decoded (T.reference_of tables.now) rest.now ≡ string_bytes out.old ++ decoded (T.reference_of tables.now) (38 ∷ after.now)) }
+    ensures shorter { IfOk result (λ rest. length rest.now ≤ length after.now) }
+{
+    let Some(reference) = character_reference(after) else {
+        out.push_str("&")?;
+        return Ok(after);
+    };
+    if push_value(out, reference.value, reference.marker, tables)? {
+        return Ok(reference.rest);
+    }
+    out.push_str("&")?;
+    Ok(after)
+}

@@ -1,0 +1,87 @@
+//! Where references are.
+ghost use Rattle.std.specs.Prelude.{◌≡◌, ◌≤◌, IfSome, IsTrue, length, drop};
+ghost use Rattle.definition_inline.specs.References.{marker_of, marker_size, reference_at, reference_size};
+ghost use Rattle.inline_references.specs.Markers.{is_marker, IsDecodable};
+ghost use Rattle.inline_references.specs.Places.{found_reference, read_reference, text_reference, IsPlaced};
+
+use crate::value::{value_len, value_max};
+
+/// A reference, by places after its `&`.
+#[derive(Clone, Copy, Debug, PartialEq, Eq)]
+pub struct Reference {
+    /// `&` before a name, `#` before decimal and `x` before hexadecimal digits.
+    pub marker: u8,
+    /// Where its name or digits begin, in bytes after the `&`.
+    pub start: usize,
+    /// Where its `;` is, in bytes after the `&`.
+    pub end: usize,
+}
+
+/// The reference whose `&` stands before these bytes (CommonMark 2.5).
+pub fn reference_at(bytes: &[u8]) -> Option<Reference>
+    ensures read { found_reference bytes.now result ≡ reference_at bytes.now }
+    ensures place { IfSome result (IsPlaced bytes.now) }
+{
+    let marker = marker_of(bytes);
+    let start = marker_size(marker);
+    let size = value_len(marker, &bytes[start..]);
+    let end = start + size;
+    if size >= 1 && size <= value_max(marker) && end < bytes.len() && bytes[end] == b';' {
+        Some(Reference { marker, start, end })
+    } else {
+        None
+    }
+}
+
+/// The marker of what these bytes after a `&` begin with.
+fn marker_of(bytes: &[u8]) -> u8
+    ensures marker { result ≡ marker_of bytes.now }
+    ensures known { IsTrue (is_marker result) }
+    ensures within { marker_size result ≤ length bytes.now }
+{
+    if !bytes.starts_with(b"#") {
+        b'&'
+    } else if bytes.len() > 1 && (bytes[1] == b'x' || bytes[1] == b'X') {
+        b'x'
+    } else {
+        b'#'
+    }
+}
+
+/// How many bytes stand between the `&` and the value.
+fn marker_size(marker: u8) -> usize
+    requires { IsTrue (is_marker marker) }
+    ensures { result ≡ marker_size marker }
+{
+    match marker {
+        b'x' => 2,
+        b'#' => 1,
+        _ => 0,
+    }
+}
+
+/// A reference with its text.
+#[derive(Clone, Copy, Debug, PartialEq, Eq)]
+pub struct CharacterReference<'a> {
+    /// `&` before a name, `#` before decimal and `x` before hexadecimal digits.
+    pub marker: u8,
+    /// Its name or digits.
+    pub value: &'a str,
+    /// What follows its `;`.
+    pub rest: &'a str,
+}
+
+/// The reference whose `&` stands before a text (CommonMark 2.5).
+pub fn character_reference(text: &str) -> Option<CharacterReference<'_>>
+    ensures read { read_reference result ≡ reference_at text.now }
+    ensures rest { IfSome result (λ r. r.rest.now ≡ drop (reference_size (text_reference r)) text.now) }
+    ensures known { IfSome result (λ r. IsTrue (is_marker r.marker)) }
+    ensures value { IfSome result (λ r. IsDecodable r.marker r.value.now) }
+{
+    let found = reference_at(text.as_bytes())?;
+    Some(CharacterReference {
+        marker: found.marker,
+        value: &text[found.start..found.end],
+        rest: &text[found.end + 1..],
+    })
+}

@@ -1,0 +1,15 @@
+use Rattle.std.proofs.Common.{◌≡◌, [], drop}
+use Rattle.std.specs.List.{fold}
+use Rattle.definition_inline.specs.Pairing.{next_run, pairing, placed_from}
+use Rattle.inline_runs.specs.View.{runs_view}
+use Rattle.inline_runs.specs.Paired.{state, IsSound}
+use Rattle.inline_runs.proofs.pairing.pair_runs.Given as goal
+
+-- the runs that are left do to what is there what all do at first
+abbrev pub invariant-loop-place : goal.invariant-loop-place
+invariant-loop-place g l = record {
+  same :
+      fold next_run (state l.pairing) (placed_from l.place (runs_view (drop l.place l.runs)))
+      ≡ fold next_run (pairing [] []) (placed_from 0 (runs_view l.runs));
+  sound : IsSound l.pairing l.place;
+}

@@ -1,0 +1,68 @@
+//! Runs of one byte, and whether they may open and close spans (CommonMark 6.2).
+//!
+//!     run            ::= '*'+ | '_'+, as long as it gets
+//!     left-flanking  ::= no whitespace after the run; and where punctuation stands after it,
+//!                        whitespace or punctuation before it
+//!     right-flanking ::= the same the other way round
+ghost use Rattle.std.specs.Prelude.{◌≡◌};
+ghost use Rattle.definition_inline.specs.Attention.{is_other, is_punctuation_kind, is_left_flanking, opens, run_between};
+ghost use Rattle.inline_runs.specs.View.{run_view};
+
+use definition_text::Kind;
+
+/// A run of one byte (CommonMark 6.2).
+#[derive(Clone, Copy)]
+pub struct Run {
+    /// The byte.
+    pub marker: u8,
+    /// How many of it are left.
+    pub size: usize,
+    /// Whether it may open spans.
+    pub may_open: bool,
+    /// Whether it may close spans.
+    pub may_close: bool,
+}
+
+/// A run of so many of a byte between characters of these kinds (CommonMark 6.2).
+pub fn run_between(marker: u8, size: usize, before: Kind, after: Kind) -> Run
+    ensures { run_view result ≡ run_between marker size before after }
+{
+    Run {
+        marker,
+        size,
+        may_open: opens(marker, before, after),
+        may_close: opens(marker, after, before),
+    }
+}
+
+/// Whether a run may open spans: if it is left-flanking. Of `_` only if it isn't right-flanking
+/// too, or punctuation stands before it.
+fn opens(marker: u8, before: Kind, after: Kind) -> bool
+    ensures { result ≡ opens marker before after }
+{
+    is_left_flanking(before, after)
+        && (marker != b'_' || !is_left_flanking(after, before) || is_punctuation(before))
+}
+
+/// Whether a run between these kinds is left-flanking.
+fn is_left_flanking(before: Kind, after: Kind) -> bool
+    ensures { result ≡ is_left_flanking before after }
+{
+    match after {
+        Kind::Other => true,
+        Kind::Punctuation => !is_other(before),
+        Kind::Whitespace => false,
+    }
+}
+
+fn is_other(kind: Kind) -> bool
+    ensures { result ≡ is_other kind }
+{
+    matches!(kind, Kind::Other)
+}
+
+fn is_punctuation(kind: Kind) -> bool
+    ensures { result ≡ is_punctuation_kind kind }
+{
+    matches!(kind, Kind::Punctuation)
+}

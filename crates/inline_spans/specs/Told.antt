@@ -1,0 +1,21 @@
+-- What the rows of a run become.
+use Rattle.std.specs.Prelude.{◌+◌, ℕ, List, [], ◌∷◌, length}
+use Rattle.std.specs.List.{flat_map}
+use Rattle.definition_inline.specs.Inline.{Target, Linked}
+use Rattle.inline_rows.specs.InlineRows as rows
+use Rattle.inline_rows.specs.InlineRows.{part_rows}
+use Rattle.definition_inline.specs.Spans.{SpanRow, Holds, Opens, Closes}
+use Rattle.inline_runs.specs.declared.spans.RunSpans.{RunSpans}
+
+-- the rows of a part, of the start of a span and of the end of one
+abbrev pub span_row_rows : (Target → Linked) → SpanRow → List rows.InlineRow
+span_row_rows leads (Holds i) = part_rows leads i
+span_row_rows leads (Opens span) = rows.EnterSpan span ∷ []
+span_row_rows leads Closes = rows.Leave ∷ []
+
+abbrev pub told_rows : (Target → Linked) → List SpanRow → List rows.InlineRow
+told_rows leads rs = flat_map (span_row_rows leads) rs
+
+-- how many rows a run needs at most
+abbrev pub rows_needed : RunSpans → ℕ
+rows_needed spans = length spans.closed.now + spans.text + length spans.opened.now

@@ -1,0 +1,477 @@
+-- Which blocks a text can have.
+use Rattle.std.proofs.Common.{◌≡◌, ℕ, suc, zero, Bool, true, false, cond, not, ◌&&◌, ◌||◌, leb, List, [], ◌∷◌, Option, None, Some, length, take, drop, refl, ap, ◌∙◌, eqb, ◌⊎◌, inl, inr}
+use Rattle.std.specs.List.{prefix_len}
+use Rattle.std.proofs.lemmas.Bool.{cond_both, and_parts, or_parts, or_from, or_left, or_right, or_cases, both_ways, not_from_true}
+use Rattle.markdown_options.specs.declared.line_ending.LineEnding.{LineEnding}
+use Rattle.markdown_options.specs.declared.configuration.Constructs.{Constructs}
+use Rattle.definition_text.specs.declared.beside.Beside.{Beside}
+use Rattle.definition_text.specs.declared.beside.Kind.{Kind}
+use Rattle.definition_text.specs.declared.beside.Kind.TheVariants.{Whitespace}
+use Rattle.definition_block.specs.declared.container.Container.{Container}
+use Rattle.definition_block.specs.declared.container.Container.TheVariants.{Quote, Item}
+use Rattle.definition_text.specs.Lines.{TextLine, lines}
+use Rattle.definition_text.specs.Columns.{Rest, whole, is_blank, indent, bare, bytes_of}
+use Rattle.definition_text.specs.Indents.{small_indent}
+use Rattle.definition_block.specs.Started.{Started}
+use Rattle.definition_block.specs.Containers.{continues, starts, quote_or}
+use Rattle.definition_block.specs.BlockQuote.{quote_prefix}
+use Rattle.definition_block.specs.ListItem.{Marker, is_digit, number_of, bullet, delimiter, marker, is_item, item_after, item_start}
+use Rattle.definition_block.specs.CodeIndented.{starts_code_indented}
+use Rattle.definition_block.specs.CodeFenced.{Fence, is_fence_end, fence_start}
+use Rattle.definition_block.specs.HtmlFlow.{html_start, html_ends_here, ends_before_blank}
+use Rattle.definition_block.specs.HeadingAtx.{Atx, heading_atx}
+use Rattle.definition_block.specs.HeadingSetext.{underline, underline_of}
+use Rattle.definition_text.specs.Runs.{is_run}
+use Rattle.definition_block.specs.ThematicBreak.{is_break}
+use Rattle.definition_inline.specs.Definition.{Definition as LinkDefinition, definition_at}
+use Rattle.definition_text.specs.Content.{content_of}
+use Rattle.definition_block.specs.Definitions.{lines_before, Cut, cut_into, cut_after, cut_most, cut}
+use Rattle.definition_text.specs.BlockLines.{own_lines, BlockLine}
+use Rattle.definition_block.specs.Tree.{one, ended, empty_tree, nothing, tree, blanks, paragraph_of, close_leaf, is_ending, all_endings, front, trailing, without_last, last_of, holds, close, has_text, leaf_with_line, with_line, rest_line, indented_takes, fenced_takes, html_with, html_takes, takes, or_heading, or_fence, or_html, begins, after, text_line_of, break_or_text, text_here, heading_of, underlined, turns, begun, taken, leaf_line, beside_in, start, new, began_blank, goes_on, grow, beside_line, step, steps, closed, Block, Paragraph, Heading, Break, IndentedCode, FencedCode, Html, Definition, Holds, Items, Ending, Blank, Blocks, Nil, Cons, join, blocks, OpenLeaf, Text, Indented, Fenced, OpenHtml, Opening, Leaf, Inside, Tree as BlockTree}
+use Rattle.definition_block.specs.Lists.{before, grouped_block, grouped}
+use Rattle.laws_block.specs.ItemMarkers.{is_item_marker, is_unmarked, ItemsAreMarked}
+use Rattle.laws_block.specs.Occurs.{block_has, has, is_quote, is_list_item, is_indented_code, is_fenced_code, is_html, is_thematic_break, is_definition, is_heading, is_one_line, is_long_heading, is_deep_heading, NoQuotes, NoItems, NoIndentedCode, NoFencedCode, NoHtml, NoBreaks, NoDefinitions, NoHeadings, NoLongHeadings, NoDeepHeadings, NoLists}
+
+-- ---- what may stand in a text
+
+-- a heading of one line by `#`, or one of a rank up to 2 by an underline
+abbrev pub HeadingMayStand : Constructs → ℕ → List BlockLine → Type 0
+HeadingMayStand on rank ls = ((on.heading_atx ≡ true) × (is_one_line ls ≡ true)) ⊎ ((on.heading_setext ≡ true) × (leb rank 2 ≡ true))
+
+abbrev pub ContainerMayStand : Constructs → Container → Type 0
+ContainerMayStand on Quote = on.block_quote ≡ true
+ContainerMayStand on (Item item) = (on.list_item ≡ true) × (is_item_marker item.marker ≡ true)
+
+-- the construct of each block is on, at any depth, and items aren't in lists yet
+abbrev mutual
+  pub BlockMayStand : Constructs → Block → Type 0
+  BlockMayStand on (Paragraph ls) = Unit {0}
+  BlockMayStand on (Heading rank ls) = HeadingMayStand on rank ls
+  BlockMayStand on Break = on.thematic_break ≡ true
+  BlockMayStand on (IndentedCode ls) = on.code_indented ≡ true
+  BlockMayStand on (FencedCode info closed ls) = on.code_fenced ≡ true
+  BlockMayStand on (Html ls) = on.html_flow ≡ true
+  BlockMayStand on (Definition label destination title) = on.definition ≡ true
+  BlockMayStand on (Holds c kids) = ContainerMayStand on c × MayStand on kids
+  BlockMayStand on (Items items) = ⊥
+  BlockMayStand on (Ending ending) = Unit {0}
+  BlockMayStand on (Blank ending) = Unit {0}
+
+  pub MayStand : Constructs → Blocks → Type 0
+  MayStand on Nil = Unit {0}
+  MayStand on (Cons b bs) = BlockMayStand on b × MayStand on bs
+
+abbrev LeafMayStand : Constructs → OpenLeaf → Type 0
+LeafMayStand on (Text ls) = Unit {0}
+LeafMayStand on (Indented ls pending) = on.code_indented ≡ true
+LeafMayStand on (Fenced fence ending ls) = on.code_fenced ≡ true
+LeafMayStand on (OpenHtml kind ls) = on.html_flow ≡ true
+
+abbrev OpeningMayStand : Constructs → Opening → Type 0
+OpeningMayStand on (Leaf leaf) = LeafMayStand on leaf
+OpeningMayStand on (Inside c kids inner) = ContainerMayStand on c × MayStand on kids × OpeningMayStand on inner
+
+abbrev TreeMayStand : Constructs → BlockTree → Type 0
+TreeMayStand on t = MayStand on t.done × OpeningMayStand on t.now
+
+-- what holds of a value, where there is one
+abbrev WhereSome : {A : Type 0} → (A → Type 0) → Option A → Type 0
+WhereSome P None = Unit {0}
+WhereSome P (Some x) = P x
+
+where_any : {A : Type 0} (P : Type 0) (o : Option A) → P → WhereSome {A = A} (λ x. P) o
+where_any P None p = tt
+where_any P (Some x) p = p
+
+-- what only stands where a construct is on, and more holds
+guarded : {A : Type 0} (on more : Bool) (o : Option A) → WhereSome {A = A} (λ x. on ≡ true) (cond (on && more) o None)
+guarded on more o = cond_both (on && more) o None (WhereSome (λ x. on ≡ true)) (λ e. where_any (on ≡ true) o (and_parts on more e).0) (λ e. tt)
+
+-- the byte of a marker, where there is one
+abbrev IsMarked : Option Marker → Type 0
+IsMarked o = WhereSome (λ (m : Marker). is_item_marker m.byte ≡ true) o
+
+marked_bullet : (rest : Rest) → IsMarked (bullet rest)
+marked_bullet [] = tt
+marked_bullet (code ∷ codes) =
+    cond_both (eqb code 45 || eqb code 43 || eqb code 42) _ _ IsMarked
+    (λ e. or_left _ (eqb code 41) (or_left _ (eqb code 46) e)) (λ _. tt)
+
+marked_delimiter : (number digits : ℕ) (rest : Rest) → IsMarked (delimiter number digits rest)
+marked_delimiter number digits [] = tt
+marked_delimiter number digits (code ∷ codes) =
+    cond_both (eqb code 46 || eqb code 41) _ _ IsMarked
+    (λ e. elim (or_cases (eqb code 46) (eqb code 41) e) [
+      | inl dot ↦ or_left _ (eqb code 41) (or_right (eqb code 45 || eqb code 43 || eqb code 42) _ dot)
+      | inr parenthesis ↦ or_right (eqb code 45 || eqb code 43 || eqb code 42 || eqb code 46) _ parenthesis
+    ]) (λ _. tt)
+
+marked : (rest : Rest) → IsMarked (marker rest)
+marked rest =
+    let digits = prefix_len is_digit rest in
+    cond_both (eqb digits 0) _ _ IsMarked (λ _. marked_bullet rest)
+    (λ _. cond_both (leb digits 9) _ _ IsMarked (λ _. marked_delimiter (number_of (take digits rest)) digits (drop digits rest)) (λ _. tt))
+
+module _ (on : Constructs) where
+  -- ---- parts of what may stand
+
+  may-join : (bs cs : Blocks) → MayStand on bs → MayStand on cs → MayStand on (join bs cs)
+  may-join Nil cs p q = q
+  may-join (Cons b bs) cs p q = (p.0, may-join bs cs p.1 q)
+
+  may_front : (bs : Blocks) → MayStand on bs → MayStand on (front bs)
+  may_front Nil p = tt
+  may_front (Cons b bs) p = cond_both (all_endings (Cons b bs)) Nil (Cons b (front bs)) (MayStand on) (λ _. tt) (λ _. (p.0, may_front bs p.1))
+
+  may_trail : (bs : Blocks) → MayStand on bs → MayStand on (trailing bs)
+  may_trail Nil p = tt
+  may_trail (Cons b bs) p = cond_both (all_endings (Cons b bs)) (Cons b bs) (trailing bs) (MayStand on) (λ _. p) (λ _. may_trail bs p.1)
+
+  may_without_last : (bs : Blocks) → MayStand on bs → MayStand on (without_last bs)
+  may_without_last Nil p = tt
+  may_without_last (Cons b Nil) p = cond_both (is_ending b) Nil (one b) (MayStand on) (λ _. tt) (λ _. p)
+  may_without_last (Cons b (Cons c bs)) p = (p.0, may_without_last (Cons c bs) p.1)
+
+  may_last : (bs : Blocks) → MayStand on bs → MayStand on (last_of bs)
+  may_last Nil p = tt
+  may_last (Cons b Nil) p = cond_both (is_ending b) (one b) Nil (MayStand on) (λ _. p) (λ _. tt)
+  may_last (Cons b (Cons c bs)) p = may_last (Cons c bs) p.1
+
+  may_hold : (c : Container) (kids : Blocks) → ContainerMayStand on c → MayStand on kids → MayStand on (holds c kids)
+  may_hold Quote kids h p = ((h, may_without_last kids p), may_last kids p)
+  may_hold (Item item) kids h p = ((h, may_front kids p), may_trail kids p)
+
+  -- ---- closing
+
+  may_blanks : (ls : List BlockLine) → MayStand on (blanks ls)
+  may_blanks [] = tt
+  may_blanks (line ∷ others) = (tt, may_blanks others)
+
+  may_paragraph : (ls : List BlockLine) → MayStand on (paragraph_of ls)
+  may_paragraph [] = tt
+  may_paragraph (line ∷ others) = (tt, (tt, tt))
+
+  may_cut_after : (o : Option LinkDefinition) (ls : List BlockLine) (more : List BlockLine → Cut) → on.definition ≡ true
+      → ((others : List BlockLine) → MayStand on (more others).definitions) → MayStand on (cut_after o ls more).definitions
+  may_cut_after None ls more h p = tt
+  may_cut_after (Some d) ls more h p = (h, (tt, p (drop (lines_before d.rest ls) ls)))
+
+  may_cut_most : (most : ℕ) (ls : List BlockLine) → on.definition ≡ true → MayStand on (cut_most most ls).definitions
+  may_cut_most zero ls h = tt
+  may_cut_most (suc most) ls h = may_cut_after (definition_at (content_of (own_lines ls))) ls (cut_most most) h (λ others. may_cut_most most others h)
+
+  may_cut : (ls : List BlockLine) → MayStand on (cut on ls).definitions
+  may_cut ls = cond_both on.definition (cut_most (length ls) ls) (cut_into Nil ls) (λ (parts : Cut). MayStand on parts.definitions) (λ h. may_cut_most (length ls) ls h) (λ _. tt)
+
+  may_close_leaf : (leaf : OpenLeaf) → LeafMayStand on leaf → MayStand on (close_leaf on leaf)
+  may_close_leaf (Text ls) p = may-join (cut on ls).definitions (paragraph_of (cut on ls).left) (may_cut ls) (may_paragraph (cut on ls).left)
+  may_close_leaf (Indented ls pending) p = (p, (tt, may_blanks pending))
+  may_close_leaf (Fenced fence ending ls) p = (p, (tt, tt))
+  may_close_leaf (OpenHtml kind ls) p = (p, (tt, tt))
+
+  may_close : (now : Opening) → OpeningMayStand on now → MayStand on (close on now)
+  may_close (Leaf leaf) p = may_close_leaf leaf p
+  may_close (Inside c kids inner) p = may_hold c (join kids (close on inner)) p.0 (may-join kids (close on inner) p.1 (may_close inner p.2))
+
+  -- ---- leaves
+
+  abbrev SomeTreeMayStand : Option BlockTree → Type 0
+  SomeTreeMayStand o = WhereSome (TreeMayStand on) o
+
+  may_take_indented : (ls pending : List BlockLine) (rest : Rest) (beside : Beside) → on.code_indented ≡ true
+      → SomeTreeMayStand (indented_takes on ls pending rest beside)
+  may_take_indented ls pending rest beside h =
+      cond_both (is_blank rest) _ _ SomeTreeMayStand (λ _. (tt, h))
+      (λ _. cond_both (starts_code_indented on rest) _ _ SomeTreeMayStand (λ _. (tt, h)) (λ _. tt))
+
+  may_take_fenced : (fence : Fence) (opening : Option LineEnding) (ls : List BlockLine) (rest : Rest) (beside : Beside) → on.code_fenced ≡ true
+      → SomeTreeMayStand (fenced_takes on fence opening ls rest beside)
+  may_take_fenced fence opening ls rest beside h =
+      cond_both (is_fence_end on fence rest) _ _ SomeTreeMayStand (λ _. ((h, (tt, tt)), tt)) (λ _. (tt, h))
+
+  may_html : (kind : ℕ) (ls : List BlockLine) (rest : Rest) (beside : Beside) → on.html_flow ≡ true → TreeMayStand on (html_with kind ls rest beside)
+  may_html kind ls rest beside h = cond_both (html_ends_here kind rest) _ _ (TreeMayStand on) (λ _. ((h, (tt, tt)), tt)) (λ _. (tt, h))
+
+  may_take_html : (kind : ℕ) (ls : List BlockLine) (rest : Rest) (beside : Beside) → on.html_flow ≡ true
+      → SomeTreeMayStand (html_takes kind ls rest beside)
+  may_take_html kind ls rest beside h =
+      cond_both (ends_before_blank kind && is_blank rest) _ _ SomeTreeMayStand (λ _. tt) (λ _. may_html kind ls rest beside h)
+
+  may_take : (leaf : OpenLeaf) (rest : Rest) (beside : Beside) → LeafMayStand on leaf → SomeTreeMayStand (takes on leaf rest beside)
+  may_take (Text ls) rest beside p = tt
+  may_take (Indented ls pending) rest beside p = may_take_indented ls pending rest beside p
+  may_take (Fenced fence opening ls) rest beside p = may_take_fenced fence opening ls rest beside p
+  may_take (OpenHtml kind ls) rest beside p = may_take_html kind ls rest beside p
+
+  -- a heading, a fence and an HTML block are read where they are on
+  may_or_heading : (ending : Option LineEnding) (o : Option Atx) → WhereSome (λ (a : Atx). on.heading_atx ≡ true) o → SomeTreeMayStand (or_heading ending o)
+  may_or_heading ending None p = tt
+  may_or_heading ending (Some a) p = ((inl (p, refl), (tt, tt)), tt)
+
+  may_or_fence : (ending : Option LineEnding) (o : Option Fence) (other : Option BlockTree) → WhereSome (λ (f : Fence). on.code_fenced ≡ true) o
+      → SomeTreeMayStand other → SomeTreeMayStand (or_fence ending o other)
+  may_or_fence ending None other p q = q
+  may_or_fence ending (Some f) other p q = (tt, p)
+
+  may_or_html : (rest : Rest) (beside : Beside) (o : Option ℕ) (other : Option BlockTree) → WhereSome (λ (k : ℕ). on.html_flow ≡ true) o
+      → SomeTreeMayStand other → SomeTreeMayStand (or_html rest beside o other)
+  may_or_html rest beside None other p q = q
+  may_or_html rest beside (Some kind) other p q = may_html kind [] rest beside p
+
+  may_begin : (paragraph : Bool) (rest : Rest) (beside : Beside) → SomeTreeMayStand (begins on paragraph rest beside)
+  may_begin paragraph rest beside =
+      cond_both (starts_code_indented on rest && not paragraph) _ _ SomeTreeMayStand
+      (λ e. (tt, (and_parts on.code_indented _ (and_parts (starts_code_indented on rest) (not paragraph) e).0).0))
+      (λ _. may_or_fence beside.ending (fence_start on rest) _ (guarded on.code_fenced (small_indent on rest) _)
+      (may_or_html rest beside (html_start on paragraph rest) _ (guarded on.html_flow (small_indent on rest) _)
+      (may_or_heading beside.ending (heading_atx on rest) (guarded on.heading_atx (small_indent on rest) _))))
+
+  may_after : (away : Opening) (t : BlockTree) → OpeningMayStand on away → TreeMayStand on t → TreeMayStand on (after on away t)
+  may_after away t p q = (may-join (close on away) t.done (may_close away p) q.0, q.1)
+
+  may_leaf_with_line : (line : BlockLine) (leaf : OpenLeaf) → LeafMayStand on leaf → LeafMayStand on (leaf_with_line line leaf)
+  may_leaf_with_line line (Text ls) p = tt
+  may_leaf_with_line line (Indented ls pending) p = p
+  may_leaf_with_line line (Fenced fence ending ls) p = p
+  may_leaf_with_line line (OpenHtml kind ls) p = p
+
+  may_with_line : (line : BlockLine) (now : Opening) → OpeningMayStand on now → OpeningMayStand on (with_line line now)
+  may_with_line line (Leaf leaf) p = may_leaf_with_line line leaf p
+  may_with_line line (Inside c kids inner) p = (p.0, p.1, may_with_line line inner p.2)
+
+  may_text : (away : Opening) (rest : Rest) (beside : Beside) → OpeningMayStand on away → TreeMayStand on (text_line_of on away rest beside)
+  may_text away rest beside p =
+      cond_both (has_text away) _ _ (TreeMayStand on) (λ _. (tt, may_with_line (rest_line rest beside) away p))
+      (λ _. may_after away (tree Nil (Leaf (Text (rest_line rest beside ∷ [])))) p (tt, tt))
+
+  may_break : (away : Opening) (rest : Rest) (beside : Beside) → OpeningMayStand on away → TreeMayStand on (break_or_text on away rest beside)
+  may_break away rest beside p =
+      cond_both (is_break on rest) _ _ (TreeMayStand on)
+      (λ e. may_after away (tree (ended Break beside.ending) nothing) p (((and_parts on.thematic_break _ (and_parts (on.thematic_break && small_indent on rest) _ e).0).0, (tt, tt)), tt))
+      (λ _. may_text away rest beside p)
+
+  -- an underline gives the rank 1 or 2
+  may_underline : (rest : Rest) → WhereSome (λ rank. (on.heading_setext ≡ true) × (leb rank 2 ≡ true)) (underline on rest)
+  may_underline rest =
+      let P : ℕ → Type 0 = λ rank. (on.heading_setext ≡ true) × (leb rank 2 ≡ true) in
+      let text = bytes_of (bare rest) in
+      cond_both (on.heading_setext && small_indent on rest) (underline_of text) None (WhereSome P)
+      (λ e. let h = (and_parts on.heading_setext (small_indent on rest) e).0 in
+      cond_both (is_run 1 61 text) _ _ (WhereSome P) (λ _. (h, refl))
+      (λ _. cond_both (is_run 1 45 text) _ _ (WhereSome P) (λ _. (h, refl)) (λ _. tt)))
+      (λ _. tt)
+
+  may_heading : (rank : ℕ) (definitions : Blocks) (ls : List BlockLine) (ending : Option LineEnding) → (on.heading_setext ≡ true) × (leb rank 2 ≡ true)
+      → MayStand on definitions → SomeTreeMayStand (heading_of rank definitions ls ending)
+  may_heading rank definitions [] ending h p = tt
+  may_heading rank definitions (line ∷ others) ending h p = (may-join definitions _ p (inr h, (tt, tt)), tt)
+
+  may_underlined : (o : Option ℕ) (ls : List BlockLine) (ending : Option LineEnding) → WhereSome (λ rank. (on.heading_setext ≡ true) × (leb rank 2 ≡ true)) o
+      → SomeTreeMayStand (underlined on o ls ending)
+  may_underlined None ls ending h = tt
+  may_underlined (Some rank) ls ending h = may_heading rank (cut on ls).definitions (cut on ls).left ending h (may_cut ls)
+
+  may_begun : (o : Option BlockTree) (away : Opening) (other : BlockTree) → SomeTreeMayStand o → OpeningMayStand on away → TreeMayStand on other
+      → TreeMayStand on (begun on o away other)
+  may_begun None away other p a q = q
+  may_begun (Some t) away other p a q = may_after away t a p
+
+  may_taken : (o : Option BlockTree) (other : BlockTree) → SomeTreeMayStand o → TreeMayStand on other → TreeMayStand on (taken o other)
+  may_taken None other p q = q
+  may_taken (Some t) other p q = p
+
+  may_leaf_line : (away : Opening) (rest : Rest) (beside : Beside) → OpeningMayStand on away → TreeMayStand on (leaf_line on away rest beside)
+  may_leaf_line away rest beside p =
+      cond_both (is_blank rest) _ _ (TreeMayStand on)
+      (λ _. may_after away (tree (one (Blank beside.ending)) nothing) p ((tt, tt), tt))
+      (λ _. may_begun (begins on (has_text away) rest beside) away _ (may_begin (has_text away) rest beside) p
+      (may_taken (turns on away rest beside.ending) _ (may_underlined (underline on rest) (text_here away) beside.ending (may_underline rest)) (may_break away rest beside p)))
+
+  -- ---- containers
+
+  abbrev StartedMayStand : Option Started → Type 0
+  StartedMayStand o = WhereSome (λ (s : Started). ContainerMayStand on s.container) o
+
+  may_quote_or : (other : Option Started) (o : Option Rest) → StartedMayStand other → WhereSome (λ (r : Rest). on.block_quote ≡ true) o → StartedMayStand (quote_or other o)
+  may_quote_or other None p q = p
+  may_quote_or other (Some rest) p q = q
+
+  may_item_after : (columns : ℕ) (interrupts : Bool) (o : Option Marker) → on.list_item ≡ true → IsMarked o
+      → StartedMayStand (item_after columns interrupts o)
+  may_item_after columns interrupts None h p = tt
+  may_item_after columns interrupts (Some m) h p = cond_both (is_item interrupts m) _ _ StartedMayStand (λ _. (h, p)) (λ _. tt)
+
+  may_item_start : (interrupts : Bool) (rest : Rest) → StartedMayStand (item_start on interrupts rest)
+  may_item_start interrupts rest =
+      cond_both (on.list_item && small_indent on rest && not (is_break on rest)) _ _ StartedMayStand
+      (λ e.
+      let both = (and_parts (on.list_item && small_indent on rest) (not (is_break on rest)) e).0 in
+      may_item_after (indent rest) interrupts (marker (bare rest)) (and_parts on.list_item (small_indent on rest) both).0 (marked (bare rest)))
+      (λ _. tt)
+
+  may_start_one : (interrupts : Bool) (rest : Rest) → StartedMayStand (starts on interrupts rest)
+  may_start_one interrupts rest =
+      may_quote_or (item_start on interrupts rest) (quote_prefix on rest) (may_item_start interrupts rest) (guarded on.block_quote (small_indent on rest) _)
+
+  may_start : (o : Option Started) (away : Opening) (other : BlockTree) (more : Started → BlockTree) → StartedMayStand o → OpeningMayStand on away
+      → TreeMayStand on other → ((s : Started) → TreeMayStand on (more s)) → TreeMayStand on (start on o away other more)
+  may_start None away other more p a q m = q
+  may_start (Some s) away other more p a q m =
+      let t = more s in
+      may_after away (tree Nil (Inside s.container t.done t.now)) a (tt, (p, (m s).0, (m s).1))
+
+  may_new : (most : ℕ) (all : Bool) (away : Opening) (beside : Beside) (rest : Rest) → OpeningMayStand on away
+      → TreeMayStand on (new most on all away beside rest)
+  may_new zero all away beside rest p = may_leaf_line away rest beside p
+  may_new (suc most) all away beside rest p =
+      may_start (starts on (all && has_text away) rest) away (leaf_line on away rest beside) _
+      (may_start_one (all && has_text away) rest) p (may_leaf_line away rest beside p) (λ s. may_new most true nothing (beside_in s.container rest beside) s.rest tt)
+
+  may_go_on : (o : Option Rest) (c : Container) (kids : Blocks) (inner : Opening) (beside : Beside) (rest : Rest) (more : Rest → BlockTree)
+      → ContainerMayStand on c → MayStand on kids → OpeningMayStand on inner → ((others : Rest) → TreeMayStand on (more others))
+      → TreeMayStand on (goes_on o on c kids inner beside rest more)
+  may_go_on None c kids inner beside rest more h p q m = may_new (length rest) false (Inside c kids inner) beside rest (h, p, q)
+  may_go_on (Some others) c kids inner beside rest more h p q m = (tt, (h, may-join kids (more others).done p (m others).0, (m others).1))
+
+  -- ---- the lines of a text
+
+  may_grow : (beside : Beside) (now : Opening) (rest : Rest) → OpeningMayStand on now → TreeMayStand on (grow on beside now rest)
+  may_grow beside (Leaf leaf) rest p =
+      may_taken (takes on leaf rest beside) _ (may_take leaf rest beside p) (may_new (length rest) true (Leaf leaf) beside rest p)
+  may_grow beside (Inside c kids inner) rest p =
+      may_go_on (continues on c (began_blank kids inner) rest) c kids inner beside rest (grow on (beside_in c rest beside) inner) p.0 p.1 p.2
+      (λ others. may_grow (beside_in c rest beside) inner others p.2)
+
+  may_step : (kind : Kind) (t : BlockTree) (line : TextLine) → TreeMayStand on t → TreeMayStand on (step on kind t line)
+  may_step kind t line p =
+      let beside = beside_line kind line in
+      let more = may_grow beside t.now (whole line.content) p.1 in
+      (may-join t.done (grow on beside t.now (whole line.content)).done p.0 more.0, more.1)
+
+  may_steps : (kind : Kind) (ls : List TextLine) (t : BlockTree) → TreeMayStand on t → TreeMayStand on (steps on kind t ls)
+  may_steps kind [] t p = p
+  may_steps kind (line ∷ ls) t p = may_steps Whitespace ls (step on kind t line) (may_step kind t line p)
+
+  pub may_stand : (kind : Kind) (text : List ℕ) → MayStand on (blocks on kind text)
+  may_stand kind text =
+      let t = steps on kind empty_tree (lines text) in
+      let p : TreeMayStand on t = may_steps kind (lines text) empty_tree (tt, tt) in
+      may-join t.done (close on t.now) p.0 (may_close t.now p.1)
+
+  -- ---- what passes no test
+
+  module _ (test : Block → Bool) (fails : (b : Block) → BlockMayStand on b → test b ≡ false) where
+    mutual
+      block_has_none : (b : Block) → BlockMayStand on b → block_has test b ≡ false
+      block_has_none (Holds c kids) p = or_from (test (Holds c kids)) (has test kids) (fails (Holds c kids) p) (has_none kids p.1)
+      block_has_none (Items items) p = absurd p
+      block_has_none b p = fails b p
+
+      has_none : (bs : Blocks) → MayStand on bs → has test bs ≡ false
+      has_none Nil p = refl
+      has_none (Cons b bs) p = or_from (block_has test b) (has test bs) (block_has_none b p.0) (has_none bs p.1)
+
+    pub never : (kind : Kind) (text : List ℕ) → has test (blocks on kind text) ≡ false
+    never kind text = has_none (blocks on kind text) (may_stand kind text)
+
+-- ---- the laws
+
+no_quote : (on : Constructs) → on.block_quote ≡ false → (b : Block) → BlockMayStand on b → is_quote b ≡ false
+no_quote on off (Holds Quote kids) p = absurd (both_ways on.block_quote off p.0)
+no_quote on off b p = refl
+
+no_item : (on : Constructs) → on.list_item ≡ false → (b : Block) → BlockMayStand on b → is_list_item b ≡ false
+no_item on off (Holds (Item item) kids) p = absurd (both_ways on.list_item off p.0.0)
+no_item on off b p = refl
+
+not_indented : (on : Constructs) → on.code_indented ≡ false → (b : Block) → BlockMayStand on b → is_indented_code b ≡ false
+not_indented on off (IndentedCode ls) p = absurd (both_ways on.code_indented off p)
+not_indented on off b p = refl
+
+not_fenced : (on : Constructs) → on.code_fenced ≡ false → (b : Block) → BlockMayStand on b → is_fenced_code b ≡ false
+not_fenced on off (FencedCode info closed ls) p = absurd (both_ways on.code_fenced off p)
+not_fenced on off b p = refl
+
+not_html : (on : Constructs) → on.html_flow ≡ false → (b : Block) → BlockMayStand on b → is_html b ≡ false
+not_html on off (Html ls) p = absurd (both_ways on.html_flow off p)
+not_html on off b p = refl
+
+no_break : (on : Constructs) → on.thematic_break ≡ false → (b : Block) → BlockMayStand on b → is_thematic_break b ≡ false
+no_break on off Break p = absurd (both_ways on.thematic_break off p)
+no_break on off b p = refl
+
+no_definition : (on : Constructs) → on.definition ≡ false → (b : Block) → BlockMayStand on b → is_definition b ≡ false
+no_definition on off (Definition label destination title) p = absurd (both_ways on.definition off p)
+no_definition on off b p = refl
+
+no_heading : (on : Constructs) → (on.heading_atx || on.heading_setext) ≡ false → (b : Block) → BlockMayStand on b → is_heading b ≡ false
+no_heading on off (Heading rank ls) p =
+    let parts = or_parts on.heading_atx on.heading_setext off in
+    elim p [ inl h ↦ absurd (both_ways on.heading_atx parts.0 h.0) | inr h ↦ absurd (both_ways on.heading_setext parts.1 h.0) ]
+no_heading on off b p = refl
+
+no_long_heading : (on : Constructs) → on.heading_setext ≡ false → (b : Block) → BlockMayStand on b → is_long_heading b ≡ false
+no_long_heading on off (Heading rank ls) p =
+    elim p [ inl h ↦ not_from_true (is_one_line ls) h.1 | inr h ↦ absurd (both_ways on.heading_setext off h.0) ]
+no_long_heading on off b p = refl
+
+no_deep_heading : (on : Constructs) → on.heading_atx ≡ false → (b : Block) → BlockMayStand on b → is_deep_heading b ≡ false
+no_deep_heading on off (Heading rank ls) p =
+    elim p [ inl h ↦ absurd (both_ways on.heading_atx off h.0) | inr h ↦ not_from_true (leb rank 2) h.1 ]
+no_deep_heading on off b p = refl
+
+pub no_quotes : NoQuotes
+no_quotes on kind text off = never on is_quote (no_quote on off) kind text
+
+pub no_items : NoItems
+no_items on kind text off = never on is_list_item (no_item on off) kind text
+
+pub no_indented_code : NoIndentedCode
+no_indented_code on kind text off = never on is_indented_code (not_indented on off) kind text
+
+pub no_fenced_code : NoFencedCode
+no_fenced_code on kind text off = never on is_fenced_code (not_fenced on off) kind text
+
+pub no_html : NoHtml
+no_html on kind text off = never on is_html (not_html on off) kind text
+
+pub no_breaks : NoBreaks
+no_breaks on kind text off = never on is_thematic_break (no_break on off) kind text
+
+pub no_definitions : NoDefinitions
+no_definitions on kind text off = never on is_definition (no_definition on off) kind text
+
+pub no_headings : NoHeadings
+no_headings on kind text off = never on is_heading (no_heading on off) kind text
+
+pub no_long_headings : NoLongHeadings
+no_long_headings on kind text off = never on is_long_heading (no_long_heading on off) kind text
+
+pub no_deep_headings : NoDeepHeadings
+no_deep_headings on kind text off = never on is_deep_heading (no_deep_heading on off) kind text
+
+all_marked : (on : Constructs) (b : Block) → BlockMayStand on b → is_unmarked b ≡ false
+all_marked on (Holds (Item item) kids) p = not_from_true (is_item_marker item.marker) p.0.1
+all_marked on b p = refl
+
+pub items_are_marked : ItemsAreMarked
+items_are_marked on kind text = never on is_unmarked (all_marked on) kind text
+
+-- without items there is nothing to put into lists
+module _ (on : Constructs) (off : on.list_item ≡ false) where
+  before_others : (b : Block) (bs : Blocks) → BlockMayStand on b → before b bs ≡ Cons b bs
+  before_others (Holds (Item item) kids) bs p = absurd (both_ways on.list_item off p.0.0)
+  before_others b bs p = refl
+
+  mutual
+    block_as_it_is : (b : Block) → BlockMayStand on b → grouped_block b ≡ b
+    block_as_it_is (Holds c kids) p = ap (Holds c) (as_they_are kids p.1)
+    block_as_it_is b p = refl
+
+    as_they_are : (bs : Blocks) → MayStand on bs → grouped bs ≡ bs
+    as_they_are Nil p = refl
+    as_they_are (Cons b bs) p =
+        ap (before (grouped_block b)) (as_they_are bs p.1) ∙ ap (λ x. before x bs) (block_as_it_is b p.0) ∙ before_others b bs p.0
+
+pub no_lists : NoLists
+no_lists on kind text off = as_they_are on off (blocks on kind text) (may_stand on kind text)

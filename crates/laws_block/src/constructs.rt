@@ -1,0 +1,75 @@
+//! A construct that is off never occurs, at any depth.
+ghost use Rattle.laws_block.specs.Occurs.{NoQuotes, NoItems, NoIndentedCode, NoFencedCode, NoHtml, NoBreaks, NoDefinitions, NoHeadings, NoLongHeadings, NoDeepHeadings, NoLists};
+ghost use Rattle.laws_block.specs.Plain.{OnlyPlain};
+
+/// Where block quotes are off, no text has a quote.
+#[tactic(auto, using(crate::proofs::Occurs::no_quotes))]
+pub fn quote_law()
+    ensures { NoQuotes }
+{}
+
+/// Where list items are off, no text has an item.
+#[tactic(auto, using(crate::proofs::Occurs::no_items))]
+pub fn item_law()
+    ensures { NoItems }
+{}
+
+/// Where indented code is off, no text has it.
+#[tactic(auto, using(crate::proofs::Occurs::no_indented_code))]
+pub fn indented_code_law()
+    ensures { NoIndentedCode }
+{}
+
+/// Where fenced code is off, no text has it.
+#[tactic(auto, using(crate::proofs::Occurs::no_fenced_code))]
+pub fn fenced_code_law()
+    ensures { NoFencedCode }
+{}
+
+/// Where HTML blocks are off, no text has one.
+#[tactic(auto, using(crate::proofs::Occurs::no_html))]
+pub fn html_law()
+    ensures { NoHtml }
+{}
+
+/// Where thematic breaks are off, no text has one.
+#[tactic(auto, using(crate::proofs::Occurs::no_breaks))]
+pub fn thematic_break_law()
+    ensures { NoBreaks }
+{}
+
+/// Where link reference definitions are off, no text has one.
+#[tactic(auto, using(crate::proofs::Occurs::no_definitions))]
+pub fn definition_law()
+    ensures { NoDefinitions }
+{}
+
+/// Where ATX and setext headings are off, no text has a heading.
+#[tactic(auto, using(crate::proofs::Occurs::no_headings))]
+pub fn heading_law()
+    ensures { NoHeadings }
+{}
+
+/// Where setext headings are off, each heading of a text has one line.
+#[tactic(auto, using(crate::proofs::Occurs::no_long_headings))]
+pub fn heading_setext_law()
+    ensures { NoLongHeadings }
+{}
+
+/// Where ATX headings are off, no heading of a text has a rank above 2.
+#[tactic(auto, using(crate::proofs::Occurs::no_deep_headings))]
+pub fn heading_atx_law()
+    ensures { NoDeepHeadings }
+{}
+
+/// Where list items are off, no text has a list: putting items into lists leaves its blocks as they are.
+#[tactic(auto, using(crate::proofs::Occurs::no_lists))]
+pub fn list_law()
+    ensures { NoLists }
+{}
+
+/// Where all constructs that make blocks are off, a text has only paragraphs, endings and blank lines.
+#[tactic(auto, using(crate::proofs::Plain::only_plain))]
+pub fn plain_law()
+    ensures { OnlyPlain }
+{}

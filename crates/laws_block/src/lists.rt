@@ -1,0 +1,28 @@
+//! Items in lists.
+ghost use Rattle.laws_block.specs.GroupedRows.{ListsOnlyGroup};
+ghost use Rattle.laws_block.specs.ItemMarkers.{ItemsAreMarked};
+ghost use Rattle.laws_block.specs.Neighbours.{NeighboursAreListed, OthersPartLists};
+
+/// Two items between which only endings stand are in one list if they have the same marker, and otherwise the first ends a list and the second begins the next.
+#[tactic(auto, using(crate::proofs::Neighbours::neighbours_are_listed))]
+pub fn neighbours_law()
+    ensures { NeighboursAreListed }
+{}
+
+/// A block that is no item and no ending parts lists: none goes on over it.
+#[tactic(auto, using(crate::proofs::Neighbours::others_part_lists))]
+pub fn parted_law()
+    ensures { OthersPartLists }
+{}
+
+/// Each item of a text has the marker `-`, `+`, `*`, `.` or `)`.
+#[tactic(auto, using(crate::proofs::Occurs::items_are_marked))]
+pub fn marker_law()
+    ensures { ItemsAreMarked }
+{}
+
+/// Putting items into lists adds no row, loses none, and keeps their order.
+#[tactic(auto, using(crate::proofs::GroupedRows::lists_only_group))]
+pub fn grouped_law()
+    ensures { ListsOnlyGroup }
+{}

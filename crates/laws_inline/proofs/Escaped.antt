@@ -1,0 +1,291 @@
+-- An escaped line prints itself as text.
+use Rattle.std.proofs.Common.{inl, inr, ◌≡◌, ℕ, Bool, true, false, cond, not, ◌&&◌, ◌||◌, List, [], ◌∷◌, ◌++◌, map, Option, None, Some, refl, sym, ap, ◌∙◌, length, get_or, drop, arith, append_assoc}
+use Rattle.std.specs.Prelude.{◌==◌, nat_lt, nat_le, codes}
+use Rattle.std.specs.List.{list_all, flat_map, prefix_len}
+use Rattle.std.specs.Char.{is_ascii_punctuation}
+use Rattle.std.proofs.lemmas.Bool.{cases_Bool, cond-true, cond-false, cond_both, both_ways, and_parts, or_parts, or_from, eqb-true, not-true}
+use Rattle.std.proofs.lemmas.Grind.{common_steps}
+use Rattle.markdown_options.specs.declared.configuration.Constructs.{Constructs}
+use Rattle.definition_text.specs.Columns.{is_white, indent, bare}
+use Rattle.definition_text.specs.Bytes.{begins_with}
+use Rattle.definition_text.specs.Runs.{run}
+use Rattle.definition_text.specs.Content.{is_eol}
+use Rattle.definition_text.specs.Encode.{encoded_byte, encode}
+use Rattle.definition_text.specs.InlineCode.{InlineCode, codes_of}
+use Rattle.definition_inline.specs.Inline.{Inline, Data, Escape, Leaf, leaf, or_else}
+use Rattle.definition_inline.specs.CharacterEscape.{escape_at}
+use Rattle.definition_inline.specs.CharacterReference.{reference_after, reference_form, reference_of, reference_at}
+use Rattle.definition_inline.specs.CodeText.{code_text_at}
+use Rattle.definition_inline.specs.Autolink.{autolink_at}
+use Rattle.definition_inline.specs.HtmlText.{html_text_at}
+use Rattle.definition_inline.specs.HardBreak.{ends_inner_line, ends_here, line_end_at, escaped_break_at, line_spaces_at}
+use Rattle.definition_inline.specs.Attention.{is_marker, run_at}
+use Rattle.definition_inline.specs.Spans.{Token, Item, emphasized}
+use Rattle.definition_inline.specs.Scan.{InlineContext, leaf_at, label_start_at, text, Reading, reading, read_tokens, Next, data_step, label_end_step, step, scan, whole_text}
+use Rattle.definition_page.specs.InlineHtml.{InlineMeaning, part_html, inline_html}
+use Rattle.definition_inline.proofs.Scanning.{scan_step, step_leaf, step_last}
+use Rattle.laws_visible.proofs.InlineParts.{read_nothing, white_codes, html_of_parts}
+use Rattle.laws_visible.proofs.PlainText.{and_no, bare_white, bare_other}
+use Rattle.laws_inline.specs.Escaped.{escaped, is_line_byte, begins_with_space, ends_with_space, EscapeLaw}
+
+-- ---- a byte that isn't ASCII punctuation begins nothing
+
+no_and : (x y : Bool) → x ≡ false → (x && y) ≡ false
+no_and x y e = ap (λ b. b && y) e
+
+other : (b x : ℕ) → is_ascii_punctuation b ≡ false → is_ascii_punctuation x ≡ true → (b == x) ≡ false
+other b x off on =
+    elim (cases_Bool (b == x)) [
+      | inl e ↦ absurd (both_ways (is_ascii_punctuation b) off (ap is_ascii_punctuation (eqb-true b x e) ∙ on))
+      | inr e ↦ e
+    ]
+
+other_way : (b x : ℕ) → is_ascii_punctuation b ≡ false → is_ascii_punctuation x ≡ true → (x == b) ≡ false
+other_way b x off on =
+    elim (cases_Bool (x == b)) [
+      | inl e ↦ absurd (both_ways (is_ascii_punctuation b) off (ap is_ascii_punctuation (sym (eqb-true x b e)) ∙ on))
+      | inr e ↦ e
+    ]
+
+line_byte : (b : ℕ) → is_line_byte b ≡ true → ((b == 9) ≡ false) × (is_eol b ≡ false)
+line_byte b h =
+    let none : ((b == 9) || is_eol b) ≡ false = not-true _ (and_parts (nat_lt b 256) (not ((b == 9) || is_eol b)) h).1 in
+    or_parts (b == 9) (is_eol b) none
+
+no_column : (b : ℕ) → is_line_byte b ≡ true → (b == 256) ≡ false
+no_column b h = grind (arith, common_steps)
+
+pub or_none : (a b : Option Leaf) → a ≡ None → b ≡ None → or_else a b ≡ None
+or_none a b e f = ap (λ x. or_else x b) e ∙ f
+
+pub or_first : (a b : Option Leaf) (l : Leaf) → a ≡ Some l → or_else a b ≡ Some l
+or_first a b l e = ap (λ x. or_else x b) e
+
+module _ (on : Constructs) (b : ℕ) (off : is_ascii_punctuation b ≡ false) where
+  pub no_escape : (rest : List ℕ) → escape_at on (b ∷ rest) ≡ None
+  no_escape [] = refl
+  no_escape (next ∷ rest) =
+      cond-false _ _ _ (and_no on.character_escape _ (no_and (b == 92) (is_ascii_punctuation next) (other b 92 off refl)))
+
+  pub no_reference : (names : List ℕ → Option (List ℕ)) (rest : List ℕ) → reference_at on names (b ∷ rest) ≡ None
+  no_reference names rest =
+      let none : reference_form (b ∷ rest) ≡ None = cond-false (b == 38) (reference_after rest) None (other b 38 off refl) in
+      ap (λ o. cond on.character_reference (reference_of names (b ∷ rest) o) None) none
+      ∙ cond_both on.character_reference None None (λ o. o ≡ None) (λ _. refl) (λ _. refl)
+
+module _ (context : InlineContext) (b : ℕ) (off : is_ascii_punctuation b ≡ false) (line : is_line_byte b ≡ true) where
+  no_break : (rest : List ℕ) → escaped_break_at context.on (b ∷ rest) ≡ None
+  no_break rest = cond-false _ _ _ (and_no context.on.hard_break_escape _ (no_and (b == 92) (ends_inner_line rest) (other b 92 off refl)))
+
+  no_code : (rest : List ℕ) → code_text_at context.on (b ∷ rest) ≡ None
+  no_code rest =
+      let none : run 96 (b ∷ rest) ≡ 0 = cond-false (b == 96) _ 0 (other b 96 off refl) in
+      cond-false _ _ _ (and_no context.on.code_text (not (run 96 (b ∷ rest) == 0)) (ap (λ n. not (n == 0)) none))
+
+  no_angle : (rest : List ℕ) → begins_with (codes "<") (b ∷ rest) ≡ false
+  no_angle rest = no_and (60 == b) _ (other_way b 60 off refl)
+
+  no_autolink : (rest : List ℕ) → autolink_at context.on (b ∷ rest) ≡ None
+  no_autolink rest = cond-false _ _ _ (and_no context.on.autolink (begins_with (codes "<") (b ∷ rest)) (no_angle rest))
+
+  no_html : (rest : List ℕ) → html_text_at context.on (b ∷ rest) ≡ None
+  no_html rest = cond-false _ _ _ (and_no context.on.html_text (begins_with (codes "<") (b ∷ rest)) (no_angle rest))
+
+  no_line_end : (rest : List ℕ) → line_end_at (b ∷ rest) ≡ None
+  no_line_end rest = cond-false _ _ _ (line_byte b line).1
+
+  no_spaces : (rest : List ℕ) → (is_white b ≡ true → ends_here (bare (b ∷ rest)) ≡ false) → line_spaces_at context.on (b ∷ rest) ≡ None
+  no_spaces rest goes_on =
+      elim (cases_Bool (is_white b)) [
+        | inl white ↦ cond-false _ _ _ (and_no (nat_le 1 (indent (b ∷ rest))) (ends_here (bare (b ∷ rest))) (goes_on white))
+        | inr not_white ↦
+            let none : indent (b ∷ rest) ≡ 0 = cond-false (is_white b) _ 0 not_white in
+            cond-false _ _ _ (no_and (nat_le 1 (indent (b ∷ rest))) (ends_here (bare (b ∷ rest))) (ap (nat_le 1) none))
+      ]
+
+  no_leaf : (rest : List ℕ) → (is_white b ≡ true → ends_here (bare (b ∷ rest)) ≡ false) → leaf_at context (b ∷ rest) ≡ None
+  no_leaf rest goes_on =
+      or_none (escape_at context.on (b ∷ rest)) _ (no_escape context.on b off rest)
+      (or_none (escaped_break_at context.on (b ∷ rest)) _ (no_break rest)
+      (or_none (reference_at context.on context.names (b ∷ rest)) _ (no_reference context.on b off context.names rest)
+      (or_none (code_text_at context.on (b ∷ rest)) _ (no_code rest)
+      (or_none (autolink_at context.on (b ∷ rest)) _ (no_autolink rest)
+      (or_none (html_text_at context.on (b ∷ rest)) _ (no_html rest)
+      (or_none (line_end_at (b ∷ rest)) _ (no_line_end rest) (no_spaces rest goes_on)))))))
+
+  no_run : (c : InlineCode) (cs : List InlineCode) → c.code ≡ b → run_at context.on (c ∷ cs) ≡ None
+  no_run c cs is =
+      let none : ((b == 42) || (b == 95)) ≡ false = or_from (b == 42) (b == 95) (other b 42 off refl) (other b 95 off refl) in
+      let not_marker : is_marker context.on c.code ≡ false = ap (is_marker context.on) is ∙ and_no context.on.attention _ none in
+      cond-false _ _ _ not_marker
+
+  no_start : (rest : List ℕ) → label_start_at context.on (b ∷ rest) ≡ None
+  no_start rest =
+      let image : begins_with (codes "![") (b ∷ rest) ≡ false = no_and (33 == b) _ (other_way b 33 off refl) in
+      let link : begins_with (codes "[") (b ∷ rest) ≡ false = no_and (91 == b) _ (other_way b 91 off refl) in
+      cond-false _ _ _ (and_no context.on.label_start_image _ image) ∙ cond-false _ _ _ (and_no context.on.label_start_link _ link)
+
+-- ---- spaces in an escaped line
+
+pub escaped_punctuation : (b : ℕ) (bs : List ℕ) → is_ascii_punctuation b ≡ true → escaped (b ∷ bs) ≡ 92 ∷ b ∷ escaped bs
+escaped_punctuation b bs on = ap (λ xs. xs ++ escaped bs) (cond-true (is_ascii_punctuation b) (92 ∷ b ∷ []) (b ∷ []) on)
+
+pub escaped_other : (b : ℕ) (bs : List ℕ) → is_ascii_punctuation b ≡ false → escaped (b ∷ bs) ≡ b ∷ escaped bs
+escaped_other b bs off = ap (λ xs. xs ++ escaped bs) (cond-false (is_ascii_punctuation b) (92 ∷ b ∷ []) (b ∷ []) off)
+
+white_is_space : (b : ℕ) → is_line_byte b ≡ true → is_white b ≡ true → (b == 32) ≡ true
+white_is_space b line white =
+    elim (cases_Bool (b == 32)) [
+      | inl e ↦ e
+      | inr other_byte ↦
+          let tab = (line_byte b line).0 in
+          let column = no_column b line in
+          absurd (both_ways (is_white b) (or_from ((b == 32) || (b == 9)) (b == 256) (or_from (b == 32) (b == 9) other_byte tab) column) white)
+    ]
+
+-- after spaces something else follows
+goes_on_from : (b : ℕ) (bs : List ℕ) → is_line_byte b ≡ true → (is_white b ≡ true → ends_here (bare (escaped bs)) ≡ false)
+    → ends_here (bare (escaped (b ∷ bs))) ≡ false
+goes_on_from b bs line after =
+    elim (cases_Bool (is_ascii_punctuation b)) [
+      | inl on ↦ ap (λ xs. ends_here (bare xs)) (escaped_punctuation b bs on)
+      | inr off ↦
+          elim (cases_Bool (is_white b)) [
+            | inl white ↦ ap (λ xs. ends_here (bare xs)) (escaped_other b bs off) ∙ ap ends_here (bare_white b (escaped bs) white) ∙ after white
+            | inr not_white ↦
+                ap (λ xs. ends_here (bare xs)) (escaped_other b bs off) ∙ ap ends_here (bare_other b (escaped bs) not_white) ∙ (line_byte b line).1
+          ]
+    ]
+
+goes_on : (b : ℕ) (bs : List ℕ) → list_all is_line_byte (b ∷ bs) ≡ true → ends_with_space (b ∷ bs) ≡ false → ends_here (bare (escaped (b ∷ bs))) ≡ false
+goes_on b [] lines trimmed =
+    let line = (and_parts (is_line_byte b) true lines).0 in
+    goes_on_from b [] line (λ white. absurd (both_ways (b == 32) trimmed (white_is_space b line white)))
+goes_on b (next ∷ bs) lines trimmed =
+    let parts = and_parts (is_line_byte b) (list_all is_line_byte (next ∷ bs)) lines in
+    goes_on_from b (next ∷ bs) parts.0 (λ white. goes_on next bs parts.1 trimmed)
+
+-- ---- the scan
+
+part_of : ℕ → Inline
+part_of b = cond (is_ascii_punctuation b) (Escape b) (Data b)
+
+escape_part : (b : ℕ) → is_ascii_punctuation b ≡ true → part_of b ≡ Escape b
+unfolding part_of
+escape_part b on = cond-true _ _ _ on
+
+data_part : (b : ℕ) → is_ascii_punctuation b ≡ false → part_of b ≡ Data b
+unfolding part_of
+data_part b off = cond-false _ _ _ off
+
+abbrev tokens_of : List ℕ → List Token
+tokens_of bytes = map Item (map part_of bytes)
+
+read_more : (t : Token) (ts : List Token) (r : Reading) → read_tokens ts (read_tokens (t ∷ []) r) ≡ read_tokens (t ∷ ts) r
+read_more t ts r = ap (λ us. reading (text us r.now.holds_link) r.open_labels) (append_assoc r.now.tokens (t ∷ []) ts)
+
+module _ (context : InlineContext) (on : context.on.character_escape ≡ true) where
+  escape_leaf : (b : ℕ) (rest : List ℕ) → is_ascii_punctuation b ≡ true → leaf_at context (92 ∷ b ∷ rest) ≡ Some (leaf (Escape b ∷ []) 2)
+  escape_leaf b rest punctuation =
+      let both : (context.on.character_escape && ((92 == 92) && is_ascii_punctuation b)) ≡ true = ap (λ x. x && is_ascii_punctuation b) on ∙ punctuation in
+      let found : escape_at context.on (92 ∷ b ∷ rest) ≡ Some (leaf (Escape b ∷ []) 2) = cond-true _ _ _ both in
+      or_first (escape_at context.on (92 ∷ b ∷ rest)) _ (leaf (Escape b ∷ []) 2) found
+
+  data_place : (b : ℕ) (rest : List ℕ) (r : Reading) (c : InlineCode) (cs : List InlineCode) → is_ascii_punctuation b ≡ false → is_line_byte b ≡ true
+      → (is_white b ≡ true → ends_here (bare (b ∷ rest)) ≡ false) → codes_of (c ∷ cs) ≡ b ∷ rest
+      → step context r c cs ≡ Next 0 (read_tokens (Item (Data b) ∷ []) r)
+  data_place b rest r c cs off line spaces e =
+      let is : c.code ≡ b = ap (λ xs. get_or xs 0 0) e in
+      let no_label : (c.code == 93) ≡ false = ap (λ x. x == 93) is ∙ other b 93 off refl in
+      step_last context r c cs (ap (leaf_at context) e ∙ no_leaf context b off line rest spaces) (no_run context b off line c cs is)
+      (ap (label_start_at context.on) e ∙ no_start context b off line rest)
+      ∙ cond-false (context.on.label_end && (c.code == 93)) (label_end_step context (codes_of (c ∷ cs)) r.now r.open_labels) (data_step c.code r)
+      (and_no context.on.label_end (c.code == 93) no_label)
+      ∙ ap (λ x. Next 0 (read_tokens (Item (Data x) ∷ []) r)) is
+
+  scan_escaped : (bytes : List ℕ) (content : List InlineCode) (r : Reading) → list_all is_line_byte bytes ≡ true → ends_with_space bytes ≡ false
+      → codes_of content ≡ escaped bytes → scan context 0 r content ≡ read_tokens (tokens_of bytes) r
+  scan_escaped [] [] r lines trimmed e = read_nothing r
+  scan_escaped [] (c ∷ cs) r lines trimmed e = let n : length (codes_of (c ∷ cs)) ≡ 0 = ap length e in absurd (omega arith)
+  scan_escaped (b ∷ bs) content r lines trimmed e =
+      let parts = and_parts (is_line_byte b) (list_all is_line_byte bs) lines in
+      elim (cases_Bool (is_ascii_punctuation b)) [
+        | inl punctuation ↦
+            escape_step b bs content r punctuation (e ∙ escaped_punctuation b bs punctuation)
+            (λ rest same. scan_escaped bs rest (read_tokens (Item (Escape b) ∷ []) r) parts.1 (later_trimmed b bs trimmed) same)
+        | inr off ↦
+            other_step b bs content r off parts.0 (λ white. after_white b bs lines trimmed white) (e ∙ escaped_other b bs off)
+            (λ rest same. scan_escaped bs rest (read_tokens (Item (Data b) ∷ []) r) parts.1 (later_trimmed b bs trimmed) same)
+      ]
+    where
+      later_trimmed : (b : ℕ) (bs : List ℕ) → ends_with_space (b ∷ bs) ≡ false → ends_with_space bs ≡ false
+      later_trimmed b [] h = refl
+      later_trimmed b (next ∷ bs) h = h
+
+      after_white : (b : ℕ) (bs : List ℕ) → list_all is_line_byte (b ∷ bs) ≡ true → ends_with_space (b ∷ bs) ≡ false → is_white b ≡ true
+          → ends_here (bare (b ∷ escaped bs)) ≡ false
+      after_white b [] lines trimmed white =
+          absurd (both_ways (b == 32) trimmed (white_is_space b (and_parts (is_line_byte b) true lines).0 white))
+      after_white b (next ∷ bs) lines trimmed white =
+          ap ends_here (bare_white b (escaped (next ∷ bs)) white) ∙ goes_on next bs (and_parts (is_line_byte b) (list_all is_line_byte (next ∷ bs)) lines).1 trimmed
+
+      escape_step : (b : ℕ) (bs : List ℕ) (content : List InlineCode) (r : Reading) → is_ascii_punctuation b ≡ true → codes_of content ≡ 92 ∷ b ∷ escaped bs
+          → ((rest : List InlineCode) → codes_of rest ≡ escaped bs
+          → scan context 0 (read_tokens (Item (Escape b) ∷ []) r) rest ≡ read_tokens (tokens_of bs) (read_tokens (Item (Escape b) ∷ []) r))
+          → scan context 0 r content ≡ read_tokens (tokens_of (b ∷ bs)) r
+      escape_step b bs [] r punctuation e more = let n : 0 ≡ length (92 ∷ b ∷ escaped bs) = ap length e in absurd (omega arith)
+      escape_step b bs (c ∷ []) r punctuation e more = let n : 1 ≡ length (92 ∷ b ∷ escaped bs) = ap length e in absurd (omega arith)
+      escape_step b bs (c ∷ d ∷ cs) r punctuation e more =
+          let next = read_tokens (Item (Escape b) ∷ []) r in
+          let found : leaf_at context (codes_of (c ∷ d ∷ cs)) ≡ Some (leaf (Escape b ∷ []) 2) = ap (leaf_at context) e ∙ escape_leaf b (escaped bs) punctuation in
+          scan_step context r next c (d ∷ cs) 1 (step_leaf context r c (d ∷ cs) (leaf (Escape b ∷ []) 2) found)
+          ∙ more cs (ap (drop 2) e) ∙ read_more (Item (Escape b)) (tokens_of bs) r
+          ∙ ap (λ i. read_tokens (Item i ∷ tokens_of bs) r) (sym (escape_part b punctuation))
+
+      other_step : (b : ℕ) (bs : List ℕ) (content : List InlineCode) (r : Reading) → is_ascii_punctuation b ≡ false → is_line_byte b ≡ true
+          → (is_white b ≡ true → ends_here (bare (b ∷ escaped bs)) ≡ false) → codes_of content ≡ b ∷ escaped bs
+          → ((rest : List InlineCode) → codes_of rest ≡ escaped bs
+          → scan context 0 (read_tokens (Item (Data b) ∷ []) r) rest ≡ read_tokens (tokens_of bs) (read_tokens (Item (Data b) ∷ []) r))
+          → scan context 0 r content ≡ read_tokens (tokens_of (b ∷ bs)) r
+      other_step b bs [] r off line spaces e more = let n : 0 ≡ length (b ∷ escaped bs) = ap length e in absurd (omega arith)
+      other_step b bs (c ∷ cs) r off line spaces e more =
+          let next = read_tokens (Item (Data b) ∷ []) r in
+          scan_step context r next c cs 0 (data_place b (escaped bs) r c cs off line spaces e)
+          ∙ more cs (ap (drop 1) e) ∙ read_more (Item (Data b)) (tokens_of bs) r
+          ∙ ap (λ i. read_tokens (Item i ∷ tokens_of bs) r) (sym (data_part b off))
+
+-- ---- what it prints
+
+no_white_first : (bytes : List ℕ) → list_all is_line_byte bytes ≡ true → begins_with_space bytes ≡ false → prefix_len is_white (escaped bytes) ≡ 0
+no_white_first [] lines first = refl
+no_white_first (b ∷ bs) lines first =
+    elim (cases_Bool (is_ascii_punctuation b)) [
+      | inl on ↦ ap (prefix_len is_white) (escaped_punctuation b bs on)
+      | inr off ↦
+          let line = (and_parts (is_line_byte b) (list_all is_line_byte bs) lines).0 in
+          let not_white : is_white b ≡ false =
+          or_from ((b == 32) || (b == 9)) (b == 256) (or_from (b == 32) (b == 9) first (line_byte b line).0) (no_column b line) in
+          ap (prefix_len is_white) (escaped_other b bs off) ∙ cond-false (is_white b) _ 0 not_white
+    ]
+
+module _ (meaning : InlineMeaning) where
+  html_of_byte : (b : ℕ) → part_html meaning (part_of b) ≡ encoded_byte b
+  unfolding part_of
+  html_of_byte b = cond_both (is_ascii_punctuation b) (Escape b) (Data b) (λ i. part_html meaning i ≡ encoded_byte b) (λ _. refl) (λ _. refl)
+
+  html_of_bytes : (bytes : List ℕ) → flat_map (part_html meaning) (map part_of bytes) ≡ encode bytes
+  html_of_bytes [] = refl
+  html_of_bytes (b ∷ bs) =
+      ap (λ x. x ++ flat_map (part_html meaning) (map part_of bs)) (html_of_byte b) ∙ ap (λ x. encoded_byte b ++ x) (html_of_bytes bs)
+
+  html_of_tokens : (bytes : List ℕ) → inline_html meaning (emphasized (tokens_of bytes)) ≡ encode bytes
+  html_of_tokens bytes = html_of_parts meaning (map part_of bytes) ∙ html_of_bytes bytes
+
+pub escape_law : EscapeLaw
+escape_law context meaning content bytes on lines first last e =
+    let start = prefix_len (λ (c : InlineCode). is_white c.code) content in
+    let none : start ≡ 0 = white_codes content ∙ ap (prefix_len is_white) e ∙ no_white_first bytes lines first in
+    let r : Reading = reading (text [] false) [] in
+    let read : scan context 0 r content ≡ read_tokens (tokens_of bytes) r = scan_escaped context on bytes content r lines last e in
+    ap (λ n. inline_html meaning (emphasized (whole_text (scan context 0 r (drop n content))).tokens)) none
+    ∙ ap (λ x. inline_html meaning (emphasized (whole_text x).tokens)) read ∙ html_of_tokens meaning bytes

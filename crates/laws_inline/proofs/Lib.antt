@@ -1,0 +1,8 @@
+mod Each
+pub mod Occurs
+pub mod Pairs
+pub mod Escaped
+pub mod EscapedString
+pub mod NestedLinks
+pub mod Matching
+pub mod References

@@ -1,0 +1,176 @@
+-- What is no label of a definition forms no reference.
+use Rattle.std.proofs.Common.{◌≡◌, ℕ, suc, zero, Bool, false, ◌&&◌, ◌==◌, List, [], ◌∷◌, ◌++◌, map, Option, None, Some, length, drop, refl, ◌-◌}
+use Rattle.std.specs.List.{fold, prefix_len}
+use Rattle.std.proofs.lemmas.Bool.{cond_both, and_parts, or_from, not_from_true}
+use Rattle.definition_text.specs.Columns.{is_white}
+use Rattle.definition_text.specs.Content.{Part, before}
+use Rattle.definition_text.specs.InlineCode.{InlineCode, codes_of}
+use Rattle.definition_inline.specs.Inline.{Target, Reference, Inline, Data, Emphasis, Strong, Link, Image, Inlines, Leaf}
+use Rattle.definition_inline.specs.Label.{label_at}
+use Rattle.definition_inline.specs.Resource.{LinkResource, resource_at}
+use Rattle.definition_inline.specs.LabelEnd.{Ended, ended, is_label_text, by_text, by_label, by_resource, label_end_at}
+use Rattle.definition_inline.specs.Attention.{Run, run_at}
+use Rattle.definition_inline.specs.Spans.{Token, Item, Delimiters, Span, IsEmphasis, IsStrong, spanned, emphasized}
+use Rattle.definition_inline.specs.Scan.{InlineContext, leaf_at, LabelStart, LinkStart, ImageStart, label_start_at, start_bytes, start_tokens, may_form, label_part, Text, text, OpenLabel, Reading, reading, read_tokens, unformed, formed, Step, Next, data_step, ended_step, ended_by, label_end_step, last_step, label_step, run_step, leaf_step, step, and_then, scan, whole_text}
+use Rattle.laws_inline.specs.Occurs.{part_has, has}
+use Rattle.laws_inline.specs.References.{is_undefined, leads_nowhere, ReferencesAreDefined}
+use Rattle.laws_inline.proofs.Each.{Each, each-append, each_map}
+use Rattle.laws_inline.proofs.NestedLinks.{Lacks, emphasized_lacks, IsPlain, PlainLeaf, plain_leaf}
+
+module _ (is_defined : List ℕ → Bool) where
+  -- ---- what a `]` forms
+
+  abbrev LeadsOn : Option Ended → Type 0
+  LeadsOn None = Unit {0}
+  LeadsOn (Some found) = is_undefined is_defined found.target ≡ false
+
+  text_leads : (label rest : List ℕ) → LeadsOn (by_text is_defined label rest)
+  text_leads label rest =
+      cond_both (is_label_text label && is_defined label) (Some (ended (Reference label) _)) None LeadsOn
+      (λ e. not_from_true (is_defined label) (and_parts (is_label_text label) (is_defined label) e).1) (λ _. tt)
+
+  label_leads : (label rest : List ℕ) (found : Option Part) → LeadsOn (by_label is_defined label rest found)
+  label_leads label rest None = text_leads label rest
+  label_leads label rest (Some found) =
+      cond_both (is_defined found.text) (Some (ended (Reference found.text) (length rest - length found.rest))) None LeadsOn
+      (λ e. not_from_true (is_defined found.text) e) (λ _. tt)
+
+  resource_leads : (label rest : List ℕ) (found : Option LinkResource) → LeadsOn (by_resource is_defined label rest found)
+  resource_leads label rest None = label_leads label rest (label_at rest)
+  resource_leads label rest (Some found) = refl
+
+  -- ---- texts
+
+  no_data : (b : ℕ) → leads_nowhere is_defined (Data b) ≡ false
+  no_data b = refl
+
+  no_span : (span : Span) (kids : Inlines) → leads_nowhere is_defined (spanned span kids) ≡ false
+  no_span IsEmphasis kids = refl
+  no_span IsStrong kids = refl
+
+  abbrev IsSound : Token → Type 0
+  IsSound t = Lacks (leads_nowhere is_defined) no_data no_span t
+
+  abbrev IsSoundText : Text → Type 0
+  IsSoundText t = Each IsSound t.tokens
+
+  abbrev IsSoundLabel : OpenLabel → Type 0
+  IsSoundLabel label = IsSoundText label.outer
+
+  abbrev IsSoundReading : Reading → Type 0
+  IsSoundReading r = IsSoundText r.now × Each IsSoundLabel r.open_labels
+
+  abbrev IsSoundStep : Step → Type 0
+  IsSoundStep (Next more r) = IsSoundReading r
+
+  plain_leads : (i : Inline) → IsPlain i → part_has (leads_nowhere is_defined) i ≡ false
+  plain_leads (Emphasis kids) h = absurd h
+  plain_leads (Strong kids) h = absurd h
+  plain_leads (Link target kids) h = absurd h
+  plain_leads (Image target kids) h = absurd h
+  plain_leads i h = refl
+
+  plain_items : (parts : List Inline) → Each IsPlain parts → Each IsSound (map Item parts)
+  plain_items [] h = tt
+  plain_items (i ∷ is) h = (plain_leads i h.0, plain_items is h.1)
+
+  start_leads : (start : LabelStart) → Each IsSound (start_tokens start)
+  start_leads start = each_map IsSound (λ b. Item (Data b)) (start_bytes start) (λ b. refl)
+
+  sound_unformed : (label : OpenLabel) (inner : Text) → IsSoundLabel label → IsSoundText inner → IsSoundText (unformed label inner)
+  sound_unformed label inner h p =
+      each-append IsSound label.outer.tokens (start_tokens label.start ++ inner.tokens) h
+      (each-append IsSound (start_tokens label.start) inner.tokens (start_leads label.start) p)
+
+  sound_part : (start : LabelStart) (target : Target) (kids : Inlines) → is_undefined is_defined target ≡ false
+      → has (leads_nowhere is_defined) kids ≡ false → part_has (leads_nowhere is_defined) (label_part start target kids) ≡ false
+  sound_part LinkStart target kids e p = or_from (is_undefined is_defined target) (has (leads_nowhere is_defined) kids) e p
+  sound_part ImageStart target kids e p = or_from (is_undefined is_defined target) (has (leads_nowhere is_defined) kids) e p
+
+  sound_formed : (label : OpenLabel) (target : Target) (inner : Text) → IsSoundLabel label → is_undefined is_defined target ≡ false → IsSoundText inner
+      → IsSoundText (formed label target inner)
+  sound_formed label target inner h e p =
+      let kids = emphasized inner.tokens in
+      each-append IsSound label.outer.tokens (Item (label_part label.start target kids) ∷ []) h
+      (sound_part label.start target kids e (emphasized_lacks (leads_nowhere is_defined) no_data no_span inner.tokens p), tt)
+
+  sound_close : (inner : Text) (open_labels : List OpenLabel) → IsSoundText inner → Each IsSoundLabel open_labels
+      → IsSoundText (fold (λ inner label. unformed label inner) inner open_labels)
+  sound_close inner [] p h = p
+  sound_close inner (label ∷ others) p h = sound_close (unformed label inner) others (sound_unformed label inner h.0 p) h.1
+
+  -- ---- places
+
+  sound_read : (more : List Token) (r : Reading) → Each IsSound more → IsSoundReading r → IsSoundReading (read_tokens more r)
+  sound_read more r h p = (each-append IsSound r.now.tokens more p.0 h, p.1)
+
+  sound_end : (label : OpenLabel) (others : List OpenLabel) (inner : Text) (found : Option Ended) → LeadsOn found → IsSoundLabel label
+      → Each IsSoundLabel others → IsSoundText inner → IsSoundStep (ended_step label others inner found)
+  sound_end label others inner None e h hs p =
+      sound_read (Item (Data 93) ∷ []) (reading (unformed label inner) others) (refl, tt) (sound_unformed label inner h p, hs)
+  sound_end label others inner (Some found) e h hs p = (sound_formed label found.target inner h e p, hs)
+
+-- ---- the scan
+
+module _ (context : InlineContext) where
+  abbrev Sound : Reading → Type 0
+  Sound r = IsSoundReading context.is_defined r
+
+  abbrev SoundStep : Step → Type 0
+  SoundStep s = IsSoundStep context.is_defined s
+
+  ended_leads : (content : List ℕ) (label : OpenLabel) (inner : Text) → LeadsOn context.is_defined (ended_by context content label inner)
+  ended_leads content label inner =
+      let within = before label.from content in
+      let rest = drop 1 content in
+      cond_both (may_form label.start inner.holds_link) (label_end_at context.is_defined within rest) None (LeadsOn context.is_defined)
+      (λ _. resource_leads context.is_defined within rest (resource_at rest)) (λ _. tt)
+
+  sound_label_end : (content : List ℕ) (inner : Text) (open_labels : List OpenLabel) → IsSoundText context.is_defined inner
+      → Each (IsSoundLabel context.is_defined) open_labels → SoundStep (label_end_step context content inner open_labels)
+  sound_label_end content inner [] p hs = sound_read context.is_defined (Item (Data 93) ∷ []) (reading inner []) (refl, tt) (p, tt)
+  sound_label_end content inner (label ∷ others) p hs =
+      sound_end context.is_defined label others inner (ended_by context content label inner) (ended_leads content label inner) hs.0 hs.1 p
+
+  sound_last : (code : ℕ) (content : List ℕ) (r : Reading) → Sound r → SoundStep (last_step context code content r)
+  sound_last code content r p =
+      cond_both (context.on.label_end && (code == 93)) (label_end_step context content r.now r.open_labels) (data_step code r) SoundStep
+      (λ _. sound_label_end content r.now r.open_labels p.0 p.1)
+      (λ _. sound_read context.is_defined (Item (Data code) ∷ []) r (refl, tt) p)
+
+  sound_label : (code : ℕ) (content : List ℕ) (r : Reading) (start : Option LabelStart) → Sound r → SoundStep (label_step context code content r start)
+  sound_label code content r None p = sound_last code content r p
+  sound_label code content r (Some start) p = (tt, (p.0, p.1))
+
+  sound_run : (code : ℕ) (content : List ℕ) (r : Reading) (found : Option Run) → Sound r → SoundStep (run_step context code content r found)
+  sound_run code content r None p = sound_label code content r (label_start_at context.on content) p
+  sound_run code content r (Some found) p = sound_read context.is_defined (Delimiters found ∷ []) r (tt, tt) p
+
+  sound_leaf : (code : ℕ) (content : List ℕ) (r : Reading) (run : Option Run) (found : Option Leaf) → Sound r → PlainLeaf found
+      → SoundStep (leaf_step context code content r run found)
+  sound_leaf code content r run None p h = sound_run code content r run p
+  sound_leaf code content r run (Some found) p h =
+      sound_read context.is_defined (map Item found.parts) r (plain_items context.is_defined found.parts h) p
+
+  sound_step : (r : Reading) (c : InlineCode) (cs : List InlineCode) → Sound r → SoundStep (step context r c cs)
+  sound_step r c cs p =
+      let content = codes_of (c ∷ cs) in
+      sound_leaf c.code content r (run_at context.on (c ∷ cs)) (leaf_at context content) p (plain_leaf context content)
+
+  sound_then : (s : Step) (rest : ℕ → Reading → Reading) → SoundStep s → ((k : ℕ) (r : Reading) → Sound r → Sound (rest k r)) → Sound (and_then s rest)
+  sound_then (Next more r) rest p h = h more r p
+
+  sound_scan : (k : ℕ) (r : Reading) (content : List InlineCode) → Sound r → Sound (scan context k r content)
+  sound_scan k r [] p = p
+  sound_scan zero r (c ∷ cs) p =
+      sound_then (step context r c cs) (λ k next. scan context k next cs) (sound_step r c cs p) (λ k next q. sound_scan k next cs q)
+  sound_scan (suc k) r (c ∷ cs) p = sound_scan k r cs p
+
+pub references_are_defined : ReferencesAreDefined
+references_are_defined context content =
+    let start = prefix_len (λ (c : InlineCode). is_white c.code) content in
+    let first : Reading = reading (text [] false) [] in
+    let r : Reading = scan context 0 first (drop start content) in
+    let p : IsSoundReading context.is_defined r = sound_scan context 0 first (drop start content) (tt, tt) in
+    emphasized_lacks (leads_nowhere context.is_defined) (no_data context.is_defined) (no_span context.is_defined) (whole_text r).tokens
+    (sound_close context.is_defined r.now r.open_labels p.0 p.1)

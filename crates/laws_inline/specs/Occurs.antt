@@ -1,0 +1,129 @@
+-- Which parts a content can have (CommonMark 6): a construct that is off never occurs.
+use Rattle.std.specs.Prelude.{◌≡◌, Bool, true, false, ◌||◌, List}
+use Rattle.markdown_options.specs.declared.configuration.Constructs.{Constructs}
+use Rattle.definition_text.specs.InlineCode.{InlineCode}
+use Rattle.definition_inline.specs.Inline.{Inline, Escape, Character, Code, Autolink, Html, EscapedBreak, TrailingBreak, Emphasis, Strong, Link, Image, Inlines, Nil, Cons}
+use Rattle.definition_inline.specs.Scan.{InlineContext, inlines}
+
+-- whether one of these parts passes a test, at any depth
+abbrev mutual
+  pub part_has : (Inline → Bool) → Inline → Bool
+  part_has test (Emphasis kids) = test (Emphasis kids) || has test kids
+  part_has test (Strong kids) = test (Strong kids) || has test kids
+  part_has test (Link target kids) = test (Link target kids) || has test kids
+  part_has test (Image target kids) = test (Image target kids) || has test kids
+  part_has test i = test i
+
+  pub has : (Inline → Bool) → Inlines → Bool
+  has test Nil = false
+  has test (Cons i is) = part_has test i || has test is
+
+-- where this construct is off, no content has a part that passes this test
+abbrev pub Never : (Constructs → Bool) → (Inline → Bool) → Type 0
+Never construct test =
+    (context : InlineContext) (content : List InlineCode) → construct context.on ≡ false → has test (inlines context content) ≡ false
+
+-- ---- tests
+
+-- an escaped byte (CommonMark 2.4)
+abbrev pub is_escape : Inline → Bool
+is_escape (Escape b) = true
+is_escape i = false
+
+-- what a character reference stands for (CommonMark 2.5)
+abbrev pub is_character : Inline → Bool
+is_character (Character bytes) = true
+is_character i = false
+
+-- a code span (CommonMark 6.1)
+abbrev pub is_code : Inline → Bool
+is_code (Code bytes) = true
+is_code i = false
+
+-- an autolink (CommonMark 6.5)
+abbrev pub is_autolink : Inline → Bool
+is_autolink (Autolink is_email bytes) = true
+is_autolink i = false
+
+-- raw HTML (CommonMark 6.6)
+abbrev pub is_html : Inline → Bool
+is_html (Html text) = true
+is_html i = false
+
+-- a hard line break by a backslash (CommonMark 6.7)
+abbrev pub is_escaped_break : Inline → Bool
+is_escaped_break EscapedBreak = true
+is_escaped_break i = false
+
+-- a hard line break by spaces (CommonMark 6.7)
+abbrev pub is_trailing_break : Inline → Bool
+is_trailing_break TrailingBreak = true
+is_trailing_break i = false
+
+-- emphasis or strong emphasis (CommonMark 6.2)
+abbrev pub is_span : Inline → Bool
+is_span (Emphasis kids) = true
+is_span (Strong kids) = true
+is_span i = false
+
+-- a link (CommonMark 6.3)
+abbrev pub is_link : Inline → Bool
+is_link (Link target kids) = true
+is_link i = false
+
+-- an image (CommonMark 6.4)
+abbrev pub is_image : Inline → Bool
+is_image (Image target kids) = true
+is_image i = false
+
+-- a link or an image (CommonMark 6.3 and 6.4)
+abbrev pub is_labelled : Inline → Bool
+is_labelled (Link target kids) = true
+is_labelled (Image target kids) = true
+is_labelled i = false
+
+-- ---- the laws
+
+-- without backslash escapes none (CommonMark 2.4)
+abbrev pub NoEscapes : Type 0
+NoEscapes = Never (λ on. on.character_escape) is_escape
+
+-- without character references none (CommonMark 2.5)
+abbrev pub NoCharacters : Type 0
+NoCharacters = Never (λ on. on.character_reference) is_character
+
+-- without code spans none (CommonMark 6.1)
+abbrev pub NoCode : Type 0
+NoCode = Never (λ on. on.code_text) is_code
+
+-- without autolinks none (CommonMark 6.5)
+abbrev pub NoAutolinks : Type 0
+NoAutolinks = Never (λ on. on.autolink) is_autolink
+
+-- without raw HTML none (CommonMark 6.6)
+abbrev pub NoHtml : Type 0
+NoHtml = Never (λ on. on.html_text) is_html
+
+-- without hard line breaks by a backslash none (CommonMark 6.7)
+abbrev pub NoEscapedBreaks : Type 0
+NoEscapedBreaks = Never (λ on. on.hard_break_escape) is_escaped_break
+
+-- without hard line breaks by spaces none (CommonMark 6.7)
+abbrev pub NoTrailingBreaks : Type 0
+NoTrailingBreaks = Never (λ on. on.hard_break_trailing) is_trailing_break
+
+-- without attention no emphasis and no strong emphasis (CommonMark 6.2)
+abbrev pub NoSpans : Type 0
+NoSpans = Never (λ on. on.attention) is_span
+
+-- without starts of links no link (CommonMark 6.3)
+abbrev pub NoLinks : Type 0
+NoLinks = Never (λ on. on.label_start_link) is_link
+
+-- without starts of images no image (CommonMark 6.4)
+abbrev pub NoImages : Type 0
+NoImages = Never (λ on. on.label_start_image) is_image
+
+-- without ends of labels no link and no image (CommonMark 6.3 and 6.4)
+abbrev pub NoLabelEnds : Type 0
+NoLabelEnds = Never (λ on. on.label_end) is_labelled

@@ -1,0 +1,68 @@
+//! A construct that is off never occurs, at any depth.
+ghost use Rattle.laws_inline.specs.Occurs.{NoEscapes, NoCharacters, NoCode, NoAutolinks, NoHtml, NoEscapedBreaks, NoTrailingBreaks, NoSpans, NoLinks, NoImages, NoLabelEnds};
+
+/// Where backslash escapes are off, no content has one.
+#[tactic(auto, using(crate::proofs::Occurs::no_escapes))]
+pub fn character_escape_law()
+    ensures { NoEscapes }
+{}
+
+/// Where character references are off, no content has one.
+#[tactic(auto, using(crate::proofs::Occurs::no_characters))]
+pub fn character_reference_law()
+    ensures { NoCharacters }
+{}
+
+/// Where code spans are off, no content has one.
+#[tactic(auto, using(crate::proofs::Occurs::no_code))]
+pub fn code_text_law()
+    ensures { NoCode }
+{}
+
+/// Where autolinks are off, no content has one.
+#[tactic(auto, using(crate::proofs::Occurs::no_autolinks))]
+pub fn autolink_law()
+    ensures { NoAutolinks }
+{}
+
+/// Where raw HTML is off, no content has it.
+#[tactic(auto, using(crate::proofs::Occurs::no_html))]
+pub fn html_text_law()
+    ensures { NoHtml }
+{}
+
+/// Where hard line breaks by a backslash are off, no content has one.
+#[tactic(auto, using(crate::proofs::Occurs::no_escaped_breaks))]
+pub fn hard_break_escape_law()
+    ensures { NoEscapedBreaks }
+{}
+
+/// Where hard line breaks by spaces are off, no content has one.
+#[tactic(auto, using(crate::proofs::Occurs::no_trailing_breaks))]
+pub fn hard_break_trailing_law()
+    ensures { NoTrailingBreaks }
+{}
+
+/// Where attention is off, no content has emphasis or strong emphasis.
+#[tactic(auto, using(crate::proofs::Occurs::no_spans))]
+pub fn attention_law()
+    ensures { NoSpans }
+{}
+
+/// Where starts of links are off, no content has a link.
+#[tactic(auto, using(crate::proofs::Occurs::no_links))]
+pub fn label_start_link_law()
+    ensures { NoLinks }
+{}
+
+/// Where starts of images are off, no content has an image.
+#[tactic(auto, using(crate::proofs::Occurs::no_images))]
+pub fn label_start_image_law()
+    ensures { NoImages }
+{}
+
+/// Where ends of labels are off, no content has a link or an image.
+#[tactic(auto, using(crate::proofs::Occurs::no_label_ends))]
+pub fn label_end_law()
+    ensures { NoLabelEnds }
+{}

@@ -1,0 +1,43 @@
+-- The ending at the end of blocks.
+use Rattle.std.proofs.Common.{◌≡◌, ◌++◌, Bool, true, false, if◌then◌else◌, refl, sym, ap, ◌∙◌, append_assoc}
+use Rattle.std.proofs.lemmas.Bool.{cond-true, cond_both}
+use Rattle.definition_block.specs.declared.container.Container.TheVariants.{Quote}
+use Rattle.definition_block.specs.Tree.{Block, Holds, Blocks, Nil, Cons, join, one, is_ending, without_last, last_of, holds}
+use Rattle.definition_block.specs.Definitions.{block_definitions, definitions}
+use Rattle.laws_quote.specs.Laws.{quote_of}
+
+-- a block alone, which may be an ending
+join-alone : (ends : Bool) (b : Block) → join (if ends then Nil else one b) (if ends then one b else Nil) ≡ one b
+join-alone true b = refl
+join-alone false b = refl
+
+-- blocks are what stands before the ending of their last line, and that
+pub join-without_last : (bs : Blocks) → join (without_last bs) (last_of bs) ≡ bs
+join-without_last Nil = refl
+join-without_last (Cons b Nil) = join-alone (is_ending b) b
+join-without_last (Cons b (Cons c bs)) = ap (Cons b) (join-without_last (Cons c bs))
+
+-- that is nothing, or one ending
+at_last : (P : Blocks → Type 0) (bs : Blocks) → P Nil → ((b : Block) → is_ending b ≡ true → P (one b)) → P (last_of bs)
+at_last P Nil none some = none
+at_last P (Cons b Nil) none some = cond_both (is_ending b) (one b) Nil P (λ e. some b e) (λ _. none)
+at_last P (Cons b (Cons c bs)) none some = at_last P (Cons c bs) none some
+
+-- after a quote it is still that
+pub without_last-quote : (kids bs : Blocks) → without_last (join (quote_of kids) (last_of bs)) ≡ quote_of kids
+without_last-quote kids bs =
+    at_last (λ last. without_last (join (quote_of kids) last) ≡ quote_of kids) bs refl
+    (λ b e. ap (Cons (Holds Quote kids)) (cond-true (is_ending b) Nil (one b) e))
+
+pub last_of-quote : (kids bs : Blocks) → last_of (join (quote_of kids) (last_of bs)) ≡ last_of bs
+last_of-quote kids bs =
+    at_last (λ last. last_of (join (quote_of kids) last) ≡ last) bs refl (λ b e. cond-true (is_ending b) (one b) Nil e)
+
+-- definitions
+definitions-join : (bs cs : Blocks) → definitions (join bs cs) ≡ definitions bs ++ definitions cs
+definitions-join Nil cs = refl
+definitions-join (Cons b bs) cs =
+    ap (λ ds. block_definitions b ++ ds) (definitions-join bs cs) ∙ sym (append_assoc (block_definitions b) (definitions bs) (definitions cs))
+
+pub definitions-holds : (kids : Blocks) → definitions (holds Quote kids) ≡ definitions kids
+definitions-holds kids = sym (definitions-join (without_last kids) (last_of kids)) ∙ ap definitions (join-without_last kids)

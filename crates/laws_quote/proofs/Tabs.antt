@@ -1,0 +1,73 @@
+-- Bytes without tabs, and the codes of a line that has none.
+use Rattle.std.proofs.Common.{◌≡◌, ℕ, ◌+◌, List, [], ◌∷◌, ◌++◌, Some, false, cond, eqb, refl, ap, ◌∙◌, drop, arith}
+use Rattle.std.specs.Prelude.{◌≢◌, replicate}
+use Rattle.std.specs.List.{All}
+use Rattle.std.proofs.lemmas.Bool.{cond-false, cond_both, ne_eqb}
+use Rattle.std.proofs.lemmas.List.Elements.{All-tail}
+use Rattle.markdown_options.specs.declared.line_ending.LineEnding.TheVariants.{CarriageReturnLineFeed, CarriageReturn, LineFeed}
+use Rattle.definition_text.specs.Lines.{TextLine, text_line, in_first_line, after_return, lines}
+use Rattle.definition_text.specs.Columns.{codes_from, tab_column, columns_after_tab}
+use Rattle.laws_quote.specs.Quoted.{is_last_of_ending, marked, marked_after_endings, quoted}
+
+-- no byte is a tab
+abbrev pub Tabless : List ℕ → Type 0
+Tabless [] = Unit {0}
+Tabless (b ∷ bs) = (eqb b 9 ≡ false) × Tabless bs
+
+pub Tabless-from_All : (bs : List ℕ) → All (λ b. b ≢ 9) bs → Tabless bs
+Tabless-from_All [] p = tt
+Tabless-from_All (b ∷ bs) p = (ne_eqb b 9 (p 0 b (omega arith)), Tabless-from_All bs (All-tail (λ x. x ≢ 9) b bs p))
+
+-- the codes of such bytes are the bytes
+pub codes_from-Tabless : (column : ℕ) (bs : List ℕ) → Tabless bs → codes_from column bs ≡ bs
+codes_from-Tabless column [] p = refl
+codes_from-Tabless column (b ∷ bs) p =
+    let n = columns_after_tab column in
+    cond-false (eqb b 9) (9 ∷ (replicate n tab_column ++ codes_from (column + 1 + n) bs)) (b ∷ codes_from (column + 1) bs) p.0
+    ∙ ap (λ codes. b ∷ codes) (codes_from-Tabless (column + 1) bs p.1)
+
+-- ---- the lines of such a text
+
+-- no line holds a tab
+abbrev pub LinesTabless : List TextLine → Type 0
+LinesTabless [] = Unit {0}
+LinesTabless (line ∷ ls) = Tabless line.content × LinesTabless ls
+
+in_first_line_tabless : (b : ℕ) (ls : List TextLine) → eqb b 9 ≡ false → LinesTabless ls → LinesTabless (in_first_line b ls)
+in_first_line_tabless b [] e p = ((e, tt), tt)
+in_first_line_tabless b (line ∷ ls) e p = ((e, p.0), p.1)
+
+others_tabless : (ls : List TextLine) → LinesTabless ls → LinesTabless (drop 1 ls)
+others_tabless [] p = tt
+others_tabless (line ∷ ls) p = p.1
+
+after_return_tabless : (bs : List ℕ) (ls : List TextLine) → LinesTabless ls → LinesTabless (after_return bs ls)
+after_return_tabless [] ls p = (tt, p)
+after_return_tabless (b ∷ bs) ls p =
+    cond_both (eqb b 10) (text_line [] (Some CarriageReturnLineFeed) ∷ drop 1 ls) (text_line [] (Some CarriageReturn) ∷ ls) LinesTabless
+    (λ _. (tt, others_tabless ls p)) (λ _. (tt, p))
+
+pub lines_tabless : (text : List ℕ) → Tabless text → LinesTabless (lines text)
+lines_tabless [] p = tt
+lines_tabless (b ∷ bs) p =
+    let ls = lines bs in
+    let q = lines_tabless bs p.1 in
+    cond_both (eqb b 10) (text_line [] (Some LineFeed) ∷ ls) (cond (eqb b 13) (after_return bs ls) (in_first_line b ls)) LinesTabless
+    (λ _. (tt, q))
+    (λ _. cond_both (eqb b 13) (after_return bs ls) (in_first_line b ls) LinesTabless (λ _. after_return_tabless bs ls q) (λ _. in_first_line_tabless b ls p.0 q))
+
+-- ---- such a text with `> ` before every line has no tab either
+
+marked_tabless : (bs : List ℕ) → Tabless bs → Tabless (marked bs)
+marked_tabless [] p = tt
+marked_tabless (b ∷ bs) p = (refl, (refl, p))
+
+marked_after_endings_tabless : (text : List ℕ) → Tabless text → Tabless (marked_after_endings text)
+marked_after_endings_tabless [] p = tt
+marked_after_endings_tabless (b ∷ bs) p =
+    let more = marked_after_endings bs in
+    let q = marked_after_endings_tabless bs p.1 in
+    (p.0, cond_both (is_last_of_ending b bs) (marked more) more Tabless (λ _. marked_tabless more q) (λ _. q))
+
+pub quoted_tabless : (text : List ℕ) → Tabless text → Tabless (quoted text)
+quoted_tabless text p = marked_tabless (marked_after_endings text) (marked_after_endings_tabless text p)

@@ -1,0 +1,4 @@
+pub mod Plain
+pub mod InlineParts
+pub mod PlainText
+pub mod Visible

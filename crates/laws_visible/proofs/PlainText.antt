@@ -1,0 +1,403 @@
+-- The text of lines where every construct is off: the lines without the spaces and tabs at their ends, encoded.
+use Rattle.std.proofs.Common.{◌≡◌, ℕ, ◌+◌, ◌-◌, ◌<◌, suc, zero, List, [], ◌∷◌, ◌++◌, Option, None, Some, Bool, true, false, cond, ◌&&◌, eqb, leb, inl, inr, refl, sym, ap, ◌∙◌, subst, append_assoc, arith, take, drop, length, map}
+use Rattle.std.specs.Prelude.{reverse}
+use Rattle.std.specs.List.{flat_map, prefix_len, suffix_len}
+use Rattle.std.proofs.Math.Seq.{drop-append_seam}
+use Rattle.std.proofs.lemmas.Bool.{true≢false, both_ways, cases_Bool, cond-true, cond-false, and_parts, and_cases, or_from, ne_eqb, eqb-true, le-leb}
+use Rattle.std.proofs.lemmas.List.{length-reverse, map-append, reverse-append}
+use Rattle.std.proofs.lemmas.List.Folds.{prefix_len-append}
+use Rattle.std.proofs.lemmas.List.Sums.{suffix_len-le-length}
+use Rattle.markdown_options.specs.declared.line_ending.LineEnding.{LineEnding}
+use Rattle.markdown_options.specs.declared.line_ending.LineEnding.TheVariants.{CarriageReturnLineFeed, CarriageReturn, LineFeed}
+use Rattle.markdown_options.specs.Defaults.{no_constructs}
+use Rattle.definition_text.specs.declared.beside.Kind.{Kind}
+use Rattle.definition_text.specs.declared.beside.Kind.TheVariants.{Whitespace}
+use Rattle.definition_text.specs.Lines.{ends_line, ending_text}
+use Rattle.definition_text.specs.Columns.{is_white, is_blank, indent, bare, is_tab_column, code_byte, trimmed}
+use Rattle.definition_text.specs.Encode.{encode}
+use Rattle.definition_text.specs.BlockLines.{BlockLine}
+use Rattle.definition_text.specs.Content.{is_eol, ending_code, line_codes, content_of}
+use Rattle.definition_text.specs.InlineCode.{InlineCode, codes_of, next_kind, with_kinds, line_content, inline_content}
+use Rattle.definition_inline.specs.Inline.{Inline, Data, LineEnd, Leaf, leaf, or_else}
+use Rattle.definition_inline.specs.HardBreak.{ends_here, line_end_at, line_spaces_at}
+use Rattle.definition_inline.specs.Spans.{Item, emphasized}
+use Rattle.definition_inline.specs.Scan.{InlineContext, leaf_at, text, Reading, reading, read_tokens, Next, leaf_step, step, and_then, scan, whole_text, inlines}
+use Rattle.definition_inline.specs.Strings.{or_byte}
+use Rattle.definition_page.specs.InlineHtml.{InlineMeaning, part_html, inline_html}
+use Rattle.definition_page.specs.Document.{Document, meaning_of, text_of}
+use Rattle.definition_page.specs.Targets.{is_label_of}
+use Rattle.definition_inline.proofs.Scanning.{drop-codes_of}
+use Rattle.laws_visible.proofs.InlineParts.{read_nothing, white_codes, html_of_parts}
+
+-- a line of text: the spaces and tabs at its ends are dropped
+abbrev pub line_text : BlockLine → List ℕ
+line_text line = encode (trimmed line.codes) ++ ending_text line.ending
+
+abbrev pub plain_text : List BlockLine → List ℕ
+plain_text ls = flat_map line_text ls
+
+-- bytes that end no line
+abbrev pub AreInLine : List ℕ → Type 0
+AreInLine [] = Unit {0}
+AreInLine (b ∷ bs) = (ends_line b ≡ false) × (b < 256) × AreInLine bs
+
+-- lines of text: all but the last have an ending
+abbrev pub AreText : List BlockLine → Type 0
+AreText [] = Unit {0}
+AreText (line ∷ []) = AreInLine line.codes
+AreText (line ∷ next ∷ others) = AreInLine line.codes × ((e : LineEnding) × (line.ending ≡ Some e)) × AreText (next ∷ others)
+
+-- ---- what a content begins with
+
+pub and_no : (x y : Bool) → y ≡ false → (x && y) ≡ false
+and_no true y e = e
+and_no false y e = refl
+
+-- a line ending, or the spaces and tabs before one or at the end
+abbrev found_at : List ℕ → Option Leaf
+found_at content = or_else (line_end_at content) (line_spaces_at no_constructs content)
+
+-- the parts of a content, of which so many codes are taken already
+abbrev parts : ℕ → List ℕ → List Inline
+parts k [] = []
+parts zero (c ∷ cs) = let found = or_byte c (found_at (c ∷ cs)) in found.parts ++ parts (found.size - 1) cs
+parts (suc k) (c ∷ cs) = parts k cs
+
+parts_skipped : (k : ℕ) (content : List ℕ) → parts k content ≡ parts 0 (drop k content)
+parts_skipped zero [] = refl
+parts_skipped (suc k) [] = refl
+parts_skipped zero (c ∷ cs) = refl
+parts_skipped (suc k) (c ∷ cs) = parts_skipped k cs
+
+parts_found : (c : ℕ) (cs : List ℕ) (found : Leaf) → found_at (c ∷ cs) ≡ Some found → parts 0 (c ∷ cs) ≡ found.parts ++ parts (found.size - 1) cs
+parts_found c cs found is = ap (λ o. (or_byte c o).parts ++ parts ((or_byte c o).size - 1) cs) is
+
+parts_byte : (c : ℕ) (cs : List ℕ) → found_at (c ∷ cs) ≡ None → parts 0 (c ∷ cs) ≡ Data c ∷ parts 0 cs
+parts_byte c cs is = ap (λ o. (or_byte c o).parts ++ parts ((or_byte c o).size - 1) cs) is
+
+-- ---- the scan
+
+module _ (names : List ℕ → Option (List ℕ)) (is_defined : List ℕ → Bool) where
+  abbrev all_off : InlineContext
+  all_off = record { on = no_constructs; names = names; is_defined = is_defined }
+
+  plain_leaf : (c : ℕ) (cs : List ℕ) → leaf_at all_off (c ∷ cs) ≡ found_at (c ∷ cs)
+  plain_leaf c [] = refl
+  plain_leaf c (next ∷ cs) = refl
+
+  found_step : (c : InlineCode) (cs : List InlineCode) (r : Reading) (o : Option Leaf)
+      → leaf_step all_off c.code (codes_of (c ∷ cs)) r None o ≡ Next ((or_byte c.code o).size - 1) (read_tokens (map Item (or_byte c.code o).parts) r)
+  found_step c cs r None = refl
+  found_step c cs r (Some found) = refl
+
+  plain_step : (c : InlineCode) (cs : List InlineCode) (r : Reading)
+      → step all_off r c cs
+      ≡ Next ((or_byte c.code (found_at (codes_of (c ∷ cs)))).size - 1) (read_tokens (map Item (or_byte c.code (found_at (codes_of (c ∷ cs)))).parts) r)
+  plain_step c cs r =
+      let content = codes_of (c ∷ cs) in
+      ap (leaf_step all_off c.code content r None) (plain_leaf c.code (codes_of cs)) ∙ found_step c cs r (found_at content)
+
+  read_more : (is js : List Inline) (r : Reading) → read_tokens (map Item js) (read_tokens (map Item is) r) ≡ read_tokens (map Item (is ++ js)) r
+  read_more is js r =
+      ap (λ ts. reading (text ts r.now.holds_link) r.open_labels)
+      (append_assoc r.now.tokens (map Item is) (map Item js) ∙ ap (λ ts. r.now.tokens ++ ts) (sym (map-append Item is js)))
+
+  plain_scan : (k : ℕ) (r : Reading) (content : List InlineCode) → scan all_off k r content ≡ read_tokens (map Item (parts k (codes_of content))) r
+  plain_scan zero r [] = read_nothing r
+  plain_scan (suc k) r [] = read_nothing r
+  plain_scan zero r (c ∷ cs) =
+      let found = or_byte c.code (found_at (codes_of (c ∷ cs))) in
+      let next = read_tokens (map Item found.parts) r in
+      ap (λ s. and_then s (λ k r2. scan all_off k r2 cs)) (plain_step c cs r)
+      ∙ plain_scan (found.size - 1) next cs
+      ∙ read_more found.parts (parts (found.size - 1) (codes_of cs)) r
+  plain_scan (suc k) r (c ∷ cs) = plain_scan k r cs
+
+-- ---- what a content prints
+
+module _ (meaning : InlineMeaning) where
+  -- what a content prints
+  abbrev printed : List ℕ → List ℕ
+  printed content = flat_map (part_html meaning) (parts 0 content)
+
+  html_of_codes : (names : List ℕ → Option (List ℕ)) (is_defined : List ℕ → Bool) (content : List InlineCode)
+      → inline_html meaning (inlines (all_off names is_defined) content) ≡ printed (bare (codes_of content))
+  html_of_codes names is_defined content =
+      let start = prefix_len (λ (c : InlineCode). is_white c.code) content in
+      let nothing : Reading = reading (text [] false) [] in
+      ap (λ r. inline_html meaning (emphasized (whole_text r).tokens)) (plain_scan names is_defined 0 nothing (drop start content))
+      ∙ html_of_parts meaning (parts 0 (codes_of (drop start content)))
+      ∙ ap printed (drop-codes_of start content ∙ ap (λ n. drop n (codes_of content)) (white_codes content))
+
+-- ---- spaces and tabs
+
+no_eol : (b : ℕ) → ends_line b ≡ false → b < 256 → is_eol b ≡ false
+no_eol b e lt = or_from (ends_line b) (eqb b 257) e (ne_eqb b 257 (λ is. omega arith))
+
+not_white : (b n : ℕ) → eqb b n ≡ true → is_white n ≡ false → is_white b ≡ false
+not_white b n is e = ap is_white (eqb-true b n is) ∙ e
+
+eol_not_white : (c : ℕ) → is_eol c ≡ true → is_white c ≡ false
+eol_not_white c e = elim (cases_Bool (eqb c 10)) [
+  | inl is ↦ not_white c 10 is refl
+  | inr no_feed ↦ elim (cases_Bool (eqb c 13)) [
+    | inl is ↦ not_white c 13 is refl
+    | inr no_return ↦ elim (cases_Bool (eqb c 257)) [
+      | inl is ↦ not_white c 257 is refl
+      | inr neither ↦ absurd (both_ways (is_eol c) (or_from (ends_line c) (eqb c 257) (or_from (eqb c 10) (eqb c 13) no_feed no_return) neither) e)
+    ]
+  ]
+]
+
+-- spaces and tabs before what is no space or tab
+no_indent : (rest : List ℕ) → ends_here rest ≡ true → indent rest ≡ 0
+no_indent [] e = refl
+no_indent (c ∷ cs) e = cond-false (is_white c) _ 0 (eol_not_white c e)
+
+pub bare_white : (b : ℕ) (rest : List ℕ) → is_white b ≡ true → bare (b ∷ rest) ≡ bare rest
+bare_white b rest white =
+    let e : indent (b ∷ rest) ≡ suc (indent rest) = cond-true (is_white b) (1 + indent rest) 0 white ∙ omega arith in
+    ap (λ n. drop n (b ∷ rest)) e
+
+pub bare_other : (b : ℕ) (rest : List ℕ) → is_white b ≡ false → bare (b ∷ rest) ≡ b ∷ rest
+bare_other b rest other = ap (λ n. drop n (b ∷ rest)) (cond-false (is_white b) (1 + indent rest) 0 other)
+
+bare_before : (bs rest : List ℕ) → ends_here rest ≡ true → bare (bs ++ rest) ≡ bare bs ++ rest
+bare_before [] rest e = ap (λ n. drop n rest) (no_indent rest e)
+bare_before (b ∷ bs) rest e = elim (cases_Bool (is_white b)) [
+  | inl white ↦ bare_white b (bs ++ rest) white ∙ bare_before bs rest e ∙ ap (λ x. x ++ rest) (sym (bare_white b bs white))
+  | inr other ↦ bare_other b (bs ++ rest) other ∙ ap (λ x. x ++ rest) (sym (bare_other b bs other))
+]
+
+blank_indent : (bs rest : List ℕ) → is_blank bs ≡ true → ends_here rest ≡ true → indent (bs ++ rest) ≡ length bs
+blank_indent [] rest blank e = no_indent rest e
+blank_indent (b ∷ bs) rest blank e =
+    let both = and_parts (is_white b) (is_blank bs) blank in
+    cond-true (is_white b) (1 + indent (bs ++ rest)) 0 both.0 ∙ ap (λ n. 1 + n) (blank_indent bs rest both.1 e) ∙ omega arith
+
+goes_on : (bs rest : List ℕ) → AreInLine bs → is_blank bs ≡ false → ends_here (bare (bs ++ rest)) ≡ false
+goes_on [] rest line some = absurd (true≢false some)
+goes_on (b ∷ bs) rest line some = elim (cases_Bool (is_white b)) [
+  | inl white ↦
+      ap ends_here (bare_white b (bs ++ rest) white)
+      ∙ goes_on bs rest line.2 (sym (ap (λ x. x && is_blank bs) white) ∙ some)
+  | inr other ↦ ap ends_here (bare_other b (bs ++ rest) other) ∙ no_eol b line.0 line.1
+]
+
+-- a line without the spaces and tabs at its end
+abbrev kept : List ℕ → List ℕ
+kept [] = []
+kept (b ∷ bs) = cond (is_blank (b ∷ bs)) [] (b ∷ kept bs)
+
+last_white : (b : ℕ) (bs : List ℕ)
+    → suffix_len is_white (b ∷ bs) ≡ cond (eqb (suffix_len is_white bs) (length bs)) (length bs + cond (is_white b) 1 0) (suffix_len is_white bs)
+last_white b bs =
+    ap (prefix_len is_white) (reverse-append (b ∷ []) bs) ∙ prefix_len-append is_white (reverse bs) (b ∷ [])
+    ∙ ap (λ n. cond (eqb (suffix_len is_white bs) n) (n + cond (is_white b) 1 0) (suffix_len is_white bs)) (length-reverse bs)
+
+same : (m n : ℕ) → m ≡ n → eqb m n ≡ true
+same m n e = elim (cases_Bool (eqb m n)) [
+  | inl is ↦ is
+  | inr other ↦ grind (arith, e, other)
+]
+
+blank_end : (bs : List ℕ) → is_blank bs ≡ true → suffix_len is_white bs ≡ length bs
+blank_end [] blank = refl
+blank_end (b ∷ bs) blank =
+    let both = and_parts (is_white b) (is_blank bs) blank in
+    let all = same (suffix_len is_white bs) (length bs) (blank_end bs both.1) in
+    last_white b bs ∙ cond-true (eqb (suffix_len is_white bs) (length bs)) _ _ all ∙ ap (λ n. length bs + n) (cond-true (is_white b) 1 0 both.0) ∙ omega arith
+
+-- where a line isn't blank, its first byte makes no difference
+other_end : (b : ℕ) (bs : List ℕ) → is_blank (b ∷ bs) ≡ false → (is_blank bs ≡ false → suffix_len is_white bs < length bs)
+    → (suffix_len is_white (b ∷ bs) ≡ suffix_len is_white bs) × (suffix_len is_white (b ∷ bs) < length (b ∷ bs))
+other_end b bs some shorter = elim (cases_Bool (is_blank bs)) [
+  | inl blank ↦
+      let other : is_white b ≡ false = elim (and_cases (is_white b) (is_blank bs) some) [
+        | inl e ↦ e
+        | inr e ↦ absurd (both_ways (is_blank bs) e blank)
+      ] in
+      let all = blank_end bs blank in
+      let is : suffix_len is_white (b ∷ bs) ≡ suffix_len is_white bs =
+      last_white b bs ∙ cond-true (eqb (suffix_len is_white bs) (length bs)) _ _ (same (suffix_len is_white bs) (length bs) all)
+      ∙ ap (λ n. length bs + n) (cond-false (is_white b) 1 0 other) ∙ omega (arith, all) in
+      (is, omega (arith, is, all))
+  | inr later ↦
+      let less = shorter later in
+      let is : suffix_len is_white (b ∷ bs) ≡ suffix_len is_white bs =
+      last_white b bs ∙ cond-false (eqb (suffix_len is_white bs) (length bs)) _ _ (ne_eqb (suffix_len is_white bs) (length bs) (λ e. omega (arith, e, less))) in
+      (is, omega (arith, is, less))
+]
+
+some_start : (bs : List ℕ) → is_blank bs ≡ false → suffix_len is_white bs < length bs
+some_start [] some = absurd (true≢false some)
+some_start (b ∷ bs) some = (other_end b bs some (some_start bs)).1
+
+without_end : (bs : List ℕ) → take (length bs - suffix_len is_white bs) bs ≡ kept bs
+without_end [] = refl
+without_end (b ∷ bs) = elim (cases_Bool (is_blank (b ∷ bs))) [
+  | inl blank ↦
+      let none : length (b ∷ bs) - suffix_len is_white (b ∷ bs) ≡ 0 = omega (arith, blank_end (b ∷ bs) blank) in
+      ap (λ n. take n (b ∷ bs)) none ∙ sym (cond-true (is_blank (b ∷ bs)) [] (b ∷ kept bs) blank)
+  | inr some ↦
+      let more : length (b ∷ bs) - suffix_len is_white (b ∷ bs) ≡ suc (length bs - suffix_len is_white bs) =
+      omega (arith, (other_end b bs some (some_start bs)).0, suffix_len-le-length is_white bs) in
+      ap (λ n. take n (b ∷ bs)) more ∙ ap (λ x. b ∷ x) (without_end bs) ∙ sym (cond-false (is_blank (b ∷ bs)) [] (b ∷ kept bs) some)
+]
+
+-- ---- lines
+
+pub line_drop : (n : ℕ) (bs : List ℕ) → AreInLine bs → AreInLine (drop n bs)
+line_drop zero bs line = line
+line_drop (suc n) [] line = tt
+line_drop (suc n) (b ∷ bs) line = line_drop n bs line.2
+
+pub first_line : (line : BlockLine) (others : List BlockLine) → AreText (line ∷ others) → AreInLine line.codes
+first_line line [] h = h
+first_line line (next ∷ others) h = h.0
+
+pub other_lines : (line : BlockLine) (others : List BlockLine) → AreText (line ∷ others) → AreText others
+other_lines line [] h = tt
+other_lines line (next ∷ others) h = h.2
+
+module _ (meaning : InlineMeaning) where
+  -- a line, whatever follows it
+  blank_printed : (b : ℕ) (bs rest : List ℕ) → AreInLine (b ∷ bs) → is_blank (b ∷ bs) ≡ true → ends_here rest ≡ true
+      → parts 0 (b ∷ (bs ++ rest)) ≡ parts 0 rest
+  blank_printed b bs rest line blank e =
+      let content = b ∷ (bs ++ rest) in
+      let size : indent content ≡ length (b ∷ bs) = blank_indent (b ∷ bs) rest blank e in
+      let here : bare content ≡ rest = ap (λ n. drop n content) size ∙ drop-append_seam (b ∷ bs) rest in
+      let both : (leb 1 (indent content) && ends_here (bare content)) ≡ true =
+      ap (λ x. x && ends_here (bare content)) (le-leb 1 (indent content) (omega (arith, size))) ∙ ap ends_here here ∙ e in
+      let found : found_at content ≡ Some (leaf [] (indent content)) =
+      ap (λ o. or_else o (line_spaces_at no_constructs content)) (cond-false (is_eol b) _ None (no_eol b line.0 line.1))
+      ∙ cond-true (leb 1 (indent content) && ends_here (bare content)) _ None both in
+      let more : indent content - 1 ≡ length bs = omega (arith, size) in
+      parts_found b (bs ++ rest) (leaf [] (indent content)) found
+      ∙ ap (λ n. parts n (bs ++ rest)) more ∙ parts_skipped (length bs) (bs ++ rest) ∙ ap (parts 0) (drop-append_seam bs rest)
+
+  byte_printed : (b : ℕ) (bs rest : List ℕ) → AreInLine (b ∷ bs) → is_blank (b ∷ bs) ≡ false → parts 0 (b ∷ (bs ++ rest)) ≡ Data b ∷ parts 0 (bs ++ rest)
+  byte_printed b bs rest line some =
+      let content = b ∷ (bs ++ rest) in
+      let neither : (leb 1 (indent content) && ends_here (bare content)) ≡ false =
+      and_no (leb 1 (indent content)) (ends_here (bare content)) (goes_on (b ∷ bs) rest line some) in
+      parts_byte b (bs ++ rest)
+      (ap (λ o. or_else o (line_spaces_at no_constructs content)) (cond-false (is_eol b) _ None (no_eol b line.0 line.1))
+      ∙ cond-false (leb 1 (indent content) && ends_here (bare content)) _ None neither)
+
+  line_printed : (bs rest : List ℕ) → AreInLine bs → ends_here rest ≡ true → printed meaning (bs ++ rest) ≡ encode (kept bs) ++ printed meaning rest
+  line_printed [] rest line e = refl
+  line_printed (b ∷ bs) rest line e = elim (cases_Bool (is_blank (b ∷ bs))) [
+    | inl blank ↦
+        ap (flat_map (part_html meaning)) (blank_printed b bs rest line blank e)
+        ∙ ap (λ x. encode x ++ printed meaning rest) (sym (cond-true (is_blank (b ∷ bs)) [] (b ∷ kept bs) blank))
+    | inr some ↦
+        ap (flat_map (part_html meaning)) (byte_printed b bs rest line some)
+        ∙ ap (λ x. part_html meaning (Data b) ++ x) (line_printed bs rest line.2 e)
+        ∙ sym (append_assoc (part_html meaning (Data b)) (encode (kept bs)) (printed meaning rest))
+        ∙ ap (λ x. encode x ++ printed meaning rest) (sym (cond-false (is_blank (b ∷ bs)) [] (b ∷ kept bs) some))
+  ]
+
+  trimmed_printed : (bs rest : List ℕ) → AreInLine bs → ends_here rest ≡ true
+      → printed meaning (bare (bs ++ rest)) ≡ encode (trimmed bs) ++ printed meaning rest
+  trimmed_printed bs rest line e =
+      ap (printed meaning) (bare_before bs rest e) ∙ line_printed (bare bs) rest (line_drop (indent bs) bs line) e
+      ∙ ap (λ x. encode x ++ printed meaning rest) (sym (without_end (bare bs)))
+
+  -- a line ending, and the spaces and tabs after it
+  eol_parts : (c : ℕ) (cs : List ℕ) → is_eol c ≡ true → parts 0 (c ∷ cs) ≡ LineEnd c ∷ parts 0 (bare cs)
+  eol_parts c cs e =
+      let found : found_at (c ∷ cs) ≡ Some (leaf (LineEnd c ∷ []) (1 + indent cs)) =
+      ap (λ o. or_else o (line_spaces_at no_constructs (c ∷ cs))) (cond-true (is_eol c) _ None e) in
+      let more : 1 + indent cs - 1 ≡ indent cs = omega arith in
+      parts_found c cs (leaf (LineEnd c ∷ []) (1 + indent cs)) found
+      ∙ ap (λ n. LineEnd c ∷ parts n cs) more ∙ ap (λ is. LineEnd c ∷ is) (parts_skipped (indent cs) cs)
+
+  -- what stands after a line: its ending and other lines, or nothing
+  ending_starts : (e : LineEnding) (cs : List ℕ) → ends_here (ending_code (Some e) ++ cs) ≡ true
+  ending_starts LineFeed cs = refl
+  ending_starts CarriageReturn cs = refl
+  ending_starts CarriageReturnLineFeed cs = refl
+
+  ending_printed : (e : LineEnding) (cs : List ℕ)
+      → printed meaning (ending_code (Some e) ++ cs) ≡ ending_text (Some e) ++ printed meaning (bare cs)
+  ending_printed LineFeed cs = ap (flat_map (part_html meaning)) (eol_parts 10 cs refl)
+  ending_printed CarriageReturn cs = ap (flat_map (part_html meaning)) (eol_parts 13 cs refl)
+  ending_printed CarriageReturnLineFeed cs = ap (flat_map (part_html meaning)) (eol_parts 257 cs refl)
+
+  last_starts : (ending : Option LineEnding) → ends_here (ending_code ending ++ []) ≡ true
+  last_starts None = refl
+  last_starts (Some e) = ending_starts e []
+
+  last_printed : (ending : Option LineEnding) → printed meaning (ending_code ending ++ []) ≡ ending_text ending ++ printed meaning []
+  last_printed None = refl
+  last_printed (Some e) = ending_printed e []
+
+  after_starts : (line : BlockLine) (others : List BlockLine) → AreText (line ∷ others) → ends_here (ending_code line.ending ++ content_of others) ≡ true
+  after_starts line [] h = last_starts line.ending
+  after_starts line (next ∷ others) h =
+      subst (λ o. ends_here (ending_code o ++ content_of (next ∷ others)) ≡ true) (sym h.1.1) (ending_starts h.1.0 (content_of (next ∷ others)))
+
+  after_printed : (line : BlockLine) (others : List BlockLine) → AreText (line ∷ others)
+      → printed meaning (ending_code line.ending ++ content_of others) ≡ ending_text line.ending ++ printed meaning (bare (content_of others))
+  after_printed line [] h = last_printed line.ending
+  after_printed line (next ∷ others) h =
+      let cs = content_of (next ∷ others) in
+      subst (λ o. printed meaning (ending_code o ++ cs) ≡ ending_text o ++ printed meaning (bare cs)) (sym h.1.1) (ending_printed h.1.0 cs)
+
+  lines_printed : (ls : List BlockLine) → AreText ls → printed meaning (bare (content_of ls)) ≡ plain_text ls
+  lines_printed [] h = refl
+  lines_printed (line ∷ others) h =
+      let after = ending_code line.ending ++ content_of others in
+      let said = encode (trimmed line.codes) in
+      ap (λ x. printed meaning (bare x)) (append_assoc line.codes (ending_code line.ending) (content_of others))
+      ∙ trimmed_printed line.codes after (first_line line others h) (after_starts line others h)
+      ∙ ap (λ x. said ++ x)
+      (after_printed line others h ∙ ap (λ x. ending_text line.ending ++ x) (lines_printed others (other_lines line others h)))
+      ∙ sym (append_assoc said (ending_text line.ending) (plain_text others))
+
+-- ---- the codes of lines
+
+kinds_codes : (is_punctuation : ℕ → Bool) (before after : Kind) (cs : List ℕ) → codes_of (with_kinds is_punctuation before after cs) ≡ cs
+kinds_codes is_punctuation before after [] = refl
+kinds_codes is_punctuation before after (c ∷ cs) = ap (λ x. c ∷ x) (kinds_codes is_punctuation (next_kind is_punctuation before (c ∷ cs)) after cs)
+
+same_bytes : (bs : List ℕ) → AreInLine bs → map code_byte bs ≡ bs
+same_bytes [] line = refl
+same_bytes (b ∷ bs) line =
+    let is : code_byte b ≡ b = cond-false (is_tab_column b) 32 b (ne_eqb b 256 (λ e. omega (arith, e, line.1))) in
+    ap (λ x. x ∷ map code_byte bs) is ∙ ap (λ x. b ∷ x) (same_bytes bs line.2)
+
+same_ending : (ending : Option LineEnding) → map code_byte (ending_code ending) ≡ ending_code ending
+same_ending None = refl
+same_ending (Some LineFeed) = refl
+same_ending (Some CarriageReturn) = refl
+same_ending (Some CarriageReturnLineFeed) = refl
+
+same_codes : (line : BlockLine) → AreInLine line.codes → map code_byte (line_codes line) ≡ line_codes line
+same_codes line h =
+    map-append code_byte line.codes (ending_code line.ending)
+    ∙ ap (λ x. x ++ map code_byte (ending_code line.ending)) (same_bytes line.codes h)
+    ∙ ap (λ x. line.codes ++ x) (same_ending line.ending)
+
+content_codes : (is_punctuation : ℕ → Bool) (after : Kind) (ls : List BlockLine) → AreText ls → codes_of (inline_content is_punctuation after ls) ≡ content_of ls
+content_codes is_punctuation after [] h = refl
+content_codes is_punctuation after (line ∷ others) h =
+    map-append (λ (c : InlineCode). c.code) (line_content is_punctuation after line) (inline_content is_punctuation after others)
+    ∙ ap (λ x. x ++ codes_of (inline_content is_punctuation after others))
+    (kinds_codes is_punctuation line.before after (map code_byte (line_codes line)) ∙ same_codes line (first_line line others h))
+    ∙ ap (λ x. line_codes line ++ x) (content_codes is_punctuation after others (other_lines line others h))
+
+-- ---- the text
+
+-- where every construct is off, lines print what they hold, trimmed and encoded, with their endings
+pub text_is_plain : (d : Document) → d.options.parse.constructs ≡ no_constructs → (ls : List BlockLine) → AreText ls → text_of d ls ≡ plain_text ls
+text_is_plain d off ls h =
+    let meaning = meaning_of d in
+    let is_defined = is_label_of d.definitions in
+    let content = inline_content d.tables.is_punctuation Whitespace ls in
+    ap (λ on. inline_html meaning (inlines (record { on = on; names = d.tables.names; is_defined = is_defined }) content)) off
+    ∙ html_of_codes meaning d.tables.names is_defined content
+    ∙ ap (λ x. printed meaning (bare x)) (content_codes d.tables.is_punctuation Whitespace ls h)
+    ∙ lines_printed meaning ls h

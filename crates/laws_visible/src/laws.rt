@@ -1,0 +1,8 @@
+//! Laws of the definition.
+ghost use Rattle.laws_visible.specs.Visible.{VisibleLaw};
+
+/// Where every construct is off, what stands in a page outside of tags and line endings is what the text's nonblank lines hold, trimmed, encoded and joined.
+#[tactic(auto, using(crate::proofs::Visible::visible_law))]
+pub fn visible_law()
+    ensures { VisibleLaw }
+{}

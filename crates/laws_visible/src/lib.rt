@@ -1,0 +1,4 @@
+//! With every construct off, what is visible in a page.
+#![tactic(auto)]
+
+pub mod laws;

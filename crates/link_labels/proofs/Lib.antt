@@ -1,4 +1,0 @@
-pub mod Chunks
-pub mod FirstWord
-pub mod Joined
-pub mod Places

@@ -1,8 +1,0 @@
-use Rattle.std.proofs.Common.{◌≡◌, ◌++◌, string_bytes}
-use Rattle.markdown_definition.specs.Labels.{word_folded}
-use Rattle.std.specs.Str.Chunks.{utf8_chunks_rest}
-use Rattle.link_labels.proofs.label.push_word.Given as goal
-
-abbrev pub invariant-loop-chunk : goal.invariant-loop-chunk
-invariant-loop-chunk g l =
-    string_bytes l.normal ++ word_folded (utf8_chunks_rest l.chunk-iterator) ≡ string_bytes l.fn.normal ++ word_folded l.word

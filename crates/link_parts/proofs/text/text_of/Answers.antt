@@ -1,6 +1,0 @@
-use Rattle.std.proofs.Common.{arith}
-use Rattle.link_parts.proofs.Texts.{is_utf8}
-use Rattle.link_parts.proofs.text.text_of.Goals as goal
-
-pub from_utf8_unchecked-requires : goal.from_utf8_unchecked-requires
-from_utf8_unchecked-requires c = is_utf8 c.args.bytes.now (λ k. omega (arith, c.type_inv.bytes k)) c.requires

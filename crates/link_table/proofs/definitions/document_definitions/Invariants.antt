@@ -1,8 +1,0 @@
-use Rattle.std.proofs.Common.{take}
-use Rattle.std.specs.Prelude.{map}
-use Rattle.link_table.specs.Read.{HasDefinitions, read_on}
-use Rattle.link_table.proofs.definitions.document_definitions.Given as goal
-
--- the contents so far are read
-abbrev pub invariant-loop-text : goal.invariant-loop-text
-invariant-loop-text g l = HasDefinitions l.found (map read_on (take l.text-index l.text-items))

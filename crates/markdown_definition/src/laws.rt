@@ -1,8 +1,0 @@
-//! Laws of the definition.
-ghost use Rattle.markdown_definition.specs.Laws.{VisibleLaw};
-
-/// Where every construct is off, what stands in a page outside of tags and line endings is what the text's nonblank lines hold, trimmed, encoded and joined.
-#[tactic(auto, using(crate::proofs::Visible::visible_law))]
-pub fn visible_law()
-    ensures { VisibleLaw }
-{}

@@ -1,0 +1,7 @@
+-- The tables that are built in.
+use Rattle.definition_inline.specs.BuiltinReferences.{builtin_names}
+use Rattle.definition_page.specs.Document.{TextTables}
+use Rattle.markdown_tables.specs.Punctuation.{builtin_punctuation}
+
+abbrev pub builtin_tables : TextTables
+builtin_tables = record { names = builtin_names; is_punctuation = builtin_punctuation }

@@ -1,5 +1,0 @@
-pub mod Values
-pub mod Decoding
-pub mod Table
-pub mod Written
-pub mod Alone

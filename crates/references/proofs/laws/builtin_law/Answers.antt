@@ -1,5 +1,0 @@
-use Rattle.markdown_definition.specs.LawfulRows.{builtin_is_lawful}
-use Rattle.references.proofs.laws.builtin_law.Goals as goal
-
-pub returns : goal.returns
-returns c = builtin_is_lawful

@@ -1,5 +1,0 @@
-use Rattle.references.proofs.Written.{read_is_written}
-use Rattle.references.proofs.laws.read_law.Goals as goal
-
-pub returns : goal.returns
-returns c = read_is_written

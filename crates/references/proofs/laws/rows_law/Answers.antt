@@ -1,5 +1,0 @@
-use Rattle.markdown_definition.specs.LawfulRows.{rows_are_lawful}
-use Rattle.references.proofs.laws.rows_law.Goals as goal
-
-pub returns : goal.returns
-returns c = rows_are_lawful

@@ -1,5 +1,0 @@
-pub mod Markers
-pub mod Places
-pub mod Groups
-pub mod Laws
-pub mod Grammar

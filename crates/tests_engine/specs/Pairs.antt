@@ -1,0 +1,202 @@
+-- A machine that puts one event round two equal bytes, and one round each other byte. It looks ahead to tell which.
+use Rattle.std.specs.Prelude.{◌≡◌, ℕ, ◌+◌, ◌*◌, ◌<◌, Bool, true, List, [], ◌∷◌, length, Option, Some, None, ◌==◌, if◌then◌else◌}
+use Rattle.engine_events.specs.declared.event.Event.{Event}
+use Rattle.engine_events.specs.declared.event.Name.{Name as EventName}
+use Rattle.engine_events.specs.declared.event.Name.TheVariants.{AttentionSequence, Data}
+use Rattle.engine_events.specs.declared.state.Name.{Name}
+use Rattle.engine_events.specs.declared.state.Name.TheVariants.{Inline}
+use Rattle.engine_events.specs.declared.state.Inline.TheVariants as inline_states
+use Rattle.engine_events.specs.declared.state.State.{State}
+use Rattle.engine_events.specs.declared.state.State.TheVariants as states
+use Rattle.markdown_engine.specs.declared.attempt.Attempt.{Attempt}
+use Rattle.markdown_engine.specs.Descent.{Weighs, descent}
+use Rattle.markdown_engine.specs.Laws.{RanksAt, remaining}
+use Rattle.markdown_engine.specs.Machine.{checks, consumed, entered, exited, fresh, plain}
+use Rattle.markdown_engine.specs.Order.{AreMarks, AreTidy, IsTidy, LeadsOn, Reaches, opened, text_start}
+use Rattle.markdown_engine.specs.Reading.{Config, Effect, Runs, Steps}
+use Rattle.markdown_engine.specs.VirtualText.{is_feed, text_to}
+use Rattle.tests_engine.specs.declared.pairs.Pairs.{Pairs}
+
+-- what a state reads: items, the two bytes ahead, a single byte, and the two bytes of a pair
+abbrev pub items_state : Name
+items_state = Inline inline_states.TextStart
+
+abbrev pub first_state : Name
+first_state = Inline inline_states.AttentionStart
+
+abbrev pub second_state : Name
+second_state = Inline inline_states.AttentionInside
+
+abbrev pub single_state : Name
+single_state = Inline inline_states.DataStart
+
+abbrev pub pair_state : Name
+pair_state = Inline inline_states.LabelStart
+
+abbrev pub close_state : Name
+close_state = Inline inline_states.LabelInside
+
+module _ {M : Type 0} where
+  -- a byte is kept to compare with
+  abbrev pub marked : ℕ → Config M → Config M
+  marked b c = record c { tokenize_state = record c.tokenize_state { marker = b } }
+
+  unfoldable pub items : Option ℕ → Config M → Effect M
+  items None c = plain c states.Ok
+  items (Some b) c = checks (states.Next pair_state) (states.Next single_state) (marked b c) (states.Retry first_state)
+
+  unfoldable pub first : Option ℕ → Config M → Effect M
+  first None c = plain c states.Nok
+  first (Some b) c = plain (consumed c) (states.Next second_state)
+
+  unfoldable pub second : Option ℕ → Config M → Effect M
+  second None c = plain c states.Nok
+  second (Some b) c = plain c (if b == c.tokenize_state.marker then states.Ok else states.Nok)
+
+  unfoldable pub single : Option ℕ → Config M → Effect M
+  single None c = plain c states.Ok
+  single (Some b) c = plain (exited Data (consumed (entered Data None c))) (states.Next items_state)
+
+  unfoldable pub pair : Option ℕ → Config M → Effect M
+  pair None c = plain c states.Ok
+  pair (Some b) c = plain (consumed (entered AttentionSequence None c)) (states.Next close_state)
+
+  unfoldable pub close : Option ℕ → Config M → Effect M
+  close None c = plain (exited AttentionSequence c) states.Ok
+  close (Some b) c = plain (exited AttentionSequence (consumed c)) (states.Next items_state)
+
+-- the parts of a text; any other state reads items
+pub data Part : Type 0 where
+  Items : Part
+  First : Part
+  Second : Part
+  Single : Part
+  Pair : Part
+  Close : Part
+
+unfoldable pub part : Name → Part
+part (Inline inline_states.AttentionStart) = First
+part (Inline inline_states.AttentionInside) = Second
+part (Inline inline_states.DataStart) = Single
+part (Inline inline_states.LabelStart) = Pair
+part (Inline inline_states.LabelInside) = Close
+part n = Items
+
+module _ {M : Type 0} where
+  abbrev pub step_of : Part → Config M → Effect M
+  step_of Items c = items c.current c
+  step_of First c = first c.current c
+  step_of Second c = second c.current c
+  step_of Single c = single c.current c
+  step_of Pair c = pair c.current c
+  step_of Close c = close c.current c
+
+  unfoldable pub pairs_step : Steps M
+  pairs_step c n = step_of (part n) c
+
+-- the look ahead
+pub record IsCheck (a : Attempt) : Type 0 where
+  pub check : a.check ≡ true
+  pub ok : a.ok ≡ states.Next pair_state
+  pub nok : a.nok ≡ states.Next single_state
+
+-- it waits, and nothing else
+abbrev pub IsLooking : List Attempt → Type 0
+IsLooking [] = ⊥
+IsLooking (a ∷ []) = IsCheck a
+IsLooking (a ∷ b ∷ more) = ⊥
+
+abbrev pub MayLook : List Attempt → Type 0
+MayLook [] = Unit {0}
+MayLook (a ∷ stack) = IsLooking (a ∷ stack)
+
+-- the attempts that wait
+abbrev pub Waits : Part → List Attempt → Type 0
+Waits Items stack = stack ≡ []
+Waits First stack = IsLooking stack
+Waits Second stack = IsLooking stack
+Waits Single stack = stack ≡ []
+Waits Pair stack = stack ≡ []
+Waits Close stack = stack ≡ []
+
+-- what is open
+abbrev pub open_at : Part → List EventName
+open_at Items = []
+open_at First = []
+open_at Second = []
+open_at Single = []
+open_at Pair = []
+open_at Close = AttentionSequence ∷ []
+
+-- nothing was open where an attempt began
+abbrev pub Fits : List EventName → List Attempt → Type 0
+Fits open_names stack = open_names ≡ []
+
+module _ {M : Type 0} where
+  -- no event is after the place of an exit
+  pub record MayExit (c : Config M) : Type 0 where
+    pub place : let p = if is_feed c.previous then c.line_start else c.point in AreTidy c.events p × Reaches p c.point
+
+  abbrev pub Exits : Part → Config M → Type 0
+  Exits Items c = Unit {0}
+  Exits First c = Unit {0}
+  Exits Second c = Unit {0}
+  Exits Single c = Unit {0}
+  Exits Pair c = Unit {0}
+  Exits Close c = MayExit c
+
+  pub record IsAt (p : Part) (stack : List Attempt) (c : Config M) : Type 0 where
+    pub waits : Waits p stack
+    pub open_names : opened [] c.events ≡ open_at p
+    pub exits : Exits p c
+
+  -- a byte that is at hand leaves less
+  pub record IsAhead (size : ℕ) (c : Config M) : Type 0 where
+    pub less : (b : ℕ) → c.current ≡ Some b → remaining size c.next < remaining size c.point
+    pub leads : LeadsOn c
+
+  abbrev pub Stands : ℕ → State → List Attempt → Config M → Type 0
+  Stands size (states.Error m) stack c = ⊥
+  Stands size (states.Next n) stack c = IsAt (part n) stack c
+  Stands size (states.Retry n) stack c = IsAt (part n) stack c × IsAhead size c
+  Stands size states.Ok stack c = MayLook stack × (opened [] c.events ≡ [])
+  Stands size states.Nok stack c = IsLooking stack × (opened [] c.events ≡ [])
+
+  pub record IsSound (size : ℕ) (s : State) (stack : List Attempt) (c : Config M) : Type 0 where
+    pub stands : Stands size s stack c
+    pub tidy : IsTidy c
+    pub marks : AreMarks Fits c.events stack
+
+  unfoldable pub pairs_valid : ℕ → Config M → List Attempt → State → Type 0
+  pairs_valid size c stack s = IsSound size s stack c
+
+-- the height of a part above what is left
+abbrev pub height : Part → ℕ
+height Items = 2
+height First = 1
+height Second = 1
+height Single = 1
+height Pair = 1
+height Close = 1
+
+module _ {M : Type 0} where
+  abbrev pub pairs_weight : ℕ → Weighs M
+  pairs_weight size c (states.Error m) = 0
+  pairs_weight size c (states.Next n) = 2 * remaining size c.point + height (part n)
+  pairs_weight size c (states.Retry n) = 2 * remaining size c.point + height (part n)
+  pairs_weight size c states.Ok = 0
+  pairs_weight size c states.Nok = 0
+
+-- after a look ahead reading goes on where it began
+abbrev pub pairs_waits : ℕ → Attempt → ℕ
+pairs_waits size a = 2 * remaining size a.point + 1
+
+abbrev pub pairs_rank : {M : Type 0} → ℕ → RanksAt M
+pairs_rank size = descent 2 (pairs_weight size) (pairs_waits size)
+
+-- these are the events of the one reading of a text
+pub record Paired (bytes : List ℕ) (machine : Pairs) (events : List Event) : Type 0 where
+  pub config : Config Pairs
+  pub well : Bool
+  pub runs : Runs (text_to (record { bytes = bytes; skips = [] }) (length bytes, 0)) pairs_step (fresh text_start machine) [] (states.Next items_state) config well
+  pub read : events ≡ config.events

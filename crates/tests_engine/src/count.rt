@@ -1,0 +1,65 @@
+//! A machine that consumes every byte and counts its calls.
+ghost use Rattle.std.specs.Prelude.{length};
+ghost use Rattle.markdown_engine.specs.Resolving.{Unresolved, resolves_nothing, settles_whole};
+ghost use Rattle.tests_engine.specs.Counting.{count_step, counts, count_rank};
+ghost use Rattle.std.specs.Prelude.{length};
+ghost use Rattle.markdown_engine.specs.Resolving.{Unresolved, resolves_nothing, settles_whole};
+ghost use Rattle.tests_engine.specs.CountingLaws.{count_adds, count_keeps, count_falls, count_tidy, count_closes, count_resolves};
+
+use markdown_engine::resolve;
+use markdown_engine::state::{Name, State};
+use markdown_engine::subresult::Subresult;
+use markdown_engine::tokenizer::{Machine, Tokenizer};
+use markdown_options::{Message, Tables};
+use std::alloc::Allocator;
+
+/// Consumes every byte.
+#[derive(Clone, Copy, Debug, PartialEq, Eq)]
+pub struct Count {
+    /// How often a byte was handed in.
+    pub calls: usize,
+}
+
+impl<T: Tables> Machine<T> for Count {
+    ghost step = { λ x. count_step };
+
+    ghost valid = { λ x. Unresolved counts };
+
+    ghost rank = { λ x. count_rank (length x.bytes) };
+
+    ghost resolved = { λ x. resolves_nothing };
+
+    ghost settled = { λ x. settles_whole };
+
+    #[tactic(auto, unfolding(crate::specs::Counting::count_step))]
+    fn call<'a, A: Allocator>(tokenizer: &mut Tokenizer<'a, Self, T, A>, name: Name) -> State {
+        match tokenizer.current {
+            Some(_) => {
+                tokenizer.consume();
+                tokenizer.machine.calls = tokenizer.machine.calls.saturating_add(1);
+                State::Next(name)
+            }
+            None => State::Ok,
+        }
+    }
+
+    #[tactic(auto)]
+    fn resolve<'a, A: Allocator + Clone>(
+        tokenizer: &mut Tokenizer<'a, Self, T, A>,
+        _name: resolve::Name,
+    ) -> Result<Option<Subresult<A>>, Message> {
+        Ok(None)
+    }
+
+    ghost only_adds = { λ x. count_adds };
+
+    ghost keeps = { λ x. count_keeps (length x.bytes) };
+
+    ghost falls = { λ x. count_falls (length x.bytes) };
+
+    ghost resolving = { λ x. count_resolves };
+
+    ghost tidy = { λ x. count_tidy };
+
+    ghost closes = { λ x. count_closes };
+}

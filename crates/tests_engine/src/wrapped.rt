@@ -1,0 +1,119 @@
+//! A machine that puts an event round each byte, and at the end one round all events.
+ghost use Rattle.std.specs.Prelude.{◌≡◌, ◌∷◌, [], length, IfOk, IfErr};
+ghost use Rattle.markdown_options.specs.Messages.{IsOutOfMemory};
+ghost use Rattle.markdown_engine.specs.Order.{IsBalanced, AreInOrder};
+ghost use Rattle.markdown_engine.specs.Resolving.{found_in};
+ghost use Rattle.tests_engine.specs.Wrapped.{IsWrapped, one_found, wrapped_step, wrapped_rank, wraps_all, reads_wrapped, settles_wrapped};
+ghost use Rattle.tests_engine.specs.WrappedLaws.{wrapped_adds, wrapped_keeps, wrapped_falls, wrapped_tidy, wrapped_closes, wrapped_resolves};
+
+use markdown_engine::event::{Event, Kind, Name as EventName};
+use markdown_engine::place::START;
+use markdown_engine::state::{Inline, Name, State};
+use markdown_engine::subresult::Subresult;
+use markdown_engine::tokenizer::{Machine, Tokenizer};
+use markdown_engine::{Message, ParseState, resolve};
+use markdown_options::Tables;
+use std::alloc::Allocator;
+
+const BYTES: State = State::Next(Name::Inline(Inline::DataInside));
+
+/// Puts an event round each byte, and one round all.
+#[derive(Clone, Copy, Debug, PartialEq, Eq)]
+pub struct Wrapped;
+
+/// A list of one.
+fn one<E: Drop, A: Allocator>(alloc: A, item: E) -> Result<Vec<E, A>, Message>
+    ensures one { IfOk result (λ all. all.items ≡ item ∷ []) }
+    ensures memory { IfErr result (λ message. IsOutOfMemory message) }
+{
+    let mut all = Vec::new(alloc);
+    if all.push(item).is_err() {
+        return Err(Message::out_of_memory());
+    }
+    Ok(all)
+}
+
+impl<T: Tables> Machine<T> for Wrapped {
+    ghost step = { λ x. wrapped_step };
+
+    ghost valid = { λ x. reads_wrapped };
+
+    ghost rank = { λ x. wrapped_rank (length x.bytes) };
+
+    ghost resolved = { λ x. wraps_all };
+
+    ghost settled = { λ x. settles_wrapped };
+
+    #[tactic(auto, unfolding(crate::specs::Wrapped::wrapped_step))]
+    fn call<'a, A: Allocator>(tokenizer: &mut Tokenizer<'a, Self, T, A>, name: Name) -> State {
+        if tokenizer.register_resolver(resolve::Name::Text).is_err() {
+            return State::out_of_memory();
+        }
+        if tokenizer.current.is_none() {
+            return State::Ok;
+        }
+        if tokenizer.enter(EventName::Data).is_err() {
+            return State::out_of_memory();
+        }
+        tokenizer.consume();
+        if tokenizer.exit(EventName::Data).is_err() {
+            return State::out_of_memory();
+        }
+        State::Next(name)
+    }
+
+    #[tactic(auto, unfolding(crate::specs::Wrapped::wraps_all))]
+    fn resolve<'a, A: Allocator + Clone>(
+        tokenizer: &mut Tokenizer<'a, Self, T, A>,
+        _name: resolve::Name,
+    ) -> Result<Option<Subresult<A>>, Message> {
+        let alloc = tokenizer.events.allocator().clone()?;
+        let first = match tokenizer.events.first() {
+            Some(event) => event.point(),
+            None => tokenizer.point,
+        };
+        let enter = Event::new(Kind::Enter, EventName::Paragraph, first, None);
+        tokenizer.map.add_before(0, 0, one(alloc.clone()?, enter)?)?;
+        let exit = Event::new(Kind::Exit, EventName::Paragraph, tokenizer.point, None);
+        let count = tokenizer.events.len();
+        tokenizer.map.add(count, 0, one(alloc.clone()?, exit)?)?;
+        let label = "a".to_string(alloc.clone()?)?;
+        let definitions = one(alloc.clone()?, label)?;
+        Ok(Some(Subresult {
+            done: false,
+            gfm_footnote_definitions: Vec::new(alloc),
+            definitions,
+        }))
+    }
+
+    ghost only_adds = { λ x. wrapped_adds };
+
+    ghost keeps = { λ x. wrapped_keeps (length x.bytes) };
+
+    ghost falls = { λ x. wrapped_falls (length x.bytes) };
+
+    ghost resolving = { λ x. wrapped_resolves };
+
+    ghost tidy = { λ x. wrapped_tidy };
+
+    ghost closes = { λ x. wrapped_closes };
+}
+
+/// The events of a text, with one round all, and what was found.
+#[tactic(auto)]
+pub fn read_wrapped<T: Tables, A: Allocator + Clone>(
+    alloc: A,
+    parse_state: &ParseState<'_, T, A>,
+    machine: Wrapped,
+) -> Result<(Vec<Event, A>, Subresult<A>), Message>
+    ensures reads { IfOk result (λ both. IsWrapped parse_state.now.bytes.now machine both.0.items (found_in both.1)) }
+    ensures found { IfOk result (λ both. found_in both.1 ≡ one_found) }
+    ensures balanced { IfOk result (λ both. IsBalanced both.0.items) }
+    ensures order { IfOk result (λ both. AreInOrder both.0.items) }
+    ensures memory { IfErr result (λ message. IsOutOfMemory message) }
+{
+    let mut tokenizer = Tokenizer::new(alloc, START, parse_state, machine)?;
+    let state = tokenizer.push((0, 0), (parse_state.bytes.len(), 0), BYTES);
+    let found = tokenizer.flush(state, true)?;
+    Ok((tokenizer.events, found))
+}

@@ -1,0 +1,54 @@
+//! Texts in bytes.
+ghost use Rattle.std.specs.Prelude.{◌≡◌};
+ghost use Rattle.std.specs.List.{list_all, list_any};
+ghost use Rattle.definition_text.specs.Bytes.{is_space_or_tab, same_caselessly, holds, without_slash};
+
+pub fn is_space_or_tab(byte: u8) -> bool
+    ensures { result ≡ is_space_or_tab byte }
+{
+    byte == b' ' || byte == b'\t'
+}
+
+/// Whether there are only spaces and tabs.
+pub fn is_blank(bytes: &[u8]) -> bool
+    ensures { result ≡ list_all is_space_or_tab bytes.now }
+{
+    bytes.iter().all(|b| is_space_or_tab(*b))
+}
+
+/// Whether two texts are the same but for the case of ASCII letters.
+pub fn same_caselessly(one: &[u8], other: &[u8]) -> bool
+    ensures { result ≡ same_caselessly one.now other.now }
+{
+    one.eq_ignore_ascii_case(other)
+}
+
+/// Bytes without the slash that they may begin with.
+pub fn without_slash(bytes: &[u8]) -> &[u8]
+    ensures { result.now ≡ without_slash bytes.now }
+{
+    if bytes.starts_with(b"/") {
+        &bytes[1..]
+    } else {
+        bytes
+    }
+}
+
+/// Whether a text stands in bytes.
+pub fn holds(text: &[u8], bytes: &[u8]) -> bool
+    ensures { result ≡ holds text.now bytes.now }
+{
+    for i in 0..bytes.len() {
+        if bytes[i..].starts_with(text) {
+            return true;
+        }
+    }
+    false
+}
+
+/// Whether a text is one of these, in whatever case.
+pub fn is_one_of(texts: &[&str], text: &[u8]) -> bool
+    ensures { result ≡ list_any (λ n. same_caselessly n.now text.now) texts.now }
+{
+    texts.iter().any(|n| same_caselessly(n.as_bytes(), text))
+}

@@ -1,7 +1,0 @@
-use Rattle.std.proofs.Common.{sym, ◌∙◌, arith}
-use Rattle.text_tools.proofs.Escapes.{escaped_byte}
-use Rattle.text_tools.proofs.url.replacement.Goals as goal
-
-pub returns-else-is_kept-clause-printed : goal.returns-else-is_kept-clause-printed
-returns-else-is_kept-clause-printed c =
-    escaped_byte c.args.byte c.args.after.now (omega arith) (sym c.is_kept.ensures ∙ c.if-is_kept.false) ∙ sym c.percent_encode_byte.ensures
