@@ -1,10 +1,14 @@
--- What is printed, and how it is laid out.
+-- What is printed, piece by piece, and how it is laid out.
 use Rattle.std.specs.Prelude.{ℕ, Bool, true, if◌then◌else◌, ◌==◌, ◌||◌, List, [], ◌++◌, Option, None, Some, slice_get, length, ◌-◌}
 use Rattle.std.specs.List.{fold}
+use Rattle.definition_page.specs.Tags.{Said, said_bytes, Tag, start_tag, end_tag, void_tag}
 
--- bytes, the default ending, or that ending unless nothing, CR or LF stands before
+-- a start tag, an end tag by its name, the tag of an element that holds nothing, a part of a text or of raw HTML, the default ending, or that ending unless nothing, CR or LF stands before
 pub data Piece : Type 0 where
-  Bytes : List ℕ → Piece
+  Open : Tag → Piece
+  Close : List ℕ → Piece
+  Void : Tag → Piece
+  Says : Said → Piece
   Eol : Piece
   Fresh : Piece
 
@@ -17,11 +21,14 @@ ends_a_line (Some b) = (b == 10) || (b == 13)
 abbrev pub is_fresh : List ℕ → Bool
 is_fresh out = ends_a_line (slice_get out (length out - 1))
 
--- one more piece after what was printed
+-- one more piece after what was printed, where the default ending is given
 abbrev pub print : List ℕ → List ℕ → Piece → List ℕ
-print default out (Bytes bs) = out ++ bs
+print default out (Open t) = out ++ start_tag t
+print default out (Close name) = out ++ end_tag name
+print default out (Void t) = out ++ void_tag t
+print default out (Says said) = out ++ said_bytes said
 print default out Eol = out ++ default
 print default out Fresh = if is_fresh out then out else out ++ default
 
 abbrev pub layout : List ℕ → List Piece → List ℕ
-layout default ps = fold (print default) [] ps
+layout default pieces = fold (print default) [] pieces

@@ -4,7 +4,7 @@ use Rattle.std.specs.Str.{chars, is_utf8}
 use Rattle.std.specs.Str.Lossy.{utf8_valid_len, utf8_lossy}
 use Rattle.caseless.proofs.Computing.{caseless}
 use Rattle.definition_block.specs.HtmlNames.{raw_names, block_names}
-use Rattle.definition_page.specs.TagFilter.{filtered_names}
+use Rattle.definition_page.specs.GfmTagfilter.{filtered_names}
 use Rattle.definition_page.specs.Urls.{href_protocols, src_protocols}
 
 -- `unfolding pages` lets `refl` compute a page

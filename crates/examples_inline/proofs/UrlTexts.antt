@@ -1,7 +1,7 @@
 -- URLs, and what the definition prints for them.
 use Rattle.std.specs.Prelude.{◌≡◌, [], ◌∷◌, ◌++◌, codes}
 use Rattle.std.proofs.Common.{refl}
-use Rattle.definition_page.specs.TagFilter.{filtered_names, tags_filtered}
+use Rattle.definition_page.specs.GfmTagfilter.{filtered_names, tags_filtered}
 use Rattle.definition_page.specs.Urls.{sanitized, sanitized_with, href_protocols, src_protocols}
 
 row_0 : sanitized (codes "javascript:alert(1)") ≡ codes "javascript:alert(1)"

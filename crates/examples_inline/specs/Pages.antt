@@ -10,8 +10,9 @@ use Rattle.definition_text.specs.declared.beside.Kind.TheVariants.{Whitespace}
 use Rattle.definition_text.specs.BlockLines.{BlockLine, block_line}
 use Rattle.definition_text.specs.InlineCode.{inline_content}
 use Rattle.definition_inline.specs.Scan.{inlines}
-use Rattle.definition_page.specs.InlineHtml.{inline_html}
-use Rattle.definition_page.specs.Document.{TextTables, document, context_of, meaning_of}
+use Rattle.html_bytes.specs.InlineHtml.{inline_html}
+use Rattle.definition_page.specs.TextTables.{TextTables}
+use Rattle.html_bytes.specs.Document.{document, context_of, meaning_of}
 use Rattle.definition_page.specs.Html.{html}
 
 -- ---- tables

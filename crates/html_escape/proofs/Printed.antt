@@ -5,7 +5,7 @@ use Rattle.std.proofs.lemmas.Bool.{and_parts, eqb-true, cond-false}
 use Rattle.std.proofs.lemmas.List.{append-nil}
 use Rattle.std.proofs.lemmas.List.Concat.{flat_map-append}
 use Rattle.definition_text.specs.Encode.{plain, plain_byte, encoded_byte, replacement_character}
-use Rattle.definition_page.specs.TagFilter.{is_filtered, tags_filtered}
+use Rattle.definition_page.specs.GfmTagfilter.{is_filtered, tags_filtered}
 use Rattle.html_escape.specs.Replaced.{replaced}
 use Rattle.html_escape.specs.Tools.{text_byte, encoded_if, raw_byte, filtered_if}
 

@@ -1,7 +1,7 @@
 -- What each tool prints for a byte, given those after it.
 use Rattle.std.specs.Prelude.{ℕ, Bool, if◌then◌else◌, ◌==◌, ◌&&◌, List, [], ◌∷◌, codes}
 use Rattle.definition_text.specs.Encode.{encode, encoded_byte, plain, plain_byte, replacement_character}
-use Rattle.definition_page.specs.TagFilter.{is_filtered, tags_filtered}
+use Rattle.definition_page.specs.GfmTagfilter.{is_filtered, tags_filtered}
 use Rattle.definition_page.specs.Urls.{percent_byte}
 
 -- a byte of a text, whose four bytes of HTML are references or not

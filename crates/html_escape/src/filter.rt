@@ -9,7 +9,7 @@ ghost use Rattle.markdown_options.specs.Messages.{IsOutOfMemory};
 ghost use Rattle.definition_text.specs.Encode.{plain};
 ghost use Rattle.definition_block.specs.HtmlNames.{is_one_of};
 ghost use Rattle.definition_text.specs.Bytes.{is_letter, after_all};
-ghost use Rattle.definition_page.specs.TagFilter.{begins_with_filtered_name, ends_filtered_name, filtered_names, is_filtered, tags_filtered};
+ghost use Rattle.definition_page.specs.GfmTagfilter.{begins_with_filtered_name, ends_filtered_name, filtered_names, is_filtered, tags_filtered};
 ghost use Rattle.html_escape.specs.Tools.{filtered_if};
 
 use crate::replaced::{Replacement, push_replaced};

@@ -1,6 +1,6 @@
 //! Raw HTML: as it is, or as text (CommonMark 4.6 and 6.6).
 ghost use Rattle.std.specs.Prelude.{◌≡◌, ◌++◌, OnOk, string_bytes};
-ghost use Rattle.definition_page.specs.HtmlRaw.{raw_html};
+ghost use Rattle.html_bytes.specs.RawHtml.{raw_html};
 
 use crate::encode::push_encoded;
 use crate::filter::push_raw;

@@ -10,10 +10,11 @@ use Rattle.markdown_options.specs.LineEndings.{ending_bytes}
 use Rattle.definition_text.specs.Columns.{bare, bytes_of, indent, is_byte, is_white}
 use Rattle.definition_text.specs.Content.{content_codes, is_eol, line_ending_code}
 use Rattle.definition_text.specs.Encode.{encode, plain}
-use Rattle.definition_page.specs.HtmlRaw.{raw_html}
-use Rattle.definition_page.specs.InlineHtml.{HtmlLine, html_text_line, in_first_line, html_line_bytes, html_lines, html_lines_bytes, later_line_bytes}
+use Rattle.html_bytes.specs.RawHtml.{raw_html}
+use Rattle.definition_page.specs.InlinePieces.{HtmlLine, html_text_line, in_first_line, html_lines}
+use Rattle.html_bytes.specs.InlineHtml.{html_line_bytes, html_lines_bytes, later_line_bytes}
 use Rattle.definition_inline.specs.Strings.{begins_with_eol, eol_bytes}
-use Rattle.definition_page.specs.TagFilter.{tags_filtered}
+use Rattle.definition_page.specs.GfmTagfilter.{tags_filtered}
 use Rattle.html_inline.specs.CodeBytes.{is_in_line}
 use Rattle.html_inline.specs.HtmlBytes.{PrintsEnding, ends, goes_on, first_bytes}
 use Rattle.html_inline.proofs.InLine.{in_line_eol, line_codes, line_left}

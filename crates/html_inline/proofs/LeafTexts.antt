@@ -5,7 +5,7 @@ use Rattle.std.specs.List.{flat_map}
 use Rattle.markdown_options.specs.declared.configuration.CompileOptions.{CompileOptions}
 use Rattle.definition_text.specs.Encode.{encode, encoded_byte}
 use Rattle.definition_inline.specs.Inline.{Data, Escape}
-use Rattle.definition_page.specs.InlineHtml.{InlineMeaning, part_description, part_html}
+use Rattle.html_bytes.specs.InlineHtml.{InlineMeaning, part_description, part_html}
 
 pub escapes_described : (options : CompileOptions) (text : List ℕ) → flat_map (part_description options) (map Escape text) ≡ encode text
 escapes_described options [] = refl

@@ -8,7 +8,7 @@ use Rattle.std.proofs.lemmas.List.Concat.{flat_map-append}
 use Rattle.std.proofs.lemmas.List.Sums.{fold-append}
 use Rattle.definition_text.specs.Encode.{encode, encoded_byte}
 use Rattle.definition_inline.specs.Inline as inline
-use Rattle.definition_page.specs.InlineHtml.{InlineMeaning}
+use Rattle.html_bytes.specs.InlineHtml.{InlineMeaning}
 use Rattle.inline_rows.specs.InlineRows as rows_of
 use Rattle.inline_rows.specs.declared.row.InlineRow.{InlineRow}
 use Rattle.inline_rows.specs.View.{data_rows, row_view, rows_view}

@@ -4,7 +4,8 @@ use Rattle.std.specs.List.{fold}
 use Rattle.std.proofs.lemmas.List.{append-nil}
 use Rattle.std.proofs.lemmas.List.Sums.{fold-append}
 use Rattle.definition_inline.specs.Inline.{Target, Linked, Inline, Data, Escape, Character, Code, Autolink, Html, EscapedBreak, TrailingBreak, LineEnd, Emphasis, Strong, Link, Image, Inlines, Nil, Cons}
-use Rattle.definition_page.specs.InlineHtml.{InlineMeaning, leads_to, title_attribute, link_tag, image_tag, description, inline_html, part_description, part_html}
+use Rattle.definition_page.specs.InlinePieces.{leads_to}
+use Rattle.html_bytes.specs.InlineHtml.{InlineMeaning, title_attribute, link_tag, image_tag, description, inline_html, part_description, part_html}
 use Rattle.inline_rows.specs.InlineRows.{InlineRow, Leave, part_rows, inline_rows}
 use Rattle.html_inline.specs.Printed.{Opened, opened, printed_at, is_described, image_start, image_end, part_printed, enter, row_printed}
 

@@ -4,7 +4,8 @@ use Rattle.markdown_options.specs.declared.configuration.CompileOptions.{Compile
 use Rattle.markdown_options.specs.declared.line_ending.LineEnding.{LineEnding}
 use Rattle.markdown_options.specs.LineEndings.{ending_bytes}
 use Rattle.definition_text.specs.Content.{content_codes, line_ending_code}
-use Rattle.definition_page.specs.InlineHtml.{HtmlLine, html_line_bytes}
+use Rattle.definition_page.specs.InlinePieces.{HtmlLine}
+use Rattle.html_bytes.specs.InlineHtml.{html_line_bytes}
 use Rattle.definition_inline.specs.Strings.{begins_with_eol}
 
 -- what the first of these lines prints

@@ -2,7 +2,7 @@
 use Rattle.std.specs.Prelude.{ℕ, Bool, true, false, if◌then◌else◌, List, [], ◌∷◌, ◌++◌, codes}
 use Rattle.std.specs.List.{flat_map}
 use Rattle.definition_inline.specs.Inline.{Inline, Linked}
-use Rattle.definition_page.specs.InlineHtml.{InlineMeaning, url_of, title_attribute, link_tag, part_description, part_html}
+use Rattle.html_bytes.specs.InlineHtml.{InlineMeaning, url_of, title_attribute, link_tag, part_description, part_html}
 use Rattle.inline_rows.specs.InlineRows.{InlineRow, Part, EnterSpan, EnterLink, EnterImage, Leave}
 use Rattle.definition_inline.specs.Spans.{Span, IsEmphasis, IsStrong}
 

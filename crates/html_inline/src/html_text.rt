@@ -4,7 +4,8 @@
 ghost use Rattle.std.specs.Prelude.{◌≡◌, ◌++◌, ◌<◌, ◌≤◌, IfOk, OnOk, drop, length, string_bytes};
 ghost use Rattle.definition_text.specs.Content.{content_codes};
 ghost use Rattle.definition_text.specs.Columns.{bare};
-ghost use Rattle.definition_page.specs.InlineHtml.{html_lines, html_text_bytes};
+ghost use Rattle.definition_page.specs.InlinePieces.{html_lines};
+ghost use Rattle.html_bytes.specs.InlineHtml.{html_text_bytes};
 ghost use Rattle.html_inline.specs.HtmlBytes.{first_bytes, PrintsEnding};
 
 use crate::code_text::line_size;

@@ -2,8 +2,8 @@
 ghost use Rattle.std.specs.Prelude.{◌≡◌, ◌++◌, ℕ, List, Option, OnOk, string_bytes};
 ghost use Rattle.definition_text.specs.Encode.{plain};
 ghost use Rattle.definition_inline.specs.Inline as inline;
-ghost use Rattle.definition_page.specs.InlineHtml.{link_tag, title_attribute, titled};
-ghost use Rattle.definition_page.specs.Meaning.{inline_meaning};
+ghost use Rattle.html_bytes.specs.InlineHtml.{link_tag, title_attribute, titled};
+ghost use Rattle.html_bytes.specs.Meaning.{inline_meaning};
 ghost use Rattle.inline_rows.specs.View.{linked_view, target_linked};
 ghost use Rattle.html_inline.specs.Kept.{text_of};
 ghost use Rattle.html_inline.specs.Printed.{image_end, image_start};

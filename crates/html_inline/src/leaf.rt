@@ -5,8 +5,9 @@ ghost use Rattle.definition_inline.specs.CodeText.{code_text};
 ghost use Rattle.definition_text.specs.Content.{content_codes};
 ghost use Rattle.definition_text.specs.Encode.{encode};
 ghost use Rattle.definition_inline.specs.Inline as inline;
-ghost use Rattle.definition_page.specs.InlineHtml.{address, part_description, part_html};
-ghost use Rattle.definition_page.specs.Meaning.{inline_meaning, link_url};
+ghost use Rattle.definition_page.specs.InlinePieces.{address};
+ghost use Rattle.html_bytes.specs.InlineHtml.{part_description, part_html};
+ghost use Rattle.html_bytes.specs.Meaning.{inline_meaning, link_url};
 ghost use Rattle.inline_leaves.specs.Leaves.{parts_of};
 
 use crate::code_text::push_code;

@@ -5,9 +5,10 @@
 ghost use Rattle.std.specs.Prelude.{◌≡◌, ◌++◌, ℕ, List, Option, OnOk, map, reverse, slice_index_or, string_bytes};
 ghost use Rattle.std.specs.List.{fold};
 ghost use Rattle.definition_inline.specs.Inline as inline;
-ghost use Rattle.definition_page.specs.InlineHtml.{InlineMeaning, inline_html, leads_to};
+ghost use Rattle.definition_page.specs.InlinePieces.{leads_to};
+ghost use Rattle.html_bytes.specs.InlineHtml.{InlineMeaning, inline_html};
 ghost use Rattle.inline_rows.specs.InlineRows as rows_of;
-ghost use Rattle.definition_page.specs.Meaning.{inline_meaning};
+ghost use Rattle.html_bytes.specs.Meaning.{inline_meaning};
 ghost use Rattle.inline_runs.specs.View.{span_view};
 ghost use Rattle.inline_leaves.specs.Leaves.{parts_of};
 ghost use Rattle.inline_rows.specs.View.{linked_view, row_view, rows_view, target_linked};

@@ -1,7 +1,7 @@
 //! What is open where a row is printed.
 ghost use Rattle.std.specs.Prelude.{◌≡◌, ℕ, List, map, reverse};
 ghost use Rattle.definition_inline.specs.Inline as inline;
-ghost use Rattle.definition_page.specs.InlineHtml.{InlineMeaning};
+ghost use Rattle.html_bytes.specs.InlineHtml.{InlineMeaning};
 ghost use Rattle.inline_rows.specs.declared.row.InlineRow.{InlineRow};
 ghost use Rattle.html_inline.specs.Opens.{is_silent, opened_view};
 ghost use Rattle.html_inline.specs.Printed.{is_described};

@@ -1,6 +1,6 @@
 //! URLs of links and images (CommonMark 6.3 and 6.4).
 ghost use Rattle.std.specs.Prelude.{◌≡◌, ◌++◌, OnOk, string_bytes};
-ghost use Rattle.definition_page.specs.Meaning.{image_url, link_url};
+ghost use Rattle.html_bytes.specs.Meaning.{image_url, link_url};
 
 use markdown_options::CompileOptions;
 use markdown_options::constants::{SAFE_PROTOCOL_HREF, SAFE_PROTOCOL_SRC};

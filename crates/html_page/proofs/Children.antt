@@ -1,5 +1,5 @@
 -- What the rows of blocks print, in each container and list.
-use Rattle.std.proofs.Common.{◌≡◌, ℕ, ◌≤◌, Bool, true, false, not, ◌==◌, List, [], ◌∷◌, ◌++◌, Option, refl, sym, ap, ◌∙◌, subst, append_assoc, codes}
+use Rattle.std.proofs.Common.{◌≡◌, ℕ, ◌≤◌, Bool, true, false, not, ◌==◌, List, [], ◌∷◌, ◌++◌, Option, refl, sym, ap, ◌∙◌, subst, append_assoc, codes, None, Some}
 use Rattle.std.specs.List.{fold}
 use Rattle.std.proofs.lemmas.Bool.{eqb-true}
 use Rattle.std.proofs.lemmas.List.Sums.{fold-append}
@@ -7,9 +7,9 @@ use Rattle.definition_block.specs.declared.container.Item.{Item as ItemOf}
 use Rattle.definition_block.specs.declared.container.Container.TheVariants.{Quote, Item}
 use Rattle.definition_block.specs.Tree.{Block, Paragraph, Heading, Break, IndentedCode, FencedCode, Html, Definition, Holds, Items, Ending, Blank, Blocks, Nil, Cons}
 use Rattle.definition_block.specs.Lists.{after_endings, has_gap, is_loose, list_marker, before, grouped, grouped_block}
-use Rattle.definition_page.specs.Pieces.{Piece, Bytes, Eol, Fresh, print}
-use Rattle.definition_page.specs.Document.{Document}
-use Rattle.definition_page.specs.Html.{block_pieces, children_pieces, ends_tight, fresh_unless, number_tag, number_end}
+use Rattle.html_bytes.specs.Pieces.{Piece, Bytes, Eol, Fresh, print}
+use Rattle.html_bytes.specs.Document.{Document}
+use Rattle.html_bytes.specs.Html.{block_pieces, children_pieces, ends_tight, fresh_unless, number_tag, number_end}
 use Rattle.block_rows.specs.Rows.{Single, Exit, rows_of, block_rows}
 use Rattle.html_page.specs.declared.level.Level.{Level}
 use Rattle.html_page.specs.declared.level.Kind.{Kind}
@@ -238,9 +238,13 @@ module _ (d : Document) (default : List ℕ) where
   step (Blank ending) bs h k children list = leaf_step (Blank ending) bs children
 
   list_step : (b : Block) (bs : Blocks) → IsPrintable b → KidsPrinted b → ChildrenPrinted bs → ListPrinted bs → OnListPrinted b bs
-  list_step (Ending ending) bs h k children list number tight plain l out outer places no_list some =
-      ending_on_list (block_pieces d false tight false (Ending ending)) bs list number tight plain l out outer places no_list some
-  list_step (Blank ending) bs h k children list number tight plain l out outer places no_list some =
+  list_step (Ending None) bs h k children list number tight plain l out outer places no_list some =
+      ending_on_list (block_pieces d false tight false (Ending None)) bs list number tight plain l out outer places no_list some
+  list_step (Ending (Some ending)) bs h k children list number tight plain l out outer places no_list some =
+      ending_on_list (block_pieces d false tight false (Ending (Some ending))) bs list number tight plain l out outer places no_list some
+  list_step (Blank None) bs h k children list number tight plain l out outer places no_list some =
+      ending_on_list [] bs list number tight plain l out outer places no_list some
+  list_step (Blank (Some ending)) bs h k children list number tight plain l out outer places no_list some =
       ending_on_list [] bs list number tight plain l out outer places no_list some
   list_step (Holds (Item item) kids) bs h k children list number tight plain l out outer places no_list some =
       item_on_list item kids bs h.0 k children list number tight plain l out outer places no_list some

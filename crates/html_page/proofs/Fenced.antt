@@ -12,9 +12,9 @@ use Rattle.definition_text.specs.Columns.{is_byte, code_byte}
 use Rattle.definition_text.specs.Encode.{encode}
 use Rattle.definition_text.specs.BlockLines.{BlockLine, own_lines, last_ending}
 use Rattle.definition_block.specs.Tree.{FencedCode}
-use Rattle.definition_page.specs.Pieces.{Piece as Printed, Bytes, Fresh, print}
-use Rattle.definition_page.specs.Document.{Document, info_of}
-use Rattle.definition_page.specs.Html.{block_pieces, class_of, code_of, fenced_content, fresh_unless}
+use Rattle.html_bytes.specs.Pieces.{Piece as Printed, Bytes, Fresh, print}
+use Rattle.html_bytes.specs.Document.{Document, info_of}
+use Rattle.html_bytes.specs.Html.{block_pieces, class_of, code_of, fenced_content, fresh_unless}
 use Rattle.block_rows.specs.Rows.{piece_line, piece_lines, first_codes}
 use Rattle.block_rows.proofs.RowSteps.{no_piece}
 use Rattle.html_page.specs.Printed.{laid}

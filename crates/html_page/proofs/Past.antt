@@ -1,7 +1,7 @@
 -- A level after blocks in it.
 use Rattle.std.proofs.Common.{◌≡◌, Bool, true, false, ◌&&◌, refl, ap, ◌∙◌}
 use Rattle.definition_block.specs.Tree.{Block, Paragraph, Heading, Break, IndentedCode, FencedCode, Html, Definition, Holds, Items, Ending, Blank, Blocks, Nil, Cons}
-use Rattle.definition_page.specs.Html.{ends_tight}
+use Rattle.html_bytes.specs.Html.{ends_tight}
 use Rattle.block_rows.specs.Rows.{Single}
 use Rattle.html_page.specs.declared.level.Level.{Level}
 use Rattle.html_page.specs.Levels.{plain_after, level_after}

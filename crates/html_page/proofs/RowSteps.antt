@@ -5,7 +5,7 @@ use Rattle.std.proofs.lemmas.List.{append-nil, append_assoc, drop_more, take-app
 use Rattle.std.proofs.lemmas.List.Elements.{All-head, All-tail}
 use Rattle.std.proofs.lemmas.List.Sums.{fold_push, fold-append}
 use Rattle.block_rows.specs.declared.row.Row.{Row}
-use Rattle.definition_page.specs.Document.{Document}
+use Rattle.html_bytes.specs.Document.{Document}
 use Rattle.definition_text.specs.BlockLines.{BlockLine}
 use Rattle.block_rows.specs.Rows.{BlockRow, Shown, shown, shown_as, show_row, row_shown, lines_taken}
 use Rattle.html_page.specs.Printable.{IsPrintableRow, ArePrintable}

@@ -7,9 +7,10 @@ use Rattle.definition_block.specs.declared.container.Container.{Container}
 use Rattle.definition_block.specs.declared.container.Container.TheVariants.{Quote, Item}
 use Rattle.definition_block.specs.Tree.{Block, Paragraph, Heading, Break, IndentedCode, FencedCode, Html, Definition, Holds, Items, Ending, Blank, Blocks, Nil, Cons}
 use Rattle.definition_block.specs.Lists.{grouped}
-use Rattle.definition_page.specs.Pieces.{print, layout}
-use Rattle.definition_page.specs.Document.{Document}
-use Rattle.definition_page.specs.Html.{children_pieces, ends_blank, is_blank_ending, last_piece, document_pieces}
+use Rattle.html_bytes.specs.Pieces.{print, layout}
+use Rattle.html_bytes.specs.Document.{Document}
+use Rattle.definition_page.specs.Read.{ends_blank, is_blank_ending}
+use Rattle.html_bytes.specs.Html.{children_pieces, last_piece, document_pieces}
 use Rattle.block_rows.specs.Rows.{BlockRow, Single, Exit, entered, rows_of, block_rows, spaced_definition}
 use Rattle.html_page.specs.declared.level.Kind.TheVariants as kind
 use Rattle.html_page.specs.declared.loose.Place.{Place}

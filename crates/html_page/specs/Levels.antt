@@ -1,9 +1,9 @@
 -- What holds a row, and what a block prints in it.
 use Rattle.std.specs.Prelude.{Bool, true, false, List, []}
 use Rattle.definition_block.specs.Tree.{Block, Paragraph, Heading, Break, IndentedCode, FencedCode, Html, Definition, Holds, Items, Ending, Blank}
-use Rattle.definition_page.specs.Pieces.{Piece}
-use Rattle.definition_page.specs.Document.{Document}
-use Rattle.definition_page.specs.Html.{block_pieces, silences}
+use Rattle.html_bytes.specs.Pieces.{Piece}
+use Rattle.html_bytes.specs.Document.{Document}
+use Rattle.html_bytes.specs.Html.{block_pieces, silences}
 use Rattle.block_rows.specs.Rows.{BlockRow, Single, EnterQuote, EnterItem, Exit}
 use Rattle.html_page.specs.declared.level.Level.{Level}
 use Rattle.html_page.specs.declared.level.Kind.{Kind}
@@ -47,7 +47,7 @@ plain_after tight before (Ending ending) = before
 plain_after tight before (Blank ending) = before
 
 abbrev pub level_after : Level → BlockRow → Level
-level_after l (Single b) = level_of l.kind l.tight (plain_after l.tight l.plain b) (silences (is_document l.kind) l.tight b)
+level_after l (Single b) = level_of l.kind l.tight (plain_after l.tight l.plain b) (silences (is_document l.kind) l.tight l.silent b)
 level_after l EnterQuote = held l
 level_after l (EnterItem marker number) = held l
 level_after l Exit = held l

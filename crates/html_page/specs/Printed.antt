@@ -3,9 +3,10 @@ use Rattle.std.specs.Prelude.{ℕ, Bool, true, false, not, List, [], ◌∷◌, 
 use Rattle.std.specs.List.{fold}
 use Rattle.markdown_options.specs.declared.line_ending.LineEnding.{LineEnding}
 use Rattle.markdown_options.specs.LineEndings.{ending_bytes}
-use Rattle.definition_page.specs.Document.{Document}
-use Rattle.definition_page.specs.Pieces.{Piece, Bytes, Eol, Fresh, print}
-use Rattle.definition_page.specs.Html.{number_tag, number_end, fresh_unless, is_blank_ending, last_piece}
+use Rattle.html_bytes.specs.Document.{Document}
+use Rattle.html_bytes.specs.Pieces.{Piece, Bytes, Eol, Fresh, print}
+use Rattle.definition_page.specs.Read.{is_blank_ending}
+use Rattle.html_bytes.specs.Html.{number_tag, number_end, fresh_unless, last_piece}
 use Rattle.block_rows.specs.Rows.{BlockRow, Single, EnterQuote, EnterItem, Exit}
 use Rattle.html_page.specs.declared.loose.Place.{Place}
 use Rattle.html_page.specs.declared.level.Level.{Level}

@@ -2,15 +2,15 @@
 ghost use Rattle.std.specs.Prelude.{◌≡◌, ◌++◌, List, map, replicate, OnOk, string_bytes, true, false};
 ghost use Rattle.markdown_options.specs.LineEndings.{ending_bytes};
 ghost use Rattle.definition_text.specs.Lines.{ending_text};
-ghost use Rattle.definition_page.specs.Pieces.{Fresh, print};
+ghost use Rattle.html_bytes.specs.Pieces.{Fresh, print};
 ghost use Rattle.definition_text.specs.Columns.{tab_column, code_byte};
-ghost use Rattle.definition_page.specs.Document.{Document, document};
+ghost use Rattle.html_bytes.specs.Document.{Document, document};
 ghost use Rattle.definition_text.specs.Encode.{encode};
 ghost use Rattle.definition_inline.specs.Definition.{Definition};
 ghost use Rattle.block_rows.specs.ParagraphLines.{HaveNoEnding};
 ghost use Rattle.definition_text.specs.BlockLines.{own_lines};
 ghost use Rattle.definition_block.specs.Tree.{IndentedCode, FencedCode};
-ghost use Rattle.definition_page.specs.Html.{block_pieces, class_of, code_of, fenced_content};
+ghost use Rattle.html_bytes.specs.Html.{block_pieces, class_of, code_of, fenced_content};
 ghost use Rattle.block_rows.specs.Rows.{piece_lines};
 ghost use Rattle.html_text.specs.Texts.{text_tables};
 ghost use Rattle.html_page.specs.Printed.{laid};

@@ -1,10 +1,10 @@
 //! Headings (CommonMark 4.2 and 4.3).
 ghost use Rattle.std.specs.Prelude.{◌≡◌, ◌≤◌, ◌+◌, ◌++◌, ◌∷◌, [], List, OnOk, string_bytes, codes, true, false};
-ghost use Rattle.definition_page.specs.Document.{document, text_of};
+ghost use Rattle.html_bytes.specs.Document.{document, text_of};
 ghost use Rattle.definition_inline.specs.Definition.{Definition};
 ghost use Rattle.definition_text.specs.BlockLines.{own_lines};
 ghost use Rattle.definition_block.specs.Tree.{Heading};
-ghost use Rattle.definition_page.specs.Html.{block_pieces};
+ghost use Rattle.html_bytes.specs.Html.{block_pieces};
 ghost use Rattle.block_rows.specs.Rows.{piece_lines};
 ghost use Rattle.html_text.specs.Texts.{HasDefinitions, text_tables};
 ghost use Rattle.html_page.specs.Printable.{AreHeadingLines};

@@ -5,9 +5,9 @@
 ghost use Rattle.std.specs.Prelude.{◌≡◌, ℕ, replicate, ◌++◌, ◌∷◌, [], OnOk, string_bytes};
 ghost use Rattle.definition_text.specs.BlockLines.{own_lines};
 ghost use Rattle.definition_text.specs.Columns.{bytes_of, tab_column};
-ghost use Rattle.definition_page.specs.Html.{html_of};
-ghost use Rattle.definition_page.specs.HtmlRaw.{raw_html};
-ghost use Rattle.definition_page.specs.Pieces.{Bytes, Fresh};
+ghost use Rattle.html_bytes.specs.Html.{html_of};
+ghost use Rattle.html_bytes.specs.RawHtml.{raw_html};
+ghost use Rattle.html_bytes.specs.Pieces.{Bytes, Fresh};
 ghost use Rattle.block_rows.specs.Rows.{piece_lines};
 ghost use Rattle.html_page.specs.Printed.{laid};
 

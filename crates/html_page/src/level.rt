@@ -51,6 +51,7 @@ impl Level {
             Row::Paragraph(_) | Row::WholeParagraph(_) => (self.tight, self.tight),
             Row::Definition(_) => (self.plain, true),
             Row::UnclosedCode(_) => (false, self.is_document()),
+            Row::Ending(None) | Row::Blank(None) => (self.plain, self.silent),
             Row::Ending(_) | Row::Blank(_) => (self.plain, false),
             _ => (false, false),
         };

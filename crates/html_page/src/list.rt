@@ -1,6 +1,6 @@
 //! The tags of lists (CommonMark 5.3).
 ghost use Rattle.std.specs.Prelude.{◌≡◌, ◌++◌, OnOk, string_bytes};
-ghost use Rattle.definition_page.specs.Html.{number_tag, number_end};
+ghost use Rattle.html_bytes.specs.Html.{number_tag, number_end};
 
 use crate::page::Page;
 use std::alloc::{AllocError, Allocator};

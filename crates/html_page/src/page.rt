@@ -1,14 +1,15 @@
 //! The page, printed piece by piece.
 ghost use Rattle.std.specs.Prelude.{◌≡◌, ◌≤◌, ◌<◌, ℕ, List, slice_index, ◌++◌, OnOk, string_bytes, length, true, false};
 ghost use Rattle.markdown_options.specs.LineEndings.{ending_bytes};
-ghost use Rattle.definition_page.specs.Document.{Document, document};
+ghost use Rattle.html_bytes.specs.Document.{Document, document};
 ghost use Rattle.definition_text.specs.Lines.{ending_text};
 ghost use Rattle.definition_inline.specs.Definition.{Definition};
 ghost use Rattle.block_rows.specs.ParagraphLines.{AreLines};
 ghost use Rattle.definition_text.specs.BlockLines.{own_lines};
 ghost use Rattle.definition_block.specs.Tree.{Paragraph, Break};
-ghost use Rattle.definition_page.specs.Pieces.{Fresh, is_fresh, print};
-ghost use Rattle.definition_page.specs.Html.{block_pieces};
+ghost use Rattle.definition_page.specs.Pieces.{is_fresh};
+ghost use Rattle.html_bytes.specs.Pieces.{Fresh, print};
+ghost use Rattle.html_bytes.specs.Html.{block_pieces};
 ghost use Rattle.block_rows.specs.Rows.{lines_taken, piece_lines, row_shown, whole_lines};
 ghost use Rattle.html_text.specs.Texts.{HasDefinitions, text_tables};
 ghost use Rattle.html_page.specs.Levels.{row_pieces};

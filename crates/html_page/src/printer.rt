@@ -1,12 +1,12 @@
 //! Rows to HTML.
 ghost use Rattle.std.specs.Prelude.{◌≡◌, ◌≤◌, ◌<◌, ◌^◌, ◌+◌, List, IfOk, OnOk, string_bytes, length};
 ghost use Rattle.markdown_options.specs.LineEndings.{ending_bytes};
-ghost use Rattle.definition_page.specs.Document.{document};
+ghost use Rattle.html_bytes.specs.Document.{document};
 ghost use Rattle.definition_inline.specs.Definition.{Definition};
 ghost use Rattle.definition_text.specs.BlockLines.{BlockLine};
 ghost use Rattle.definition_block.specs.Tree.{Blocks};
-ghost use Rattle.definition_page.specs.Pieces.{layout};
-ghost use Rattle.definition_page.specs.Html.{document_pieces};
+ghost use Rattle.html_bytes.specs.Pieces.{layout};
+ghost use Rattle.html_bytes.specs.Html.{document_pieces};
 ghost use Rattle.block_rows.specs.Rows.{all_taken, lines_taken, piece_lines, rows_of, row_shown, shown};
 ghost use Rattle.html_text.specs.Texts.{HasDefinitions, text_tables};
 ghost use Rattle.html_page.specs.Printable.{IsPrintableRow, ArePrintable, CanBePrinted};

@@ -1,6 +1,6 @@
 -- What the texts of a document are read by.
 use Rattle.std.specs.Prelude.{◌≡◌, ℕ, Bool, List, Option, map}
-use Rattle.definition_page.specs.Document.{TextTables}
+use Rattle.definition_page.specs.TextTables.{TextTables}
 use Rattle.definition_inline.specs.Inline as inline
 use Rattle.definition_inline.specs.Definition.{Definition}
 use Rattle.definition_page.specs.Targets.{labels_of}

@@ -1,8 +1,8 @@
 //! The texts of paragraphs, headings and info strings (CommonMark 4.2, 4.3, 4.5 and 4.8).
 ghost use Rattle.std.specs.Prelude.{◌≡◌, ◌++◌, ◌∷◌, [], List, OnOk, string_bytes};
-ghost use Rattle.definition_page.specs.Document.{context_of, document, meaning_of, text_of, info_of};
+ghost use Rattle.html_bytes.specs.Document.{context_of, document, meaning_of, text_of, info_of};
 ghost use Rattle.definition_text.specs.Encode.{encode};
-ghost use Rattle.definition_page.specs.InlineHtml.{inline_html};
+ghost use Rattle.html_bytes.specs.InlineHtml.{inline_html};
 ghost use Rattle.definition_inline.specs.Definition.{Definition};
 ghost use Rattle.block_rows.specs.ParagraphLines.{HaveNoEnding, AreLines};
 ghost use Rattle.block_rows.specs.Rows.{piece_line, piece_lines, whole_lines};

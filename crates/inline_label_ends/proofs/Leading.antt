@@ -3,7 +3,7 @@ use Rattle.std.proofs.Common.{◌≡◌, ℕ, List, [], None, ap, sym, ◌∙◌
 use Rattle.std.specs.Option.{option_map, unwrap_or}
 use Rattle.definition_inline.specs.Inline.{Target, Linked, linked}
 use Rattle.definition_inline.specs.Inline as inline
-use Rattle.definition_page.specs.InlineHtml.{leads_to}
+use Rattle.definition_page.specs.InlinePieces.{leads_to}
 use Rattle.definition_inline.specs.Definition.{Definition}
 use Rattle.definition_page.specs.Targets.{labels_of, linked_at, linked_by}
 use Rattle.inline_rows.specs.declared.row.LinkTarget.{LinkTarget}

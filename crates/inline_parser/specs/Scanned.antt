@@ -7,7 +7,7 @@ use Rattle.definition_text.specs.Columns.{is_white}
 use Rattle.definition_text.specs.Content.{content_codes}
 use Rattle.definition_text.specs.InlineCode.{InlineCode}
 use Rattle.definition_inline.specs.Definition.{Definition}
-use Rattle.definition_page.specs.InlineHtml.{leads_to}
+use Rattle.definition_page.specs.InlinePieces.{leads_to}
 use Rattle.definition_inline.specs.Scan as scan
 use Rattle.definition_inline.specs.LabelEnd.{Ended}
 use Rattle.definition_inline.specs.Scan.{InlineContext, ended_by, start_bytes}

@@ -10,7 +10,7 @@ ghost use Rattle.definition_inline.specs.Attention.{run_at};
 ghost use Rattle.definition_text.specs.Columns.{is_white};
 ghost use Rattle.definition_text.specs.Content.{content_codes};
 ghost use Rattle.definition_inline.specs.Inline.{Target, Linked, Data};
-ghost use Rattle.definition_page.specs.InlineHtml.{leads_to};
+ghost use Rattle.definition_page.specs.InlinePieces.{leads_to};
 ghost use Rattle.inline_rows.specs.InlineRows.{inline_rows};
 ghost use Rattle.definition_inline.specs.Definition.{Definition};
 ghost use Rattle.definition_inline.specs.Scan as scan;

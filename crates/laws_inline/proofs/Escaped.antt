@@ -22,7 +22,7 @@ use Rattle.definition_inline.specs.HardBreak.{ends_inner_line, ends_here, line_e
 use Rattle.definition_inline.specs.Attention.{is_marker, run_at}
 use Rattle.definition_inline.specs.Spans.{Token, Item, emphasized}
 use Rattle.definition_inline.specs.Scan.{InlineContext, leaf_at, label_start_at, text, Reading, reading, read_tokens, Next, data_step, label_end_step, step, scan, whole_text}
-use Rattle.definition_page.specs.InlineHtml.{InlineMeaning, part_html, inline_html}
+use Rattle.html_bytes.specs.InlineHtml.{InlineMeaning, part_html, inline_html}
 use Rattle.definition_inline.proofs.Scanning.{scan_step, step_leaf, step_last}
 use Rattle.laws_visible.proofs.InlineParts.{read_nothing, white_codes, html_of_parts}
 use Rattle.laws_visible.proofs.PlainText.{and_no, bare_white, bare_other}

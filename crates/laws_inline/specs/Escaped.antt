@@ -8,7 +8,7 @@ use Rattle.definition_text.specs.Content.{content_codes, is_eol}
 use Rattle.definition_text.specs.Encode.{encode}
 use Rattle.definition_text.specs.InlineCode.{InlineCode, codes_of}
 use Rattle.definition_inline.specs.Scan.{InlineContext, inlines}
-use Rattle.definition_page.specs.InlineHtml.{InlineMeaning, inline_html}
+use Rattle.html_bytes.specs.InlineHtml.{InlineMeaning, inline_html}
 use Rattle.definition_inline.specs.Strings.{begins_with_eol, string_text}
 use Rattle.definition_block.specs.Tree.{begins_with_white}
 

@@ -8,7 +8,7 @@ use Rattle.definition_inline.specs.Inline.{Inline, Inlines, Nil, Cons, followed_
 use Rattle.definition_inline.specs.Pairing.{Pair, pairs}
 use Rattle.definition_inline.specs.Spans.{Item, runs_of, Holds, rows_from, Nest, nest, nest_row, nested, emphasized}
 use Rattle.definition_inline.specs.Scan.{text, Reading, reading, read_tokens}
-use Rattle.definition_page.specs.InlineHtml.{InlineMeaning, part_html, inline_html}
+use Rattle.html_bytes.specs.InlineHtml.{InlineMeaning, part_html, inline_html}
 
 -- no more tokens
 pub read_nothing : (r : Reading) → r ≡ read_tokens [] r

@@ -23,8 +23,8 @@ use Rattle.definition_inline.specs.HardBreak.{ends_here, line_end_at, line_space
 use Rattle.definition_inline.specs.Spans.{Item, emphasized}
 use Rattle.definition_inline.specs.Scan.{InlineContext, leaf_at, text, Reading, reading, read_tokens, Next, leaf_step, step, and_then, scan, whole_text, inlines}
 use Rattle.definition_inline.specs.Strings.{or_byte}
-use Rattle.definition_page.specs.InlineHtml.{InlineMeaning, part_html, inline_html}
-use Rattle.definition_page.specs.Document.{Document, meaning_of, text_of}
+use Rattle.html_bytes.specs.InlineHtml.{InlineMeaning, part_html, inline_html}
+use Rattle.html_bytes.specs.Document.{Document, meaning_of, text_of}
 use Rattle.definition_page.specs.Targets.{is_label_of}
 use Rattle.definition_inline.proofs.Scanning.{drop-codes_of}
 use Rattle.laws_visible.proofs.InlineParts.{read_nothing, white_codes, html_of_parts}

@@ -20,10 +20,14 @@ use Rattle.definition_text.specs.Encode.{replacement_character, encoded_byte, en
 use Rattle.definition_text.specs.BlockLines.{BlockLine, own_lines}
 use Rattle.definition_block.specs.Tree.{beside_line, Block, Paragraph, Ending, Blank, Blocks, Nil, Cons, join, one, Text, Opening, Leaf, Tree, tree, empty_tree, close_leaf, close, rest_line, grow, step, steps, closed, blocks}
 use Rattle.definition_block.specs.Lists.{before, grouped_block, grouped}
-use Rattle.definition_page.specs.Pieces.{Piece, Bytes, Fresh, is_fresh, print, layout}
-use Rattle.definition_page.specs.Html.{silences, block_pieces, children_pieces, ends_blank, last_piece, document_pieces, default_ending, blocks_html, marked_html}
+use Rattle.definition_page.specs.Pieces.{is_fresh}
+use Rattle.html_bytes.specs.Pieces.{Piece, Bytes, Fresh, print, layout}
+use Rattle.definition_page.specs.Read.{ends_blank}
+use Rattle.html_bytes.specs.Html.{silences, block_pieces, children_pieces, last_piece, document_pieces, default_ending, blocks_html, marked_html}
 use Rattle.definition_page.specs.Targets.{document_definitions}
-use Rattle.definition_page.specs.Document.{TextTables, Document, document, text_of}
+use Rattle.definition_page.specs.TextTables.{TextTables}
+use Rattle.html_bytes.specs.Document.{Document, document, text_of}
+use Rattle.html_bytes.proofs.SamePage.{html_is}
 use Rattle.laws_visible.specs.Visible.{visible, is_not_blank, said_by, all_said_by, VisibleLaw}
 use Rattle.laws_visible.proofs.PlainText.{line_text, plain_text, AreInLine, AreText, line_drop, first_line, other_lines, text_is_plain}
 use Rattle.laws_visible.proofs.Plain.{paragraph, blank_tree, text_tree, plain_tree, plain_grow}
@@ -313,7 +317,7 @@ module _ (d : Document) (off : d.options.parse.constructs ≡ no_constructs) (de
   blocks_show : (silent : Bool) (bs : Blocks) → BlocksAreText bs → PiecesShow default (children_pieces d true false silent bs) (said_in_blocks bs)
   blocks_show silent Nil p = pieces_none default
   blocks_show silent (Cons b bs) p =
-      let next = silences true false b in
+      let next = silences true false silent b in
       pieces-append default (block_pieces d true false silent b) (children_pieces d true false next bs) (said_in_block b) (said_in_blocks bs)
       (block_shows silent b p.0) (blocks_show next bs p.1)
 
@@ -516,4 +520,5 @@ unmarked_bytes text h = cond_both (has_mark text) (drop 3 text) text (All (λ by
 
 pub visible_law : VisibleLaw
 visible_law tables text options bytes off =
-    marked_page_shows tables (kind_before_text text) (without_mark text) options (lines_of_text (without_mark text) (λ k lt. unmarked_bytes text bytes k 0 lt)) off
+    ap (visible false) (html_is tables text options)
+    ∙ marked_page_shows tables (kind_before_text text) (without_mark text) options (lines_of_text (without_mark text) (λ k lt. unmarked_bytes text bytes k 0 lt)) off

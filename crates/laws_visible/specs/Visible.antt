@@ -6,7 +6,7 @@ use Rattle.markdown_options.specs.Defaults.{no_constructs}
 use Rattle.definition_text.specs.Lines.{TextLine, lines, without_mark}
 use Rattle.definition_text.specs.Columns.{whole, is_blank, block_codes, trimmed}
 use Rattle.definition_text.specs.Encode.{encode}
-use Rattle.definition_page.specs.Document.{TextTables}
+use Rattle.definition_page.specs.TextTables.{TextTables}
 use Rattle.definition_page.specs.Html.{html}
 
 -- what a byte outside of tags shows: itself, but `<`, CR and LF show nothing

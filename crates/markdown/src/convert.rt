@@ -3,7 +3,8 @@ ghost use Rattle.std.specs.Prelude.{◌≡◌, ◌/◌, ◌≤◌, ◌↔◌, Is
 ghost use Rattle.markdown_options.specs.Built.{is_built};
 ghost use Rattle.markdown_options.specs.Messages.{IsOutOfMemory};
 ghost use Rattle.markdown_options.specs.Defaults.{default_options};
-ghost use Rattle.definition_page.specs.Html.{html, marked_html, default_ending};
+ghost use Rattle.definition_page.specs.Html.{html};
+ghost use Rattle.html_bytes.specs.Html.{marked_html, default_ending};
 ghost use Rattle.markdown_tables.specs.Builtin.{builtin_tables};
 ghost use Rattle.html_text.specs.Texts.{text_tables};
 

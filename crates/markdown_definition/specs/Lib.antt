@@ -9,8 +9,13 @@ pub use Rattle.definition_inline.specs.References
 pub use Rattle.definition_block.specs.Blocks
 pub use Rattle.definition_block.specs.Tree
 pub use Rattle.definition_block.specs.Lists
-pub use Rattle.definition_page.specs.Document
 pub use Rattle.definition_page.specs.Html
+pub use Rattle.definition_page.specs.Read
+pub use Rattle.definition_page.specs.Page
+pub use Rattle.definition_page.specs.BlockPieces
+pub use Rattle.definition_page.specs.InlinePieces
 pub use Rattle.definition_page.specs.Pieces
+pub use Rattle.definition_page.specs.Tags
 pub use Rattle.definition_page.specs.Targets
+pub use Rattle.definition_page.specs.TextTables
 pub use Rattle.definition_page.specs.Urls

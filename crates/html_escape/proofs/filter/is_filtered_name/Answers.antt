@@ -1,4 +1,4 @@
-use Rattle.definition_page.specs.TagFilter.{filtered_names}
+use Rattle.definition_page.specs.GfmTagfilter.{filtered_names}
 use Rattle.html_escape.proofs.filter.is_filtered_name.Goals as goal
 
 pub returns : goal.returns

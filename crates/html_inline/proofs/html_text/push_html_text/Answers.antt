@@ -1,7 +1,8 @@
 use Rattle.std.proofs.Common.{◌++◌, string_bytes, sym, ap, ◌∙◌, append_assoc, drop, rules}
 use Rattle.std.specs.List.{flat_map}
 use Rattle.definition_text.specs.Content.{content_codes}
-use Rattle.definition_page.specs.InlineHtml.{html_lines, later_line_bytes}
+use Rattle.definition_page.specs.InlinePieces.{html_lines}
+use Rattle.html_bytes.specs.InlineHtml.{later_line_bytes}
 use Rattle.html_inline.specs.HtmlBytes.{first_bytes}
 use Rattle.html_inline.proofs.HtmlLines.{later_printed}
 use Rattle.html_inline.proofs.html_text.push_html_text.Goals as goal

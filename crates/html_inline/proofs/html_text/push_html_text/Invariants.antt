@@ -3,7 +3,8 @@ use Rattle.std.specs.List.{flat_map}
 use denote.Text.{Utf8}
 use denote.Shadow.{shadow}
 use Rattle.definition_text.specs.Content.{content_codes}
-use Rattle.definition_page.specs.InlineHtml.{html_lines, html_text_bytes, later_line_bytes}
+use Rattle.definition_page.specs.InlinePieces.{html_lines}
+use Rattle.html_bytes.specs.InlineHtml.{html_text_bytes, later_line_bytes}
 use Rattle.html_inline.proofs.html_text.push_html_text.Given as goal
 
 -- what was printed, and what is printed for the later lines, is what is printed for all

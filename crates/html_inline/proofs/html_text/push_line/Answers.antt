@@ -1,6 +1,6 @@
 use Rattle.std.proofs.Common.{◌++◌, string_bytes, ap, ◌∙◌, arith, subst}
 use Rattle.std.specs.List.{prefix_len}
-use Rattle.definition_page.specs.HtmlRaw.{raw_html}
+use Rattle.html_bytes.specs.RawHtml.{raw_html}
 use Rattle.html_inline.specs.CodeBytes.{is_in_line}
 use Rattle.html_inline.specs.HtmlBytes.{PrintsEnding}
 use Rattle.html_inline.proofs.InLine.{line_boundary}

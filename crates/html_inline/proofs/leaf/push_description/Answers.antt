@@ -1,7 +1,7 @@
 use Rattle.std.proofs.Common.{◌≡◌, ◌++◌, List, ℕ, string_bytes, sym, ap, ◌∙◌, subst}
 use Rattle.std.specs.Prelude.{OnOk}
 use Rattle.std.specs.List.{flat_map}
-use Rattle.definition_page.specs.InlineHtml.{part_description}
+use Rattle.html_bytes.specs.InlineHtml.{part_description}
 use Rattle.inline_leaves.specs.Leaves.{parts_of}
 use Rattle.html_inline.proofs.LeafTexts.{data_described, escapes_described}
 use Rattle.html_inline.proofs.leaf.push_description.Goals as goal

@@ -1,11 +1,11 @@
 use Rattle.std.proofs.Common.{◌≡◌, ◌++◌, List, true, false, string_bytes, sym, ap, ◌∙◌, refl}
 use Rattle.std.specs.Prelude.{codes, map, reverse}
-use Rattle.definition_page.specs.Meaning.{inline_meaning}
+use Rattle.html_bytes.specs.Meaning.{inline_meaning}
 use Rattle.html_inline.specs.declared.stack.OpenPart.{OpenPart}
 use Rattle.html_inline.specs.declared.stack.OpenPart.TheVariants as open_part
 use Rattle.html_inline.specs.Opens.{opened_view, place_linked}
 use Rattle.html_inline.specs.Printed.{opened, is_described}
-use Rattle.definition_page.specs.InlineHtml.{link_tag}
+use Rattle.html_bytes.specs.InlineHtml.{link_tag}
 use Rattle.inline_rows.specs.View.{target_linked}
 use Rattle.html_inline.proofs.OpenStack.{entered, entered_silent}
 use Rattle.html_inline.proofs.rows.enter_link.Goals as goal

@@ -1,6 +1,6 @@
 use Rattle.std.proofs.Common.{◌≡◌, ◌++◌, [], ◌∷◌, string_bytes}
 use Rattle.std.proofs.lemmas.Result.{on_ok_weaker}
-use Rattle.definition_page.specs.Meaning.{inline_meaning}
+use Rattle.html_bytes.specs.Meaning.{inline_meaning}
 use Rattle.html_inline.specs.Opens.{opened_view, place_linked}
 use Rattle.html_inline.proofs.OpenStack.{left}
 use Rattle.html_inline.proofs.rows.exit.Goals as goal

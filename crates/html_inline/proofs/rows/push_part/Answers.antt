@@ -1,6 +1,6 @@
 use Rattle.std.proofs.Common.{◌≡◌, ◌++◌, List, Bool, true, false, string_bytes, sym, ap, ◌∙◌, subst}
 use Rattle.std.specs.Prelude.{OnOk, map, reverse}
-use Rattle.definition_page.specs.Meaning.{inline_meaning}
+use Rattle.html_bytes.specs.Meaning.{inline_meaning}
 use Rattle.inline_leaves.specs.Leaves.{parts_of}
 use Rattle.html_inline.specs.declared.stack.OpenPart.{OpenPart}
 use Rattle.html_inline.specs.Opens.{opened_view, place_linked}

@@ -2,7 +2,7 @@ use Rattle.std.proofs.Common.{◌≡◌, List, [], string_bytes, ap, ◌∙◌, 
 use Rattle.std.specs.List.{fold}
 use Rattle.std.proofs.lemmas.List.{take_all}
 use Rattle.inline_rows.specs.InlineRows as rows_of
-use Rattle.definition_page.specs.Meaning.{inline_meaning}
+use Rattle.html_bytes.specs.Meaning.{inline_meaning}
 use Rattle.inline_rows.specs.declared.row.InlineRow.{InlineRow}
 use Rattle.inline_rows.specs.View.{rows_view}
 use Rattle.html_inline.specs.Opens.{place_linked, printed_of}

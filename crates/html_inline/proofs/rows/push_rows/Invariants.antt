@@ -1,7 +1,7 @@
 use Rattle.std.proofs.Common.{◌≡◌, ℕ, List, Option, [], string_bytes, take}
 use Rattle.std.specs.List.{fold}
 use Rattle.definition_inline.specs.Inline as inline
-use Rattle.definition_page.specs.Meaning.{inline_meaning}
+use Rattle.html_bytes.specs.Meaning.{inline_meaning}
 use Rattle.inline_rows.specs.View.{rows_view}
 use Rattle.html_inline.specs.Opens.{place_linked, printed_of}
 use Rattle.html_inline.specs.Printed.{printed_at, row_printed}

@@ -5,14 +5,14 @@ use Rattle.markdown_options.specs.declared.line_ending.LineEnding.{LineEnding}
 use Rattle.markdown_options.specs.LineEndings.{ending_bytes}
 use Rattle.block_rows.specs.declared.row.Row.{Row}
 use Rattle.block_rows.specs.declared.row.Row.TheVariants.{Paragraph}
-use Rattle.definition_page.specs.Document.{document}
+use Rattle.html_bytes.specs.Document.{document}
 use Rattle.html_text.specs.Texts.{text_tables}
 use Rattle.definition_text.specs.BlockLines.{BlockLine}
 use Rattle.block_rows.specs.Rows.{Shown, row_shown, piece_lines, piece_line, shown, lines_taken}
 use Rattle.html_page.specs.Printable.{IsPrintableRow}
 use Rattle.html_page.specs.Printed.{Printed, row_printed, printed, blank_page, ends_blank_rows, rows_html, printed_of}
-use Rattle.definition_page.specs.Pieces.{Fresh, print}
-use Rattle.definition_page.specs.Html.{last_piece}
+use Rattle.html_bytes.specs.Pieces.{Fresh, print}
+use Rattle.html_bytes.specs.Html.{last_piece}
 use Rattle.html_page.specs.declared.printer.Printer.{Printer}
 use Rattle.html_page.proofs.RowsOf.{rows_html_of}
 use Rattle.block_rows.proofs.RowSteps.{shown_more, taken_more, left_more}

@@ -1,6 +1,6 @@
 use Rattle.std.proofs.Common.{List, ◌≡◌, ◌≤◌, ◌+◌, length, take, drop}
 use Rattle.markdown_options.specs.LineEndings.{ending_bytes}
-use Rattle.definition_page.specs.Document.{document}
+use Rattle.html_bytes.specs.Document.{document}
 use Rattle.definition_inline.specs.Definition.{Definition}
 use Rattle.html_text.specs.Texts.{HasDefinitions, text_tables}
 use Rattle.block_rows.specs.Rows.{all_taken, piece_lines, shown}

@@ -4,7 +4,7 @@ use Rattle.definition_text.specs.Columns.{is_white}
 use Rattle.definition_text.specs.Content.{content_codes}
 use Rattle.inline_leaves.specs.Leaves.{size_before}
 use Rattle.std.proofs.lemmas.Bool.{eqb-true}
-use Rattle.definition_page.specs.InlineHtml.{leads_to}
+use Rattle.definition_page.specs.InlinePieces.{leads_to}
 use Rattle.inline_rows.specs.InlineRows.{inline_rows}
 use Rattle.definition_inline.specs.Scan as scan
 use Rattle.definition_inline.specs.Scan.{whole_text}

@@ -4,9 +4,9 @@ use Rattle.markdown_options.specs.declared.line_ending.LineEnding.{LineEnding}
 use Rattle.markdown_options.specs.LineEndings.{ending_bytes}
 use Rattle.block_rows.specs.declared.row.Row.{Row}
 use Rattle.block_rows.specs.declared.row.Piece.{Piece}
-use Rattle.definition_page.specs.Document.{document}
-use Rattle.definition_page.specs.Pieces.{layout}
-use Rattle.definition_page.specs.Html.{document_pieces}
+use Rattle.html_bytes.specs.Document.{document}
+use Rattle.html_bytes.specs.Pieces.{layout}
+use Rattle.html_bytes.specs.Html.{document_pieces}
 use Rattle.definition_page.specs.Targets.{document_definitions}
 use Rattle.definition_block.specs.Tree.{blocks}
 use Rattle.block_rows.specs.Rows.{Shown, piece_lines, shown}

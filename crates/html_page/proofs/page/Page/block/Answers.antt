@@ -5,10 +5,10 @@ use Rattle.block_rows.specs.declared.row.Row.{Row}
 use Rattle.definition_text.specs.Columns.{is_byte, bytes_of}
 use Rattle.definition_text.specs.BlockLines.{own_lines, BlockLine}
 use Rattle.definition_block.specs.Tree.{Paragraph, Heading, IndentedCode, FencedCode, Html}
-use Rattle.definition_page.specs.Document.{document}
+use Rattle.html_bytes.specs.Document.{document}
 use Rattle.block_rows.specs.ParagraphLines.{HaveNoEnding, AreLines}
 use Rattle.html_text.specs.Texts.{text_tables}
-use Rattle.definition_page.specs.Html.{block_pieces}
+use Rattle.html_bytes.specs.Html.{block_pieces}
 use Rattle.block_rows.specs.Rows.{whole_lines, row_shown, lines_taken, first_codes, piece_line, piece_lines}
 use Rattle.html_page.specs.Levels.{row_pieces, is_document}
 use Rattle.html_page.specs.Printed.{laid}

@@ -1,6 +1,6 @@
 use Rattle.std.proofs.Common.{◌≡◌, ◌++◌, string_bytes, take}
 use Rattle.definition_text.specs.BlockLines.{own_lines, last_ending}
-use Rattle.definition_page.specs.Html.{code_of}
+use Rattle.html_bytes.specs.Html.{code_of}
 use Rattle.block_rows.specs.Rows.{piece_lines}
 use Rattle.html_page.proofs.page.Page.code.Given as goal
 

@@ -1,6 +1,6 @@
 use Rattle.std.proofs.Common.{◌≡◌, string_bytes, ◌∙◌, subst}
 use Rattle.std.specs.Result.{OnOk}
-use Rattle.definition_page.specs.Document.{document}
+use Rattle.html_bytes.specs.Document.{document}
 use Rattle.block_rows.specs.Rows.{piece_lines}
 use Rattle.html_text.specs.Texts.{text_tables}
 use Rattle.html_page.proofs.Fenced.{open_laid}

@@ -8,8 +8,8 @@ use Rattle.markdown_options.specs.LineEndings.{ending_bytes}
 use Rattle.block_rows.specs.declared.row.Piece.{Piece}
 use Rattle.definition_text.specs.Lines.{ending_text}
 use Rattle.definition_text.specs.BlockLines.{own_lines, last_ending}
-use Rattle.definition_page.specs.Pieces.{Fresh, print}
-use Rattle.definition_page.specs.Html.{code_of}
+use Rattle.html_bytes.specs.Pieces.{Fresh, print}
+use Rattle.html_bytes.specs.Html.{code_of}
 use Rattle.block_rows.specs.Rows.{piece_line, piece_lines}
 use Rattle.block_rows.proofs.OwnLines.{last_piece_ending}
 use Rattle.html_page.proofs.Fenced.{content_ending, content_laid}

@@ -2,7 +2,7 @@ use Rattle.std.proofs.Common.{◌≡◌, ◌++◌, ◌∙◌, string_bytes, sym,
 use Rattle.std.proofs.lemmas.List.{length-map}
 use Rattle.std.specs.Result.{OnOk}
 use Rattle.block_rows.proofs.RowSteps.{no_piece}
-use Rattle.definition_page.specs.Document.{document, text_of}
+use Rattle.html_bytes.specs.Document.{document, text_of}
 use Rattle.definition_text.specs.BlockLines.{BlockLine, own_lines}
 use Rattle.block_rows.specs.Rows.{piece_line, piece_lines}
 use Rattle.html_text.specs.Texts.{text_tables}

@@ -1,6 +1,6 @@
 use Rattle.std.proofs.Common.{◌≡◌, ◌++◌, ℕ, ◌<◌, string_bytes, sym, subst, get_or, arith}
 use Rattle.std.specs.Result.{OnOk}
-use Rattle.definition_page.specs.HtmlRaw.{raw_html}
+use Rattle.html_bytes.specs.RawHtml.{raw_html}
 use Rattle.html_page.proofs.Owed.{bytes_owed}
 use Rattle.html_page.proofs.page.Page.html_line.Goals as goal
 

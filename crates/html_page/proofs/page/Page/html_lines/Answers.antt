@@ -4,8 +4,8 @@ use Rattle.markdown_options.specs.declared.line_ending.LineEnding.{LineEnding}
 use Rattle.definition_text.specs.Lines.{ending_text}
 use Rattle.definition_text.specs.Columns.{bytes_of}
 use Rattle.definition_text.specs.BlockLines.{BlockLine, own_lines, last_ending}
-use Rattle.definition_page.specs.Html.{html_of}
-use Rattle.definition_page.specs.HtmlRaw.{raw_html}
+use Rattle.html_bytes.specs.Html.{html_of}
+use Rattle.html_bytes.specs.RawHtml.{raw_html}
 use Rattle.block_rows.specs.Rows.{piece_line, piece_lines}
 use Rattle.block_rows.proofs.RowSteps.{no_piece}
 use Rattle.block_rows.proofs.OwnLines.{lines_printed, last_ending_more}

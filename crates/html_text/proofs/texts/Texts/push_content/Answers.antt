@@ -1,5 +1,5 @@
 use Rattle.std.proofs.Common.{ap, ◌∙◌}
-use Rattle.definition_page.specs.Document.{context_of, document}
+use Rattle.html_bytes.specs.Document.{context_of, document}
 use Rattle.definition_inline.specs.Scan.{inlines}
 use Rattle.definition_page.specs.Targets.{linked_at, linked_by}
 use Rattle.inline_content.specs.View.{content_view}

@@ -5,13 +5,12 @@ use Rattle.definition_inline.specs.Inline.{Data}
 use Rattle.definition_inline.specs.Scan as scan
 use Rattle.definition_inline.specs.Scan.{read_tokens, start_bytes}
 use Rattle.definition_inline.specs.Spans.{Item}
-use Rattle.definition_page.specs.InlineHtml.{leads_to}
-use Rattle.definition_page.specs.Targets.{linked_at, linked_by}
+use Rattle.definition_page.specs.InlinePieces.{leads_to}
+use Rattle.definition_page.specs.Targets.{linked_at, linked_by, labels_of}
 use Rattle.inline_content.specs.View.{view_at}
 use Rattle.inline_leaves.specs.Leaves.{size_before}
 use Rattle.inline_parser.specs.Scanned.{context_by, ended_here}
 use Rattle.inline_parser.specs.Shows.{formed_in, unformed_in}
-use Rattle.definition_page.specs.Targets.{labels_of}
 use Rattle.inline_label_ends.specs.Ends.{IsEnded, IsAfterEnd}
 use Rattle.inline_label_ends.proofs.Leading.{target_leads}
 use Rattle.inline_parser.proofs.Placed as placed

@@ -2,7 +2,7 @@ use Rattle.std.proofs.Common.{[], ◌∷◌, ap, ◌∙◌}
 use Rattle.definition_inline.specs.Scan as scan
 use Rattle.definition_inline.specs.Scan.{read_tokens, start_bytes}
 use Rattle.definition_inline.specs.Spans.{Delimiters}
-use Rattle.definition_page.specs.InlineHtml.{leads_to}
+use Rattle.definition_page.specs.InlinePieces.{leads_to}
 use Rattle.definition_page.specs.Targets.{linked_at, linked_by}
 use Rattle.inline_runs.specs.View.{run_view}
 use Rattle.inline_content.specs.View.{view_at}

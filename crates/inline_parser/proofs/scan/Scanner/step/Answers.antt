@@ -5,7 +5,7 @@ use Rattle.definition_inline.specs.Inline.{Data}
 use Rattle.definition_inline.specs.Scan as scan
 use Rattle.definition_inline.specs.Scan.{read_tokens, start_bytes}
 use Rattle.definition_inline.specs.Spans.{Item}
-use Rattle.definition_page.specs.InlineHtml.{leads_to}
+use Rattle.definition_page.specs.InlinePieces.{leads_to}
 use Rattle.definition_page.specs.Targets.{linked_at, linked_by}
 use Rattle.inline_content.specs.View.{view_at}
 use Rattle.inline_leaves.specs.Leaves.{parts_of, found_leaf, IsAfter}

@@ -1,13 +1,13 @@
 -- What the inline structure of a content prints (CommonMark 6).
-use Rattle.std.specs.Prelude.{ℕ, Bool, true, false, if◌then◌else◌, List, [], ◌∷◌, ◌++◌, Option, None, Some, unwrap_or, codes}
+use Rattle.std.specs.Prelude.{ℕ, List, [], ◌∷◌, ◌++◌, Option, None, Some, codes}
 use Rattle.std.specs.List.{flat_map}
 use Rattle.markdown_options.specs.declared.configuration.Constructs.{Constructs}
 use Rattle.markdown_options.specs.declared.configuration.CompileOptions.{CompileOptions}
 use Rattle.definition_text.specs.Columns.{bytes_of, bare}
-use Rattle.definition_text.specs.Content.{is_eol}
 use Rattle.definition_text.specs.Encode.{encode, encoded_byte, plain}
-use Rattle.definition_page.specs.HtmlRaw.{raw_html}
-use Rattle.definition_inline.specs.Inline.{Target, Resource, Reference, Linked, linked, Inline, Data, Escape, Character, Code, Autolink, Html, EscapedBreak, TrailingBreak, LineEnd, Emphasis, Strong, Link, Image, Inlines, Nil, Cons}
+use Rattle.definition_page.specs.InlinePieces.{HtmlLine, html_lines, leads_to, address}
+use Rattle.html_bytes.specs.RawHtml.{raw_html}
+use Rattle.definition_inline.specs.Inline.{Linked, Inline, Data, Escape, Character, Code, Autolink, Html, EscapedBreak, TrailingBreak, LineEnd, Emphasis, Strong, Link, Image, Inlines, Nil, Cons}
 use Rattle.definition_inline.specs.Strings.{string_text, eol_bytes}
 
 -- what is printed is given by: the options, the texts of named characters, what the definition of a label leads to, and how the URL of a link and of an image is printed as a value of its attribute
@@ -18,11 +18,6 @@ pub record InlineMeaning : Type 0 where
   pub definition : List ℕ → Option Linked
   pub link_url : List ℕ → List ℕ
   pub image_url : List ℕ → List ℕ
-
--- where a link or an image leads, by what the definition of a label leads to
-abbrev pub leads_to : (List ℕ → Option Linked) → Target → Linked
-leads_to definition (Resource destination title) = linked destination title
-leads_to definition (Reference label) = unwrap_or (definition label) (linked [] None)
 
 -- the URL of a destination: its text, in which NUL is U+FFFD (CommonMark 6.3)
 abbrev pub url_of : InlineMeaning → Linked → List ℕ
@@ -37,30 +32,7 @@ abbrev pub title_attribute : InlineMeaning → Option (List ℕ) → List ℕ
 title_attribute meaning None = []
 title_attribute meaning (Some title) = titled (string_text meaning.on meaning.names title)
 
--- the address that an autolink leads to (CommonMark 6.5)
-abbrev pub address : Bool → List ℕ → List ℕ
-address true text = codes "mailto:" ++ text
-address false text = text
-
 -- ---- raw HTML
-
--- a line of raw HTML, and the code of its ending, if it has one
-pub record HtmlLine : Type 0 where
-  pub line : List ℕ
-  pub ending : List ℕ
-
-abbrev pub html_text_line : List ℕ → List ℕ → HtmlLine
-html_text_line line ending = record { line = line; ending = ending }
-
--- a code before the first of these lines
-abbrev pub in_first_line : ℕ → List HtmlLine → List HtmlLine
-in_first_line code [] = html_text_line (code ∷ []) [] ∷ []
-in_first_line code (first ∷ others) = html_text_line (code ∷ first.line) first.ending ∷ others
-
--- the lines of codes
-abbrev pub html_lines : List ℕ → List HtmlLine
-html_lines [] = []
-html_lines (c ∷ cs) = if is_eol c then html_text_line [] (c ∷ []) ∷ html_lines cs else in_first_line c (html_lines cs)
 
 -- a line as raw HTML is printed, and its ending as it is
 abbrev pub html_line_bytes : CompileOptions → List ℕ → List ℕ → List ℕ

@@ -1,6 +1,7 @@
 -- The filter of tags in raw HTML (GFM 6.11).
 use Rattle.std.specs.Prelude.{ℕ, Bool, true, if◌then◌else◌, ◌==◌, ◌&&◌, ◌||◌, List, [], ◌∷◌, ◌++◌, codes}
 use Rattle.std.specs.List.{take_while}
+use Rattle.markdown_options.specs.declared.configuration.CompileOptions.{CompileOptions}
 use Rattle.definition_text.specs.Bytes.{is_letter, after_all, without_slash}
 use Rattle.definition_block.specs.HtmlNames.{is_one_of}
 
@@ -28,3 +29,7 @@ is_filtered bytes = begins_with_filtered_name (without_slash bytes)
 abbrev pub tags_filtered : List ℕ → List ℕ
 tags_filtered [] = []
 tags_filtered (b ∷ bs) = (if (b == 60) && is_filtered bs then codes "&lt;" else b ∷ []) ++ tags_filtered bs
+
+-- tags are filtered where that is asked for (GFM 6.11)
+abbrev pub filtered : CompileOptions → List ℕ → List ℕ
+filtered options bytes = if options.gfm_tagfilter then tags_filtered bytes else bytes

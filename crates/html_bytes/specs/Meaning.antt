@@ -3,7 +3,7 @@ use Rattle.std.specs.Prelude.{ℕ, if◌then◌else◌, ◌||◌, List, Option}
 use Rattle.markdown_options.specs.declared.configuration.Constructs.{Constructs}
 use Rattle.markdown_options.specs.declared.configuration.CompileOptions.{CompileOptions}
 use Rattle.definition_inline.specs.Inline.{Linked}
-use Rattle.definition_page.specs.InlineHtml.{InlineMeaning}
+use Rattle.html_bytes.specs.InlineHtml.{InlineMeaning}
 use Rattle.definition_page.specs.Urls.{sanitized, sanitized_with, href_protocols, src_protocols}
 
 -- the URL of a link: only with the protocols that are permitted there, unless all are

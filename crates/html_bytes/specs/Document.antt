@@ -1,5 +1,5 @@
 -- What a document gives to its texts, and what they print.
-use Rattle.std.specs.Prelude.{ℕ, Bool, List, Option}
+use Rattle.std.specs.Prelude.{ℕ, List}
 use Rattle.markdown_options.specs.declared.configuration.Options.{Options}
 use Rattle.definition_text.specs.declared.beside.Kind.TheVariants.{Whitespace}
 use Rattle.definition_text.specs.BlockLines.{BlockLine}
@@ -7,14 +7,10 @@ use Rattle.definition_inline.specs.Definition.{Definition}
 use Rattle.definition_text.specs.InlineCode.{inline_content}
 use Rattle.definition_inline.specs.Scan.{InlineContext, inlines}
 use Rattle.definition_inline.specs.Strings.{string_text}
-use Rattle.definition_page.specs.InlineHtml.{InlineMeaning, inline_html}
-use Rattle.definition_page.specs.Meaning.{inline_meaning}
+use Rattle.html_bytes.specs.InlineHtml.{InlineMeaning, inline_html}
+use Rattle.html_bytes.specs.Meaning.{inline_meaning}
+use Rattle.definition_page.specs.TextTables.{TextTables}
 use Rattle.definition_page.specs.Targets.{is_label_of, linked_by}
-
--- the texts of named characters, and which characters are punctuation
-pub record TextTables : Type 0 where
-  pub names : List ℕ → Option (List ℕ)
-  pub is_punctuation : ℕ → Bool
 
 -- the options, the tables, and the link reference definitions
 pub record Document : Type 0 where

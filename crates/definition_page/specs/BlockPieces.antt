@@ -1,0 +1,121 @@
+-- What the blocks of a page print (CommonMark 4 and 5).
+use Rattle.std.specs.Prelude.{ℕ, ◌+◌, Bool, true, false, if◌then◌else◌, ◌==◌, ◌&&◌, ◌||◌, not, List, [], ◌∷◌, ◌++◌, Option, None, Some, codes, map}
+use Rattle.std.specs.List.{flat_map}
+use Rattle.markdown_options.specs.declared.configuration.CompileOptions.{CompileOptions}
+use Rattle.markdown_options.specs.LineEndings.{ending_bytes}
+use Rattle.definition_text.specs.BlockLines.{BlockLine, own_lines}
+use Rattle.definition_text.specs.Lines.{ending_text}
+use Rattle.definition_text.specs.Columns.{code_byte, bytes_of}
+use Rattle.definition_page.specs.Tags.{Said, Words, Number, Attribute, attribute, Tag, tag, bare_tag}
+use Rattle.definition_page.specs.Pieces.{Piece, Open, Close, Void, Says, Eol, Fresh}
+use Rattle.definition_page.specs.InlinePieces.{Meaning, raw_html, element, inline_pieces}
+use Rattle.definition_page.specs.Page.{Page, Block, Paragraph, Heading, Break, IndentedCode, FencedCode, Html, Definition, Quote, ItemList, Item, Ending, Blank, Blocks, Nil, Cons}
+
+-- where a block stands: at the top of the document or in a container, and whether in an item of a tight list, whose paragraphs have no tags (CommonMark 5.3)
+pub record Place : Type 0 where
+  pub top : Bool
+  pub tight : Bool
+
+abbrev pub at_top : Place
+at_top = record { top = true; tight = false }
+
+abbrev pub inside : Bool → Place
+inside tight = record { top = false; tight = tight }
+
+-- ---- lines
+
+-- a line of code with its ending; the columns that are left of a tab are spaces
+abbrev pub code_line : BlockLine → List Said
+code_line line = Words (map code_byte line.codes) ∷ Words (ending_text line.ending) ∷ []
+
+-- a line of HTML with its ending; the columns that are left of a tab aren't printed
+abbrev pub html_line : CompileOptions → BlockLine → List Said
+html_line options line = raw_html options (bytes_of line.codes) ∷ Words (ending_text line.ending) ∷ []
+
+abbrev pub says : List Said → List Piece
+says parts = map Says parts
+
+-- ---- tags
+
+-- `h1` to `h6`, where 48 is the digit 0
+abbrev pub heading_name : ℕ → List ℕ
+heading_name rank = codes "h" ++ (48 + rank) ∷ []
+
+-- the class of fenced code with an info (CommonMark 4.5)
+abbrev pub info_attributes : Option (List ℕ) → List Attribute
+info_attributes None = []
+info_attributes (Some info) = attribute (codes "class") (codes "language-" ++ info) ∷ []
+
+-- the start of an ordered list, unless it is 1 (CommonMark 5.3)
+abbrev pub start_attributes : ℕ → List Attribute
+start_attributes number = if number == 1 then [] else record { name = codes "start"; value = Number number ∷ [] } ∷ []
+
+abbrev pub list_tag : Option ℕ → Tag
+list_tag None = bare_tag (codes "ul")
+list_tag (Some number) = tag (codes "ol") (start_attributes number)
+
+-- ---- siblings
+
+-- whether an ending prints nothing, given the sibling right before: after a tight paragraph, and after a definition
+abbrev pub is_silent : Place → Option Block → Bool
+is_silent place (Some (Paragraph is)) = place.tight
+is_silent place (Some Definition) = true
+is_silent place b = false
+
+-- the last of these siblings that prints something of its own, or the one before them
+abbrev pub last_shown : Option Block → Blocks → Option Block
+last_shown before Nil = before
+last_shown before (Cons Definition bs) = last_shown before bs
+last_shown before (Cons (Ending ending) bs) = last_shown before bs
+last_shown before (Cons (Blank ending) bs) = last_shown before bs
+last_shown before (Cons b bs) = last_shown (Some b) bs
+
+-- an item whose last child is a tight paragraph, or that has none, ends on the same line
+abbrev pub ends_plainly : Bool → Option Block → Bool
+ends_plainly tight None = true
+ends_plainly tight (Some (Paragraph is)) = tight
+ends_plainly tight (Some b) = false
+
+abbrev pub fresh_unless : Bool → List Piece
+fresh_unless said = if said then [] else Fresh ∷ []
+
+-- the lines of fenced code; where it isn't closed, the default ending is printed in a container for that of its last line, which stands outside
+abbrev pub fenced_pieces : Place → Bool → List BlockLine → List Piece
+fenced_pieces place is_closed [] = []
+fenced_pieces place is_closed (line ∷ others) =
+    says (flat_map code_line (line ∷ others)) ++ (if place.top || is_closed then [] else Eol ∷ []) ++ Fresh ∷ []
+
+-- ---- blocks
+
+abbrev mutual
+  -- a block, or the ending of a line, after this sibling
+  pub block_pieces : Meaning → Place → Option Block → Block → List Piece
+  block_pieces m place before (Paragraph is) =
+      if place.tight then inline_pieces m is else Fresh ∷ element (bare_tag (codes "p")) (inline_pieces m is)
+  block_pieces m place before (Heading rank is) = Fresh ∷ element (bare_tag (heading_name rank)) (inline_pieces m is)
+  block_pieces m place before Break = Fresh ∷ Void (bare_tag (codes "hr")) ∷ []
+  block_pieces m place before (IndentedCode ls) =
+      Fresh ∷ element (bare_tag (codes "pre")) (element (bare_tag (codes "code")) (says (flat_map code_line ls) ++ Fresh ∷ []))
+  block_pieces m place before (FencedCode info is_closed ls) =
+      Fresh ∷ element (bare_tag (codes "pre")) (element (tag (codes "code") (info_attributes info)) (fenced_pieces place is_closed ls))
+      ++ fresh_unless is_closed
+  block_pieces m place before (Html ls) = Fresh ∷ says (flat_map (html_line m.compile) ls)
+  block_pieces m place before Definition = []
+  block_pieces m place before (Quote kids) =
+      Fresh ∷ element (bare_tag (codes "blockquote")) (children_pieces m (inside false) None kids ++ Fresh ∷ [])
+  block_pieces m place before (ItemList number loose items) =
+      Fresh ∷ element (list_tag number) (children_pieces m (inside (not loose)) None items ++ Eol ∷ [])
+  block_pieces m place before (Item kids) =
+      Fresh ∷ element (bare_tag (codes "li"))
+      (children_pieces m (inside place.tight) None kids ++ fresh_unless (ends_plainly place.tight (last_shown None kids)))
+  block_pieces m place before (Ending ending) = if is_silent place before then [] else Says (Words (ending_bytes ending)) ∷ []
+  block_pieces m place before (Blank ending) = []
+
+  -- siblings, one after another, after this one
+  pub children_pieces : Meaning → Place → Option Block → Blocks → List Piece
+  children_pieces m place before Nil = []
+  children_pieces m place before (Cons b bs) = block_pieces m place before b ++ children_pieces m place (Some b) bs
+
+-- the blocks of a document; the ending of a blank line asks for a fresh line where it is the very last
+abbrev pub document_pieces : Meaning → Page → List Piece
+document_pieces m page = children_pieces m at_top None page.blocks ++ fresh_unless (not page.ends_blank)

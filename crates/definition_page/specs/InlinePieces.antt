@@ -1,0 +1,156 @@
+-- What the inline structure of a content prints (CommonMark 6).
+use Rattle.std.specs.Prelude.{ℕ, Bool, true, false, if◌then◌else◌, ◌||◌, List, [], ◌∷◌, ◌++◌, Option, None, Some, codes, map, unwrap_or}
+use Rattle.std.specs.List.{flat_map}
+use Rattle.markdown_options.specs.declared.configuration.Constructs.{Constructs}
+use Rattle.markdown_options.specs.declared.configuration.CompileOptions.{CompileOptions}
+use Rattle.definition_text.specs.Columns.{bytes_of, bare}
+use Rattle.definition_text.specs.Content.{is_eol}
+use Rattle.definition_text.specs.Encode.{plain}
+use Rattle.definition_inline.specs.Inline.{Target, Resource, Reference, Linked, linked, Inline, Data, Escape, Character, Code, Autolink, Html, EscapedBreak, TrailingBreak, LineEnd, Emphasis, Strong, Link, Image, Inlines, Nil, Cons}
+use Rattle.definition_inline.specs.Strings.{string_text}
+use Rattle.definition_page.specs.GfmTagfilter.{filtered}
+use Rattle.definition_page.specs.Urls.{percent, sanitized, permitted, href_protocols, src_protocols}
+use Rattle.definition_page.specs.Tags.{Said, Words, AsItIs, EndOfLine, Attribute, attribute, Tag, tag, bare_tag}
+use Rattle.definition_page.specs.Pieces.{Piece, Open, Close, Void, Says}
+
+-- what is printed by: the constructs that are on, the options, the texts of named characters, and what the definition of a label leads to
+pub record Meaning : Type 0 where
+  pub on : Constructs
+  pub compile : CompileOptions
+  pub names : List ℕ → Option (List ℕ)
+  pub definition : List ℕ → Option Linked
+
+-- ---- raw HTML
+
+-- raw HTML is printed as it is where that is allowed, and otherwise as text
+abbrev pub raw_html : CompileOptions → List ℕ → Said
+raw_html options html = if options.allow_dangerous_html then AsItIs (filtered options html) else Words html
+
+-- the lines of raw HTML by its codes, each with the code of its ending
+pub record HtmlLine : Type 0 where
+  pub line : List ℕ
+  pub ending : List ℕ
+
+abbrev pub html_text_line : List ℕ → List ℕ → HtmlLine
+html_text_line line ending = record { line = line; ending = ending }
+
+abbrev pub in_first_line : ℕ → List HtmlLine → List HtmlLine
+in_first_line code [] = html_text_line (code ∷ []) [] ∷ []
+in_first_line code (first ∷ others) = html_text_line (code ∷ first.line) first.ending ∷ others
+
+abbrev pub html_lines : List ℕ → List HtmlLine
+html_lines [] = []
+html_lines (c ∷ cs) = if is_eol c then html_text_line [] (c ∷ []) ∷ html_lines cs else in_first_line c (html_lines cs)
+
+-- a line, and its ending as it is
+abbrev pub html_line_says : CompileOptions → List ℕ → List ℕ → List Said
+html_line_says options line ending = raw_html options (bytes_of line) ∷ map EndOfLine ending
+
+-- a later line, without the spaces and tabs at its start (CommonMark 6.6)
+abbrev pub later_line_says : CompileOptions → HtmlLine → List Said
+later_line_says options l = html_line_says options (bare l.line) l.ending
+
+abbrev pub html_lines_say : CompileOptions → List HtmlLine → List Said
+html_lines_say options [] = []
+html_lines_say options (first ∷ others) = html_line_says options first.line first.ending ++ flat_map (later_line_says options) others
+
+abbrev pub html_says : CompileOptions → List ℕ → List Said
+html_says options html = html_lines_say options (html_lines html)
+
+-- ---- links
+
+-- a URL, if it has one of these protocols or none, or all are allowed; otherwise the empty one
+abbrev pub permitted_url : Bool → List (List ℕ) → List ℕ → List ℕ
+permitted_url all protocols url = if all || permitted protocols (sanitized url) then percent url else []
+
+abbrev pub link_url : CompileOptions → List ℕ → List ℕ
+link_url options url = permitted_url options.allow_dangerous_protocol href_protocols url
+
+abbrev pub image_url : CompileOptions → List ℕ → List ℕ
+image_url options url = permitted_url (options.allow_any_img_src || options.allow_dangerous_protocol) src_protocols url
+
+-- where a link or an image leads, by what the definition of a label leads to
+abbrev pub leads_to : (List ℕ → Option Linked) → Target → Linked
+leads_to definition (Resource destination title) = linked destination title
+leads_to definition (Reference label) = unwrap_or (definition label) (linked [] None)
+
+-- the URL of a destination: its text, in which NUL is U+FFFD (CommonMark 6.3)
+abbrev pub url_of : Meaning → Linked → List ℕ
+url_of m target = plain (string_text m.on m.names target.destination)
+
+-- the attribute of a title that isn't empty
+abbrev pub titled : List ℕ → List Attribute
+titled [] = []
+titled (b ∷ bs) = attribute (codes "title") (b ∷ bs) ∷ []
+
+abbrev pub title_attribute : Meaning → Option (List ℕ) → List Attribute
+title_attribute m None = []
+title_attribute m (Some title) = titled (string_text m.on m.names title)
+
+-- the start tag of a link (CommonMark 6.3)
+abbrev pub link_tag : Meaning → Linked → Tag
+link_tag m target = tag (codes "a") (attribute (codes "href") (link_url m.compile (url_of m target)) ∷ title_attribute m target.title)
+
+-- the tag of an image, with what its description says (CommonMark 6.4)
+abbrev pub image_tag : Meaning → Linked → List Said → Tag
+image_tag m target description =
+    tag (codes "img")
+    (attribute (codes "src") (image_url m.compile (url_of m target))
+    ∷ record { name = codes "alt"; value = description }
+    ∷ title_attribute m target.title)
+
+-- the address that an autolink leads to (CommonMark 6.5)
+abbrev pub address : Bool → List ℕ → List ℕ
+address true text = codes "mailto:" ++ text
+address false text = text
+
+-- ---- the description of an image: what its parts say, without tags (CommonMark 6.4)
+
+abbrev mutual
+  pub part_says : CompileOptions → Inline → List Said
+  part_says options (Data b) = Words (b ∷ []) ∷ []
+  part_says options (Escape b) = Words (b ∷ []) ∷ []
+  part_says options (Character text) = Words text ∷ []
+  part_says options (Code text) = Words text ∷ []
+  part_says options (Autolink is_email text) = Words text ∷ []
+  part_says options (Html html) = html_says options html
+  part_says options EscapedBreak = []
+  part_says options TrailingBreak = []
+  part_says options (LineEnd code) = EndOfLine code ∷ []
+  part_says options (Emphasis kids) = description options kids
+  part_says options (Strong kids) = description options kids
+  part_says options (Link target kids) = description options kids
+  part_says options (Image target kids) = description options kids
+
+  pub description : CompileOptions → Inlines → List Said
+  description options Nil = []
+  description options (Cons i is) = part_says options i ++ description options is
+
+-- ---- pieces
+
+-- an element around pieces
+abbrev pub element : Tag → List Piece → List Piece
+element t inside = Open t ∷ inside ++ Close t.name ∷ []
+
+abbrev mutual
+  -- what a part prints (CommonMark 6)
+  pub part_pieces : Meaning → Inline → List Piece
+  part_pieces m (Data b) = Says (Words (b ∷ [])) ∷ []
+  part_pieces m (Escape b) = Says (Words (b ∷ [])) ∷ []
+  part_pieces m (Character text) = Says (Words text) ∷ []
+  part_pieces m (Code text) = element (bare_tag (codes "code")) (Says (Words text) ∷ [])
+  part_pieces m (Autolink is_email text) =
+      element (tag (codes "a") (attribute (codes "href") (link_url m.compile (address is_email text)) ∷ [])) (Says (Words text) ∷ [])
+  part_pieces m (Html html) = map Says (html_says m.compile html)
+  part_pieces m EscapedBreak = Void (bare_tag (codes "br")) ∷ []
+  part_pieces m TrailingBreak = Void (bare_tag (codes "br")) ∷ []
+  part_pieces m (LineEnd code) = Says (EndOfLine code) ∷ []
+  part_pieces m (Emphasis kids) = element (bare_tag (codes "em")) (inline_pieces m kids)
+  part_pieces m (Strong kids) = element (bare_tag (codes "strong")) (inline_pieces m kids)
+  part_pieces m (Link target kids) = element (link_tag m (leads_to m.definition target)) (inline_pieces m kids)
+  part_pieces m (Image target kids) = Void (image_tag m (leads_to m.definition target) (description m.compile kids)) ∷ []
+
+  -- what parts print, one after another
+  pub inline_pieces : Meaning → Inlines → List Piece
+  inline_pieces m Nil = []
+  inline_pieces m (Cons i is) = part_pieces m i ++ inline_pieces m is

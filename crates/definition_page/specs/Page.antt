@@ -1,0 +1,42 @@
+-- A page: the blocks of a document with their inline structure, as it is printed.
+use Rattle.std.specs.Prelude.{ℕ, Bool, List, Option, None, Some}
+use Rattle.markdown_options.specs.declared.line_ending.LineEnding.{LineEnding}
+use Rattle.definition_text.specs.BlockLines.{BlockLine}
+use Rattle.definition_inline.specs.Definition as link
+use Rattle.definition_inline.specs.Inline.{Inlines}
+
+-- A block, or the ending of a line between blocks: a paragraph; a heading of a rank; a thematic break; indented code; fenced code with the text of its info, if it has one, and whether it was closed; an HTML block; a link reference definition; a block quote; a list with the number of its first item, if it is ordered, whether it is loose, and its items; an item; the ending of a block's last line; the ending of a blank line.
+mutual
+  pub data Block : Type 0 where
+    Paragraph : Inlines → Block
+    Heading : ℕ → Inlines → Block
+    Break : Block
+    IndentedCode : List BlockLine → Block
+    FencedCode : Option (List ℕ) → Bool → List BlockLine → Block
+    Html : List BlockLine → Block
+    Definition : Block
+    Quote : Blocks → Block
+    ItemList : Option ℕ → Bool → Blocks → Block
+    Item : Blocks → Block
+    Ending : LineEnding → Block
+    Blank : LineEnding → Block
+
+  pub data Blocks : Type 0 where
+    Nil : Blocks
+    Cons : Block → Blocks → Blocks
+
+-- the blocks of a document, its link reference definitions in the order of the text, repeats kept, and whether the text's very last child is the ending of a blank line
+pub record Page : Type 0 where
+  pub blocks : Blocks
+  pub definitions : List link.Definition
+  pub ends_blank : Bool
+
+-- an ending before these blocks, if there is one
+abbrev pub cons_ending : Option LineEnding → Blocks → Blocks
+cons_ending None bs = bs
+cons_ending (Some ending) bs = Cons (Ending ending) bs
+
+-- the same for that of a blank line
+abbrev pub cons_blank : Option LineEnding → Blocks → Blocks
+cons_blank None bs = bs
+cons_blank (Some ending) bs = Cons (Blank ending) bs

@@ -1,0 +1,7 @@
+-- The tables that a text is read by.
+use Rattle.std.specs.Prelude.{ℕ, Bool, List, Option}
+
+-- the texts of named characters, and which characters are punctuation
+pub record TextTables : Type 0 where
+  pub names : List ℕ → Option (List ℕ)
+  pub is_punctuation : ℕ → Bool

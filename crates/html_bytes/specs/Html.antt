@@ -1,0 +1,143 @@
+-- The HTML of a text, in bytes.
+use Rattle.std.specs.Prelude.{ℕ, ◌+◌, Bool, true, false, if◌then◌else◌, ◌==◌, ◌&&◌, ◌||◌, not, List, [], ◌∷◌, ◌++◌, Option, None, Some, unwrap_or, codes, map}
+use Rattle.std.specs.List.{flat_map}
+use Rattle.std.specs.Fmt.{decimal}
+use Rattle.markdown_options.specs.declared.line_ending.LineEnding.{LineEnding}
+use Rattle.markdown_options.specs.declared.configuration.CompileOptions.{CompileOptions}
+use Rattle.markdown_options.specs.declared.configuration.Options.{Options}
+use Rattle.markdown_options.specs.LineEndings.{ending_bytes}
+use Rattle.definition_block.specs.declared.container.Container.TheVariants.{Quote, Item}
+use Rattle.definition_text.specs.declared.beside.Kind.{Kind}
+use Rattle.definition_text.specs.Lines.{ending_text, first_line}
+use Rattle.definition_text.specs.Columns.{code_byte, bytes_of}
+use Rattle.definition_text.specs.Encode.{encode}
+use Rattle.html_bytes.specs.RawHtml.{raw_html}
+use Rattle.definition_text.specs.BlockLines.{BlockLine, own_lines}
+use Rattle.definition_block.specs.Tree.{Block, Paragraph, Heading, Break, IndentedCode, FencedCode, Html, Definition, Holds, Items, Ending, Blank, Blocks, Nil, Cons, is_ending, blocks}
+use Rattle.definition_block.specs.Lists.{grouped, is_loose}
+use Rattle.definition_page.specs.Targets.{document_definitions}
+use Rattle.definition_page.specs.TextTables.{TextTables}
+use Rattle.definition_page.specs.Read.{list_number, ends_blank}
+use Rattle.html_bytes.specs.Document.{Document, document, text_of, info_of}
+use Rattle.html_bytes.specs.Pieces.{Piece, Bytes, Eol, Fresh, layout}
+
+-- ---- lines
+
+-- lines of code with their endings
+abbrev pub code_line : BlockLine → List ℕ
+code_line line = encode (map code_byte line.codes) ++ ending_text line.ending
+
+abbrev pub code_of : List BlockLine → List ℕ
+code_of ls = flat_map code_line ls
+
+-- lines of HTML with their endings; the columns that are left of a tab aren't printed
+abbrev pub html_line : CompileOptions → BlockLine → List ℕ
+html_line options line = raw_html options (bytes_of line.codes) ++ ending_text line.ending
+
+abbrev pub html_of : CompileOptions → List BlockLine → List ℕ
+html_of options ls = flat_map (html_line options) ls
+
+-- ---- tags, where 48 is the digit 0
+
+abbrev pub heading_tag : ℕ → List ℕ
+heading_tag rank = codes "<h" ++ (48 + rank) ∷ codes ">"
+
+abbrev pub heading_end : ℕ → List ℕ
+heading_end rank = codes "</h" ++ (48 + rank) ∷ codes ">"
+
+-- the class of fenced code with an info (CommonMark 4.5)
+abbrev pub class_of : Document → List ℕ → List ℕ
+class_of d [] = []
+class_of d (b ∷ bs) = codes " class=\"language-" ++ encode (info_of d (b ∷ bs)) ++ codes "\""
+
+-- the start of an ordered list, unless it is 1
+abbrev pub start_of : ℕ → List ℕ
+start_of number = if number == 1 then [] else (codes " start=\"" ++ decimal number ++ codes "\"")
+
+abbrev pub number_tag : Option ℕ → List ℕ
+number_tag None = codes "<ul>"
+number_tag (Some number) = codes "<ol" ++ start_of number ++ codes ">"
+
+abbrev pub number_end : Option ℕ → List ℕ
+number_end None = codes "</ul>"
+number_end (Some number) = codes "</ol>"
+
+-- ---- pieces
+
+-- Fenced code that isn't closed has the ending of its last line, too: at the top that is one of its content, inside a container it stands outside and the default one is printed.
+abbrev pub fenced_lines : Bool → Bool → List BlockLine → List Piece
+fenced_lines top closed ls =
+    if top || closed then Bytes (code_of ls) ∷ [] else Bytes (code_of (own_lines ls)) ∷ Eol ∷ []
+
+abbrev pub fenced_content : Bool → Bool → List BlockLine → List Piece
+fenced_content top closed [] = []
+fenced_content top closed (line ∷ others) = fenced_lines top closed (line ∷ others) ++ Fresh ∷ []
+
+abbrev pub fresh_unless : Bool → List Piece
+fresh_unless said = if said then [] else Fresh ∷ []
+
+-- whether the ending after this child prints nothing: after a tight paragraph, after fenced code at the top that isn't closed, and after a definition; an ending that isn't there changes nothing
+abbrev pub silences : Bool → Bool → Bool → Block → Bool
+silences top tight silent (Paragraph ls) = tight
+silences top tight silent (FencedCode info closed ls) = top && not closed
+silences top tight silent (Definition label destination title) = true
+silences top tight silent (Ending None) = silent
+silences top tight silent (Blank None) = silent
+silences top tight silent b = false
+
+-- whether the last block of an item that prints anything, if it has one, is a tight paragraph; `before` says it of the blocks before
+abbrev pub ends_tight : Bool → Bool → Blocks → Bool
+ends_tight tight before Nil = before
+ends_tight tight before (Cons (Paragraph ls) bs) = ends_tight tight tight bs
+ends_tight tight before (Cons (Definition label destination title) bs) = ends_tight tight before bs
+ends_tight tight before (Cons b bs) = ends_tight tight (before && is_ending b) bs
+
+abbrev mutual
+  -- a child, at the top or not, of a tight item or not, after a child that silences an ending or not
+  pub block_pieces : Document → Bool → Bool → Bool → Block → List Piece
+  block_pieces d top tight silent (Paragraph ls) =
+      if tight then Bytes (text_of d ls) ∷ [] else Fresh ∷ Bytes (codes "<p>") ∷ Bytes (text_of d ls) ∷ Bytes (codes "</p>") ∷ []
+  block_pieces d top tight silent (Heading rank ls) =
+      Fresh ∷ Bytes (heading_tag rank) ∷ Bytes (text_of d ls) ∷ Bytes (heading_end rank) ∷ []
+  block_pieces d top tight silent Break = Fresh ∷ Bytes (codes "<hr />") ∷ []
+  block_pieces d top tight silent (IndentedCode ls) =
+      Fresh ∷ Bytes (codes "<pre><code>") ∷ Bytes (code_of ls) ∷ Fresh ∷ Bytes (codes "</code></pre>") ∷ []
+  block_pieces d top tight silent (FencedCode info closed ls) =
+      Fresh ∷ Bytes (codes "<pre><code" ++ class_of d info ++ codes ">") ∷ fenced_content top closed ls
+      ++ Bytes (codes "</code></pre>") ∷ fresh_unless closed
+  block_pieces d top tight silent (Html ls) = Fresh ∷ Bytes (html_of d.options.compile ls) ∷ []
+  block_pieces d top tight silent (Definition label destination title) = []
+  block_pieces d top tight silent (Holds Quote kids) =
+      Fresh ∷ Bytes (codes "<blockquote>") ∷ children_pieces d false false false kids ++ Fresh ∷ Bytes (codes "</blockquote>") ∷ []
+  block_pieces d top tight silent (Holds (Item item) kids) =
+      Fresh ∷ Bytes (codes "<li>") ∷ children_pieces d false tight false kids ++ fresh_unless (ends_tight tight true kids) ++ Bytes (codes "</li>") ∷ []
+  block_pieces d top tight silent (Items items) =
+      Fresh ∷ Bytes (number_tag (list_number items)) ∷ children_pieces d false (not (is_loose items)) false items
+      ++ Eol ∷ Bytes (number_end (list_number items)) ∷ []
+  block_pieces d top tight silent (Ending ending) = if silent then [] else Bytes (ending_text ending) ∷ []
+  block_pieces d top tight silent (Blank ending) = []
+
+  pub children_pieces : Document → Bool → Bool → Bool → Blocks → List Piece
+  children_pieces d top tight silent Nil = []
+  children_pieces d top tight silent (Cons b bs) = block_pieces d top tight silent b ++ children_pieces d top tight (silences top tight silent b) bs
+
+-- the ending of a blank line asks for a fresh line where it is the very last
+abbrev pub last_piece : Bool → List Piece
+last_piece blank = if blank then Fresh ∷ [] else []
+
+abbrev pub document_pieces : Document → Blocks → List Piece
+document_pieces d bs = children_pieces d true false false (grouped bs) ++ last_piece (ends_blank false bs)
+
+-- ---- the whole
+
+-- the text's first ending, or the one of the options
+abbrev pub default_ending : Options → List ℕ → LineEnding
+default_ending options text = unwrap_or (first_line text).ending options.compile.default_line_ending
+
+-- the HTML of blocks, by all definitions among them
+abbrev pub blocks_html : TextTables → Options → LineEnding → Blocks → List ℕ
+blocks_html tables options ending bs = layout (ending_bytes ending) (document_pieces (document options tables (document_definitions bs)) bs)
+
+-- the HTML of a text without a byte order mark, after a character of this kind
+abbrev pub marked_html : TextTables → Kind → List ℕ → Options → List ℕ
+marked_html tables before text options = blocks_html tables options (default_ending options text) (blocks options.parse.constructs before text)
