@@ -12,7 +12,7 @@ ghost use Rattle.definition_text.specs.BlockLines.{own_lines};
 ghost use Rattle.definition_block.specs.Tree.{IndentedCode, FencedCode};
 ghost use Rattle.html_bytes.specs.Html.{block_pieces, class_of, code_of, fenced_content};
 ghost use Rattle.block_rows.specs.Rows.{piece_lines};
-ghost use Rattle.html_text.specs.Texts.{text_tables};
+ghost use Rattle.definition_page.specs.TextTables.{text_tables};
 ghost use Rattle.html_page.specs.Printed.{laid};
 
 use crate::page::Page;

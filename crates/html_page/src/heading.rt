@@ -6,7 +6,8 @@ ghost use Rattle.definition_text.specs.BlockLines.{own_lines};
 ghost use Rattle.definition_block.specs.Tree.{Heading};
 ghost use Rattle.html_bytes.specs.Html.{block_pieces};
 ghost use Rattle.block_rows.specs.Rows.{piece_lines};
-ghost use Rattle.html_text.specs.Texts.{HasDefinitions, text_tables};
+ghost use Rattle.definition_page.specs.TextTables.{text_tables};
+ghost use Rattle.html_text.specs.Texts.{HasDefinitions};
 ghost use Rattle.html_page.specs.Printable.{AreHeadingLines};
 ghost use Rattle.html_page.specs.Printed.{laid};
 

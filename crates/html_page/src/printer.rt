@@ -8,7 +8,8 @@ ghost use Rattle.definition_block.specs.Tree.{Blocks};
 ghost use Rattle.html_bytes.specs.Pieces.{layout};
 ghost use Rattle.html_bytes.specs.Html.{document_pieces};
 ghost use Rattle.block_rows.specs.Rows.{all_taken, lines_taken, piece_lines, rows_of, row_shown, shown};
-ghost use Rattle.html_text.specs.Texts.{HasDefinitions, text_tables};
+ghost use Rattle.definition_page.specs.TextTables.{text_tables};
+ghost use Rattle.html_text.specs.Texts.{HasDefinitions};
 ghost use Rattle.html_page.specs.Printable.{IsPrintableRow, ArePrintable, CanBePrinted};
 ghost use Rattle.html_page.specs.Printed.{ends_blank_rows, is_blank_row, printed_of, row_printed};
 

@@ -1,6 +1,5 @@
 -- What the texts of a document are read by.
-use Rattle.std.specs.Prelude.{◌≡◌, ℕ, Bool, List, Option, map}
-use Rattle.definition_page.specs.TextTables.{TextTables}
+use Rattle.std.specs.Prelude.{◌≡◌, List, map}
 use Rattle.definition_inline.specs.Inline as inline
 use Rattle.definition_inline.specs.Definition.{Definition}
 use Rattle.definition_page.specs.Targets.{labels_of}
@@ -8,10 +7,6 @@ use Rattle.inline_labels.specs.declared.table.LabelTable.{LabelTable}
 use Rattle.inline_labels.specs.Table.{HasLabels}
 use Rattle.inline_rows.specs.declared.row.Linked.{Linked}
 use Rattle.inline_rows.specs.View.{linked_view}
-
--- the tables of a document
-abbrev pub text_tables : (List ℕ → Option (List ℕ)) → (ℕ → Bool) → TextTables
-text_tables names is_punctuation = record { names = names; is_punctuation = is_punctuation }
 
 -- a table has the labels of a document's definitions, and these links lead where they do, in their order
 pub record HasDefinitions {A : Type 0} (labels : LabelTable A) (links : List Linked) (ds : List Definition) : Type 0 where

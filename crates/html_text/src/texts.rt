@@ -9,7 +9,8 @@ ghost use Rattle.block_rows.specs.Rows.{piece_line, piece_lines, whole_lines};
 ghost use Rattle.definition_inline.specs.Scan.{inlines};
 ghost use Rattle.definition_text.specs.BlockLines.{own_lines};
 ghost use Rattle.inline_content.specs.View.{content_view};
-ghost use Rattle.html_text.specs.Texts.{HasDefinitions, text_tables};
+ghost use Rattle.definition_page.specs.TextTables.{text_tables};
+ghost use Rattle.html_text.specs.Texts.{HasDefinitions};
 
 use crate::buffers::TextBuffers;
 use inline_content::{Content, whole_content};

@@ -1,16 +1,16 @@
 -- What several reads and writes did together.
-use Rattle.std.proofs.Common.{◌≡◌, ℕ, ◌+◌, ◌<◌, List, [], Option, None, Some, IfSome, length, take, drop, refl, sym, ap, ◌∙◌, subst, arith, Bool, true, false, eqb, ◌||◌, ◌&&◌}
-use Rattle.std.proofs.lemmas.Bool.{or_from, and_left, ne_eqb}
-use Rattle.std.specs.Prelude.{Result, Ok, Err, IfErr, OnErr, OnOk}
+use Rattle.std.proofs.Common.{◌≡◌, ℕ, ◌+◌, ◌-◌, ◌<◌, ◌≤◌, List, [], Option, None, Some, IfSome, length, take, drop, refl, sym, ap, ◌∙◌, subst, arith, Bool, true, false, eqb, ltb, ◌||◌, ◌&&◌, inl, inr}
+use Rattle.std.proofs.lemmas.Bool.{or_from, and_left, ne_eqb, cases_lt, lt-ltb, le-ltb, ltb-false}
+use Rattle.std.specs.Prelude.{Result, Ok, Err, IfErr, OnOk}
 use Rattle.std.specs.Io.{StartsWith, appended_bytes}
 use Rattle.std.specs.Io.KnownBytes.{Appends, Consumes, IsAtEnd, Keeps}
-use Rattle.std.proofs.KnownBytes.{Appends-nil, Appends-kept, Appends-trans, Consumes-trans, Consumes-whole, starts_with_rest}
-use Rattle.std.proofs.lemmas.List.{length-append, take_all}
+use Rattle.std.proofs.KnownBytes.{Appends-kept, Appends-trans, Consumes-trans, Consumes-whole, starts_with_rest}
+use Rattle.std.proofs.lemmas.List.{length-append}
 use Rattle.std.proofs.Math.Seq.{take-add}
 use Rattle.markdown_options.specs.declared.configuration.Options.{Options}
 use Rattle.definition_page.specs.Html.{html}
-use Rattle.markdown_tables.specs.Builtin.{builtin_tables}
-use Rattle.markdown.specs.Run.{AppendsBeginning}
+use Rattle.definition_page.specs.TextTables.{TextTables}
+use Rattle.markdown.specs.Transfer.{AppendsAllOrNothing, AppendsBeginning, RefusesPast, TellsMore}
 
 -- the next write goes on where the last one ended
 pub Appends-more : (a b c : Option (List ℕ)) (bytes : List ℕ) (at n : ℕ) → Appends a b (take at bytes) → Appends b c (take n (drop at bytes)) → Appends a c (take (at + n) bytes)
@@ -25,56 +25,86 @@ Consumes-next a b c old new first starts second =
 pub Consumes-all_read : (a c : Option (List ℕ)) (bytes : List ℕ) → Consumes a c bytes → IsAtEnd c → IfSome a (λ text. bytes ≡ text)
 Consumes-all_read a c bytes took end = Consumes-whole a c bytes (λ text. bytes ≡ text) took end refl
 
--- what is too much with what was read is too much
-pub too_much : (a b : Option (List ℕ)) (bytes : List ℕ) (len most : ℕ) → len ≡ length bytes → Consumes a b bytes → IfSome b (λ text. most < len + length text) → IfSome a (λ text. most < length text)
-too_much None b bytes len most same took more = tt
-too_much (Some x) None bytes len most same took more = absurd took
-too_much (Some x) (Some y) bytes len most same took more = omega (arith, ap length took, length-append bytes y)
+-- two orders that go together
+same_order : (a b c d : ℕ) → (a < b → c < d) → (c < d → a < b) → ltb a b ≡ ltb c d
+same_order a b c d there back =
+    elim (cases_lt a b) [
+      | inl h ↦ lt-ltb a b h ∙ sym (lt-ltb c d (there h))
+      | inr h ↦ elim (cases_lt c d) [ inl k ↦ let below = back k in absurd (omega arith) | inr k ↦ le-ltb a b h ∙ sym (le-ltb c d k) ]
+    ]
+
+-- what a read refused, after what was read before it
+pub RefusesPast-after : (a b c : Option (List ℕ)) (bytes : List ℕ) (most len : ℕ) (refused : Bool) → len ≡ length bytes → len ≤ most → Consumes a b bytes
+    → RefusesPast (most - len) b c refused → RefusesPast most a c refused
+RefusesPast-after None b c bytes most len refused same fits took more = tt
+RefusesPast-after (Some x) None c bytes most len refused same fits took more = absurd took
+RefusesPast-after (Some x) (Some y) None bytes most len refused same fits took more = tt
+RefusesPast-after (Some x) (Some y) (Some z) bytes most len refused same fits took more =
+    let sizes = ap length took ∙ length-append bytes y in
+    more ∙ same_order _ _ _ _ (λ below. omega (arith, sizes)) (λ below. omega (arith, sizes))
+
+-- a read took so many bytes, which are refused if they are more than the most
+pub RefusesPast-taken : (a b : Option (List ℕ)) (bytes : List ℕ) (most n : ℕ) (refused : Bool) → n ≡ length bytes → Consumes a b bytes → refused ≡ ltb most n → RefusesPast most a b refused
+RefusesPast-taken None b bytes most n refused same took is = tt
+RefusesPast-taken (Some x) None bytes most n refused same took is = absurd took
+RefusesPast-taken (Some x) (Some y) bytes most n refused same took is =
+    let sizes = ap length took ∙ length-append bytes y in
+    is ∙ same_order _ _ _ _ (λ below. omega (arith, sizes)) (λ below. omega (arith, sizes))
+
+-- nothing was read, and nothing is refused
+pub RefusesPast-kept : (a b : Option (List ℕ)) (most : ℕ) → Keeps a b → RefusesPast most a b false
+RefusesPast-kept None b most kept = tt
+RefusesPast-kept (Some x) None most kept = absurd kept
+RefusesPast-kept (Some x) (Some y) most kept = RefusesPast-taken (Some x) (Some y) [] most 0 false refl (sym kept) (sym (le-ltb most 0 (omega arith)))
+
+-- where nothing is refused, no more was read
+pub not_more : (a b : Option (List ℕ)) (most : ℕ) → RefusesPast most a b false → TellsMore most a b → ⊥
+not_more None b most none more = absurd more
+not_more (Some x) None most none more = absurd more
+not_more (Some x) (Some y) most none more = let within = ltb-false (most + length y) (length x) (sym none) in omega (arith, within, more)
 
 -- a write that took some bytes is no failure
 pub still_working : (old new some : Bool) (n : ℕ) → new ≡ (old || ((eqb n 0) && some)) → old ≡ false → (n ≡ 0 → ⊥) → new ≡ false
 still_working old new some n e was took = e ∙ or_from old (eqb n 0 && some) was (and_left (eqb n 0) some (ne_eqb n 0 took))
 
+-- a read that gave some bytes is no end
+pub still_going : (old new : Bool) (n : ℕ) → new ≡ (old || eqb n 0) → (n ≡ 0 → ⊥) → new ≡ old
+still_going true new n e some = e
+still_going false new n e some = e ∙ ne_eqb n 0 some
+
 -- the page of the bytes that were read is that of the text
-pub page_of_text : (known old new : Option (List ℕ)) (bytes page : List ℕ) (options : Options) → IfSome known (λ text. bytes ≡ text) → page ≡ html builtin_tables bytes options
-    → Appends old new page → IfSome known (λ text. Appends old new (html builtin_tables text options))
-page_of_text None old new bytes page options read made wrote = tt
-page_of_text (Some x) old new bytes page options read made wrote = subst (Appends old new) (made ∙ ap (λ t. html builtin_tables t options) read) wrote
+pub page_of_text : (known old new : Option (List ℕ)) (bytes page : List ℕ) (tables : TextTables) (options : Options) → IfSome known (λ text. bytes ≡ text) → page ≡ html tables bytes options
+    → Appends old new page → IfSome known (λ text. Appends old new (html tables text options))
+page_of_text None old new bytes page tables options read made wrote = tt
+page_of_text (Some x) old new bytes page tables options read made wrote = subst (Appends old new) (made ∙ ap (λ t. html tables t options) read) wrote
 
 -- a beginning of it is one of the text's page
-pub begins_of_text : (known old new : Option (List ℕ)) (bytes page : List ℕ) (options : Options) → IfSome known (λ text. bytes ≡ text) → page ≡ html builtin_tables bytes options
-    → AppendsBeginning old new page → IfSome known (λ text. AppendsBeginning old new (html builtin_tables text options))
-begins_of_text None old new bytes page options read made wrote = tt
-begins_of_text (Some x) old new bytes page options read made wrote =
-    subst (AppendsBeginning old new) (made ∙ ap (λ t. html builtin_tables t options) read) wrote
+pub begins_of_text : (known old new : Option (List ℕ)) (bytes page : List ℕ) (tables : TextTables) (options : Options) → IfSome known (λ text. bytes ≡ text) → page ≡ html tables bytes options
+    → AppendsBeginning old new page → IfSome known (λ text. AppendsBeginning old new (html tables text options))
+begins_of_text None old new bytes page tables options read made wrote = tt
+begins_of_text (Some x) old new bytes page tables options read made wrote =
+    subst (AppendsBeginning old new) (made ∙ ap (λ t. html tables t options) read) wrote
 
 -- ---- a run and a flush
 
 -- nothing was written
-pub begins_kept : (known a b : Option (List ℕ)) (options : Options) → Keeps a b → IfSome known (λ text. AppendsBeginning a b (html builtin_tables text options))
-begins_kept None a b options kept = tt
-begins_kept (Some x) a b options kept = (0, Appends-kept a a b [] (Appends-nil a) kept)
+pub nothing_kept : (known a b : Option (List ℕ)) (tables : TextTables) (options : Options) → Keeps a b → IfSome known (λ text. AppendsAllOrNothing a b (html tables text options))
+nothing_kept None a b tables options kept = tt
+nothing_kept (Some x) a b tables options kept = inr kept
 
 -- all was written before a flush
-pub written_kept : (known a b c : Option (List ℕ)) (options : Options) → IfSome known (λ text. Appends a b (html builtin_tables text options)) → Keeps b c
-    → IfSome known (λ text. Appends a c (html builtin_tables text options))
-written_kept None a b c options wrote kept = tt
-written_kept (Some x) a b c options wrote kept = Appends-kept a b c (html builtin_tables x options) wrote kept
+pub written_kept : (known a b c : Option (List ℕ)) (tables : TextTables) (options : Options) → IfSome known (λ text. Appends a b (html tables text options)) → Keeps b c
+    → IfSome known (λ text. Appends a c (html tables text options))
+written_kept None a b c tables options wrote kept = tt
+written_kept (Some x) a b c tables options wrote kept = Appends-kept a b c (html tables x options) wrote kept
 
--- a whole page is a beginning of itself
-pub begins_whole : (known a c : Option (List ℕ)) (options : Options) → IfSome known (λ text. Appends a c (html builtin_tables text options))
-    → IfSome known (λ text. AppendsBeginning a c (html builtin_tables text options))
-begins_whole None a c options wrote = tt
-begins_whole (Some x) a c options wrote =
-    let page = html builtin_tables x options in
-    (length page, subst (Appends a c) (sym (take_all (length page) page (omega arith))) wrote)
+-- so all was written after it
+pub all_kept : (known a b c : Option (List ℕ)) (tables : TextTables) (options : Options) → IfSome known (λ text. Appends a b (html tables text options)) → Keeps b c
+    → IfSome known (λ text. AppendsAllOrNothing a c (html tables text options))
+all_kept None a b c tables options wrote kept = tt
+all_kept (Some x) a b c tables options wrote kept = inl (Appends-kept a b c (html tables x options) wrote kept)
 
--- what holds holds of an error
-pub on_err_from : {T E P : Type 0} (r : Result T E) → P → OnErr r P
-on_err_from (Ok x) p = tt
-on_err_from (Err e) p = p
-
--- also of one that passes a test
+-- what holds holds of an error that passes a test
 pub if_err_from : {T E P : Type 0} (test : E → Bool) (r : Result T E) → P → IfErr r (λ e. test e ≡ true → P)
 if_err_from test (Ok x) p = tt
 if_err_from test (Err e) p = λ _. p

@@ -1,6 +1,6 @@
 pub mod Watched
 pub mod Faults
 pub mod Writes
-pub mod Run
+pub mod Transfer
 pub mod Words
 pub mod Plain

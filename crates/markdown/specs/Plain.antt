@@ -1,6 +1,5 @@
 -- The options that the words of a command line ask for.
 use Rattle.std.specs.Prelude.{ℕ, true, if◌then◌else◌, List, [], ◌∷◌}
-use Rattle.markdown_options.specs.declared.configuration.CompileOptions.{CompileOptions}
 use Rattle.markdown_options.specs.declared.configuration.Options.{Options}
 use Rattle.markdown_options.specs.Defaults.{no_constructs, default_parse_options, default_compile_options, default_options}
 use Rattle.markdown.specs.Words.{is_dangerous}

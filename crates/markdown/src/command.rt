@@ -1,28 +1,32 @@
 //! The program, over any reader and writer.
-ghost use Rattle.std.specs.Prelude.{◌≡◌, ◌≤◌, ◌↔◌, IfSome, OnOk, OnErr, map, string_bytes, true, false};
+ghost use Rattle.std.specs.Prelude.{◌≡◌, ◌≤◌, ◌↔◌, IfSome, IfErr, OnOk, is_err, map, string_bytes, true, false};
+ghost use Rattle.std.specs.Str.{IsUtf8};
 ghost use Rattle.std.specs.Io.KnownBytes.{Appends, Keeps};
 ghost use Rattle.markdown.specs.Plain.{options_of, plain_options, dangerous_options};
 ghost use Rattle.markdown_options.specs.Built.{is_built};
 ghost use Rattle.definition_page.specs.Html.{html};
 ghost use Rattle.markdown_tables.specs.Builtin.{builtin_tables};
-ghost use Rattle.markdown.specs.Run.{AppendsBeginning};
-ghost use Rattle.markdown.specs.Watched.{device, has_failed};
+ghost use Rattle.markdown.specs.Transfer.{AppendsBeginning, AppendsAllOrNothing, RefusesPast, RefusesUtf8, TellsMore};
+ghost use Rattle.markdown.specs.Faults.{is_write_error, read_failed, size_failed, utf8_failed};
+ghost use Rattle.markdown.specs.Watched.{device, has_ended, has_failed};
 ghost use Rattle.markdown.specs.Words.{is_command, is_plain, is_dangerous};
 
-use crate::run::{RunError, run_with_options};
+use crate::convert::SIZE_MAX;
+use crate::transfer::{RunError, run};
 use crate::watched::Watched;
+use markdown_tables::Builtin;
 use markdown_options::{CompileOptions, Constructs, Options, ParseOptions};
 use std::alloc::Global;
 use std::io::{Read, Write};
 
 /// The page was written.
-const STATUS_OK: u8 = 0;
+pub(crate) const STATUS_OK: u8 = 0;
 
 /// The page was not written, or not whole.
-const STATUS_FAULT: u8 = 1;
+pub(crate) const STATUS_FAULT: u8 = 1;
 
 /// The words are no command line.
-const STATUS_WORDS: u8 = 2;
+pub(crate) const STATUS_WORDS: u8 = 2;
 
 /// Runs the program, and answers its status. The words are those after its name.
 ///
@@ -37,16 +41,30 @@ pub fn program<R: Read, W: Write, F: Write>(
     requires reader { has_failed reader.old ≡ false }
     requires writer { has_failed writer.old ≡ false }
 
-    // 0: the page of all that was read was written, and nothing else.
+    // 0: the page of all that was read was written, and nothing else, and there is no complaint.
     ensures ok { result ≡ 0 → IfSome (R.remaining (device reader.old)) (λ text.
         Appends (W.contents (device writer.old)) (W.contents (device writer.new)) (html builtin_tables text (options_of (map string_bytes words.now)))) }
+    ensures silent { result ≡ 0 → Keeps (F.contents faults.old) (F.contents faults.new) }
 
-    // 1: what was written is a beginning of the page.
-    ensures fault { result ≡ 1 → IfSome (R.remaining (device reader.old)) (λ text.
+    // 1: where the reader failed, more than the size was read, or what was read to its end is not
+    // UTF-8, nothing was written.
+    ensures read { has_failed reader.new ≡ true → (result ≡ 1) × Keeps (W.contents (device writer.old)) (W.contents (device writer.new)) }
+    ensures size { TellsMore SIZE_MAX (R.remaining (device reader.old)) (R.remaining (device reader.new))
+        → (result ≡ 1) × Keeps (W.contents (device writer.old)) (W.contents (device writer.new)) }
+    ensures utf8 { has_ended reader.old ≡ false → has_ended reader.new ≡ true → IfSome (R.remaining (device reader.old)) (λ text.
+        ¬ IsUtf8 text → (result ≡ 1) × Keeps (W.contents (device writer.old)) (W.contents (device writer.new))) }
+
+    // 1: where the writer failed, what was written is a beginning of the page.
+    ensures write { has_failed writer.new ≡ true → (result ≡ 1) × IfSome (R.remaining (device reader.old)) (λ text.
         AppendsBeginning (W.contents (device writer.old)) (W.contents (device writer.new)) (html builtin_tables text (options_of (map string_bytes words.now)))) }
 
-    // 2: the words are no command line, and nothing was written.
+    // 1 for any other fault: nothing was written, or all of the page, and it could not be flushed.
+    ensures fault { result ≡ 1 → has_failed writer.new ≡ false → IfSome (R.remaining (device reader.old)) (λ text.
+        AppendsAllOrNothing (W.contents (device writer.old)) (W.contents (device writer.new)) (html builtin_tables text (options_of (map string_bytes words.now)))) }
+
+    // 2: the words are no command line, and nothing was read or written.
     ensures words { (result ≡ 2) ↔ (is_command (map string_bytes words.now) ≡ false) }
+    ensures unread { result ≡ 2 → reader.new ≡ reader.old }
     ensures nothing { result ≡ 2 → Keeps (W.contents (device writer.old)) (W.contents (device writer.new)) }
     ensures status { result ≤ 2 }
 {
@@ -137,10 +155,17 @@ fn page<R: Read, W: Write>(
     requires writer { has_failed writer.old ≡ false }
     ensures ok { OnOk result (IfSome (R.remaining (device reader.old)) (λ text.
         Appends (W.contents (device writer.old)) (W.contents (device writer.new)) (html builtin_tables text (options_of (map string_bytes words.now))))) }
-    ensures fault { OnErr result (IfSome (R.remaining (device reader.old)) (λ text.
-        AppendsBeginning (W.contents (device writer.old)) (W.contents (device writer.new)) (html builtin_tables text (options_of (map string_bytes words.now))))) }
+    ensures read { has_failed reader.new ≡ read_failed result }
+    ensures size { RefusesPast SIZE_MAX (R.remaining (device reader.old)) (R.remaining (device reader.new)) (size_failed result) }
+    ensures utf8 { has_ended reader.old ≡ false → has_ended reader.new ≡ true → IfSome (R.remaining (device reader.old)) (λ text. RefusesUtf8 text (utf8_failed result)) }
+    ensures nothing { IfErr result (λ e. is_write_error e ≡ false → Keeps (W.contents (device writer.old)) (W.contents (device writer.new))) }
+    ensures write { has_failed writer.new ≡ true → is_err result ≡ true }
+    ensures beginning { has_failed writer.new ≡ true → IfSome (R.remaining (device reader.old)) (λ text.
+        AppendsBeginning (W.contents (device writer.old)) (W.contents (device writer.new)) (html builtin_tables text (options_of (map string_bytes words.now)))) }
+    ensures fault { has_failed writer.new ≡ false → IfSome (R.remaining (device reader.old)) (λ text.
+        AppendsAllOrNothing (W.contents (device writer.old)) (W.contents (device writer.new)) (html builtin_tables text (options_of (map string_bytes words.now)))) }
 {
     let options = options_of(words);
-    run_with_options(alloc, reader, writer, &options)?;
+    run(alloc, reader, writer, &options, &Builtin)?;
     writer.flush().map_err(RunError::Write)
 }

@@ -6,7 +6,7 @@ ghost use Rattle.markdown_options.specs.Defaults.{default_options};
 ghost use Rattle.definition_page.specs.Html.{html};
 ghost use Rattle.html_bytes.specs.Html.{marked_html, default_ending};
 ghost use Rattle.markdown_tables.specs.Builtin.{builtin_tables};
-ghost use Rattle.html_text.specs.Texts.{text_tables};
+ghost use Rattle.definition_page.specs.TextTables.{text_tables};
 
 use block_parser::block_rows;
 use markdown_tables::Builtin;

@@ -3,13 +3,16 @@
 
 mod command;
 mod convert;
-mod run;
+mod entry;
+mod transfer;
 mod watched;
 
+pub use markdown_tables::Builtin;
 pub use command::program;
 pub use convert::{fits, to_html, to_html_with_options, to_html_with_tables};
+pub use entry::start;
 pub use markdown_options::{
     CompileOptions, Constructs, LineEnding, Message, Options, ParseOptions, Tables,
 };
-pub use run::{RunError, run_with_options};
+pub use transfer::{RunError, run};
 pub use watched::Watched;

@@ -1,6 +1,6 @@
 //! Readers and writers that give and take little, and fail.
 use crate::compare::plain;
-use markdown::{RunError, Watched, run_with_options};
+use markdown::{Builtin, RunError, Watched, run};
 use std::io::{self, Read, Write};
 
 /// A device that moves at most so many bytes a call. After some calls it fails to read, and takes nothing.
@@ -61,7 +61,7 @@ fn moves_few_bytes_a_call(rt: HostRuntime) -> Result<(), RunError> {
     for most in 1..9 {
         let mut reader = Watched::new(Short::new(TEXT, most, 100));
         let mut writer = Watched::new(Short::new(Vec::new(rt.alloc()), most, 100));
-        run_with_options(rt.alloc(), &mut reader, &mut writer, &plain())?;
+        run(rt.alloc(), &mut reader, &mut writer, &plain(), &Builtin)?;
         assert!(rt; !reader.failed());
         assert!(rt; !writer.failed());
         let out = writer.into_inner().into_inner();
@@ -75,7 +75,7 @@ fn answers_failed_reads(rt: HostRuntime) {
     for calls in 0..4 {
         let mut reader = Watched::new(Short::new(&b"abc"[..], 1, calls));
         let mut writer = Watched::new(Vec::new(rt.alloc()));
-        let result = run_with_options(rt.alloc(), &mut reader, &mut writer, &plain());
+        let result = run(rt.alloc(), &mut reader, &mut writer, &plain(), &Builtin);
         assert!(rt; matches!(result, Err(RunError::Read(_))), "at {calls}");
         assert!(rt; reader.failed(), "at {calls}");
         assert!(rt; writer.into_inner().is_empty(), "at {calls}");
@@ -87,7 +87,7 @@ fn answers_stopped_writers(rt: HostRuntime) {
     for calls in 0..PAGE.len() {
         let mut reader = Watched::new(TEXT);
         let mut writer = Watched::new(Short::new(Vec::new(rt.alloc()), 1, calls));
-        let result = run_with_options(rt.alloc(), &mut reader, &mut writer, &plain());
+        let result = run(rt.alloc(), &mut reader, &mut writer, &plain(), &Builtin);
         assert!(rt; matches!(result, Err(RunError::Stopped)), "at {calls}");
         assert!(rt; writer.failed(), "at {calls}");
         let out = writer.into_inner().into_inner();

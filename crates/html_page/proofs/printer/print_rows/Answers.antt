@@ -6,7 +6,7 @@ use Rattle.markdown_options.specs.LineEndings.{ending_bytes}
 use Rattle.block_rows.specs.declared.row.Row.{Row}
 use Rattle.block_rows.specs.declared.row.Row.TheVariants.{Paragraph}
 use Rattle.html_bytes.specs.Document.{document}
-use Rattle.html_text.specs.Texts.{text_tables}
+use Rattle.definition_page.specs.TextTables.{text_tables}
 use Rattle.definition_text.specs.BlockLines.{BlockLine}
 use Rattle.block_rows.specs.Rows.{Shown, row_shown, piece_lines, piece_line, shown, lines_taken}
 use Rattle.html_page.specs.Printable.{IsPrintableRow}

@@ -2,7 +2,8 @@ use Rattle.std.proofs.Common.{List, ◌≡◌, ◌≤◌, ◌+◌, length, take,
 use Rattle.markdown_options.specs.LineEndings.{ending_bytes}
 use Rattle.html_bytes.specs.Document.{document}
 use Rattle.definition_inline.specs.Definition.{Definition}
-use Rattle.html_text.specs.Texts.{HasDefinitions, text_tables}
+use Rattle.definition_page.specs.TextTables.{text_tables}
+use Rattle.html_text.specs.Texts.{HasDefinitions}
 use Rattle.block_rows.specs.Rows.{all_taken, piece_lines, shown}
 use Rattle.html_page.specs.Printed.{printed, blank_page, printed_of}
 use Rattle.html_page.proofs.printer.print_rows.Given as goal

@@ -7,7 +7,7 @@ use Rattle.definition_text.specs.BlockLines.{own_lines, BlockLine}
 use Rattle.definition_block.specs.Tree.{Paragraph, Heading, IndentedCode, FencedCode, Html}
 use Rattle.html_bytes.specs.Document.{document}
 use Rattle.block_rows.specs.ParagraphLines.{HaveNoEnding, AreLines}
-use Rattle.html_text.specs.Texts.{text_tables}
+use Rattle.definition_page.specs.TextTables.{text_tables}
 use Rattle.html_bytes.specs.Html.{block_pieces}
 use Rattle.block_rows.specs.Rows.{whole_lines, row_shown, lines_taken, first_codes, piece_line, piece_lines}
 use Rattle.html_page.specs.Levels.{row_pieces, is_document}

@@ -2,7 +2,7 @@ use Rattle.std.proofs.Common.{◌≡◌, ◌++◌, ◌==◌, false, string_bytes
 use Rattle.std.specs.Result.{OnOk}
 use Rattle.definition_text.specs.Encode.{encode}
 use Rattle.html_bytes.specs.Document.{document, info_of}
-use Rattle.html_text.specs.Texts.{text_tables}
+use Rattle.definition_page.specs.TextTables.{text_tables}
 use Rattle.html_bytes.specs.Html.{class_of}
 use Rattle.html_page.proofs.Fenced.{class_some}
 use Rattle.html_page.proofs.page.Page.class.Goals as goal

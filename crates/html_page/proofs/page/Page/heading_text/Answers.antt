@@ -5,7 +5,7 @@ use Rattle.block_rows.proofs.RowSteps.{no_piece}
 use Rattle.html_bytes.specs.Document.{document, text_of}
 use Rattle.definition_text.specs.BlockLines.{BlockLine, own_lines}
 use Rattle.block_rows.specs.Rows.{piece_line, piece_lines}
-use Rattle.html_text.specs.Texts.{text_tables}
+use Rattle.definition_page.specs.TextTables.{text_tables}
 use Rattle.html_page.specs.Printable.{AreHeadingLines}
 use Rattle.html_page.proofs.Lines.{one_line, several_lines}
 use Rattle.html_page.proofs.page.Page.heading_text.Goals as goal

@@ -5,7 +5,7 @@ use Rattle.definition_page.specs.Targets.{linked_at, linked_by}
 use Rattle.inline_content.specs.View.{content_view}
 use Rattle.html_inline.specs.Opens.{place_linked}
 use Rattle.inline_rows.specs.View.{rows_view}
-use Rattle.html_text.specs.Texts.{text_tables}
+use Rattle.definition_page.specs.TextTables.{text_tables}
 use Rattle.html_text.proofs.Places.{same_place, same_rows}
 use Rattle.html_text.proofs.texts.Texts.push_content.Goals as goal
 

@@ -1,18 +1,17 @@
 //! From a reader to a writer.
-ghost use Rattle.std.specs.Prelude.{◌≡◌, ◌≤◌, ◌<◌, ◌+◌, ◌++◌, IfOk, IfErr, OnOk, IfSome, IfNone, is_err, true, false, length, vec_len, string_bytes, take};
-ghost use Rattle.std.specs.Str.{IsUtf8};
+ghost use Rattle.std.specs.Prelude.{◌≡◌, ◌≤◌, ◌<◌, ◌+◌, ◌-◌, ◌||◌, IfOk, IfErr, OnOk, IfSome, IsTrue, is_err, is_ok, true, false, length, vec_len, string_bytes};
 ghost use Rattle.std.specs.Io.{appended_bytes, StartsWith};
 ghost use Rattle.std.specs.Io.KnownBytes.{Appends, Consumes, IsAtEnd, Keeps};
 ghost use Rattle.markdown_options.specs.Built.{is_built};
 ghost use Rattle.definition_page.specs.Html.{html};
-ghost use Rattle.markdown_tables.specs.Builtin.{builtin_tables};
-ghost use Rattle.markdown.specs.Watched.{device, has_failed};
-ghost use Rattle.markdown.specs.Faults.{is_read_error, is_write_error, is_size_error, is_utf8_error, read_failed, write_failed};
-ghost use Rattle.markdown.specs.Run.{AppendsBeginning};
+ghost use Rattle.definition_page.specs.TextTables.{text_tables};
+ghost use Rattle.markdown.specs.Watched.{device, has_failed, has_ended};
+ghost use Rattle.markdown.specs.Faults.{is_read_error, is_write_error, is_size_error, is_utf8_error, read_failed, write_failed, size_failed, utf8_failed, reads_all, gave_none};
+ghost use Rattle.markdown.specs.Transfer.{AppendsBeginning, RefusesPast, RefusesUtf8};
 
-use crate::convert::{SIZE_MAX, to_html_with_options};
+use crate::convert::{SIZE_MAX, to_html_with_tables};
 use crate::watched::Watched;
-use markdown_options::{Message, Options};
+use markdown_options::{Options, Tables};
 use std::alloc::{AllocError, Allocator};
 use std::io::{self, Read, Write};
 use thiserror::Error;
@@ -34,15 +33,31 @@ pub enum RunError {
     Stopped,
 }
 
+/// Memory was refused.
+impl From<AllocError> for RunError {
+    ghost use Rattle.markdown.specs.declared.transfer.RunError.TheVariants.{Memory};
+
+    ghost from_gives = { λ _ e. e ≡ Memory };
+
+    fn from(_error: AllocError) -> RunError {
+        RunError::Memory
+    }
+}
+
 /// How many bytes are asked of a reader at once.
 const CHUNK: usize = 65536;
 
-/// Reads a text to its end, and writes its HTML.
-pub fn run_with_options<A: Allocator + Clone, R: Read, W: Write>(
+/// Reads a text to its end, and writes its HTML by these tables.
+///
+/// The options turn on only constructs that are built, which `ParseOptions::built` tests, and
+/// neither the reader nor the writer has failed. The text is at most `usize::MAX / 8` bytes of
+/// UTF-8. Nothing is written before the whole page is there; the writer isn't flushed.
+pub fn run<A: Allocator + Clone, R: Read, W: Write, T: Tables>(
     alloc: A,
     reader: &mut Watched<R>,
     writer: &mut Watched<W>,
     options: &Options,
+    tables: &T,
 ) -> Result<(), RunError>
     requires built { is_built options.now.parse.constructs ≡ true }
     requires reader { has_failed reader.old ≡ false }
@@ -50,7 +65,8 @@ pub fn run_with_options<A: Allocator + Clone, R: Read, W: Write>(
 
     // All of the page was written, and nothing else.
     ensures ok { OnOk result (IfSome (R.remaining (device reader.old)) (λ text.
-        Appends (W.contents (device writer.old)) (W.contents (device writer.new)) (html builtin_tables text options.now))) }
+        let page = html (text_tables (T.reference_of tables.now) (T.punctuation_of tables.now)) text options.now in
+        Appends (W.contents (device writer.old)) (W.contents (device writer.new)) page)) }
 
     // `Read` comes exactly where the reader failed, `Write` and `Stopped` where the writer did.
     ensures read { has_failed reader.new ≡ read_failed result }
@@ -58,33 +74,40 @@ pub fn run_with_options<A: Allocator + Clone, R: Read, W: Write>(
 
     // What was written is then a beginning of the page, and otherwise nothing.
     ensures beginning { IfErr result (λ e. is_write_error e ≡ true → IfSome (R.remaining (device reader.old)) (λ text.
-        AppendsBeginning (W.contents (device writer.old)) (W.contents (device writer.new)) (html builtin_tables text options.now))) }
-    ensures nothing { IfErr result (λ e. is_write_error e ≡ false →
-        Keeps (W.contents (device writer.old)) (W.contents (device writer.new))) }
+        let page = html (text_tables (T.reference_of tables.now) (T.punctuation_of tables.now)) text options.now in
+        AppendsBeginning (W.contents (device writer.old)) (W.contents (device writer.new)) page)) }
+    ensures nothing { IfErr result (λ e. is_write_error e ≡ false → Keeps (W.contents (device writer.old)) (W.contents (device writer.new))) }
 
-    ensures size { IfErr result (λ e. is_size_error e ≡ true → IfSome (R.remaining (device reader.old)) (λ text. SIZE_MAX < length text)) }
-    ensures utf8 { IfErr result (λ e. is_utf8_error e ≡ true → IfSome (R.remaining (device reader.old)) (λ text. ¬ IsUtf8 text)) }
+    // `Size` comes exactly where more than the size was read, and without it, `Read` or `Memory`
+    // the reader came to its end.
+    ensures size { RefusesPast SIZE_MAX (R.remaining (device reader.old)) (R.remaining (device reader.new)) (size_failed result) }
+    ensures end { IsTrue (reads_all result) → has_ended reader.new ≡ true }
+
+    // Once it came there, `Utf8` is answered exactly where what was read is not UTF-8.
+    ensures utf8 { has_ended reader.old ≡ false → has_ended reader.new ≡ true → IfSome (R.remaining (device reader.old)) (λ text. RefusesUtf8 text (utf8_failed result)) }
 {
-    let handle = alloc.clone().map_err(|_| RunError::Memory)?;
-    let bytes = read_all(handle, reader)?;
-    let page = page_of(alloc, &bytes, options)?;
+    let bytes = read_all(alloc.clone()?, reader)?;
+    let page = page_of(alloc, &bytes, options, tables)?;
     write_all(writer, page.as_bytes())
 }
 
 /// The HTML of what was read.
-fn page_of<A: Allocator + Clone>(
+fn page_of<A: Allocator + Clone, T: Tables>(
     alloc: A,
     bytes: &[u8],
     options: &Options,
+    tables: &T,
 ) -> Result<String<A>, RunError>
     requires built { is_built options.now.parse.constructs ≡ true }
     requires fits { length bytes.now ≤ SIZE_MAX }
-    ensures ok { IfOk result (λ page. string_bytes page ≡ html builtin_tables bytes.now options.now) }
+    ensures ok { IfOk result (λ page. string_bytes page ≡ html (text_tables (T.reference_of tables.now) (T.punctuation_of tables.now)) bytes.now options.now) }
+    ensures utf8 { RefusesUtf8 bytes.now (utf8_failed result) }
     ensures others { IfErr result (λ e. (is_read_error e ≡ false) × (is_write_error e ≡ false) × (is_size_error e ≡ false)) }
-    ensures utf8 { IfErr result (λ e. is_utf8_error e ≡ true → ¬ IsUtf8 bytes.now) }
 {
     match str::from_utf8(bytes) {
-        Ok(text) => to_html_with_options(alloc, text, options).map_err(|_| RunError::Memory),
+        Ok(text) => {
+            to_html_with_tables(alloc, text, options, tables).map_err(|_| RunError::Memory)
+        }
         Err(_) => Err(RunError::Utf8),
     }
 }
@@ -98,12 +121,12 @@ fn read_all<A: Allocator + Clone, R: Read>(
     ensures ok { IfOk result (λ bytes. IfSome (R.remaining (device reader.old)) (λ text. bytes.items ≡ text)) }
     ensures fits { IfOk result (λ bytes. vec_len bytes ≤ SIZE_MAX) }
     ensures read { has_failed reader.new ≡ read_failed result }
+    ensures end { has_ended reader.new ≡ (has_ended reader.old || is_ok result) }
+    ensures size { RefusesPast SIZE_MAX (R.remaining (device reader.old)) (R.remaining (device reader.new)) (size_failed result) }
     ensures others { IfErr result (λ e. (is_write_error e ≡ false) × (is_utf8_error e ≡ false)) }
-    ensures size { IfErr result (λ e. is_size_error e ≡ true → IfSome (R.remaining (device reader.old)) (λ text. SIZE_MAX < length text)) }
 {
-    let chunk_alloc = alloc.clone().map_err(|_| RunError::Memory)?;
-    let mut chunk = Vec::with_capacity(chunk_alloc, CHUNK).map_err(|_| RunError::Memory)?;
-    chunk.resize(CHUNK, 0).map_err(|_| RunError::Memory)?;
+    let mut chunk = Vec::with_capacity(alloc.clone()?, CHUNK)?;
+    chunk.resize(CHUNK, 0)?;
     let mut bytes = Vec::new(alloc);
     read_chunks(reader, &mut chunk, &mut bytes)?;
     Ok(bytes)
@@ -121,8 +144,9 @@ fn read_chunks<A: Allocator, R: Read>(
     ensures ok { OnOk result (IfSome (R.remaining (device reader.old)) (λ text. bytes.new.items ≡ text)) }
     ensures fits { OnOk result (vec_len bytes.new ≤ SIZE_MAX) }
     ensures read { has_failed reader.new ≡ read_failed result }
+    ensures end { has_ended reader.new ≡ (has_ended reader.old || is_ok result) }
+    ensures size { RefusesPast SIZE_MAX (R.remaining (device reader.old)) (R.remaining (device reader.new)) (size_failed result) }
     ensures others { IfErr result (λ e. (is_write_error e ≡ false) × (is_utf8_error e ≡ false)) }
-    ensures size { IfErr result (λ e. is_size_error e ≡ true → IfSome (R.remaining (device reader.old)) (λ text. SIZE_MAX < length text)) }
 {
     for _ in 0..u64::MAX {
         if read_chunk(reader, chunk, bytes)? == 0 {
@@ -132,7 +156,7 @@ fn read_chunks<A: Allocator, R: Read>(
     unreachable!()
 }
 
-/// Reads once, and answers how many bytes came.
+/// Reads once, and answers how many bytes came: none at the end.
 fn read_chunk<A: Allocator, R: Read>(
     reader: &mut Watched<R>,
     chunk: &mut [u8],
@@ -145,18 +169,20 @@ fn read_chunk<A: Allocator, R: Read>(
     ensures appends { OnOk result (StartsWith bytes.new.items bytes.old.items) }
     ensures fits { OnOk result (vec_len bytes.new ≤ SIZE_MAX) }
     ensures known { OnOk result (Consumes (R.remaining (device reader.old)) (R.remaining (device reader.new)) (appended_bytes bytes.old.items bytes.new.items)) }
-    ensures end { IfOk result (λ n. n ≡ 0 → IsAtEnd (R.remaining (device reader.new))) }
+    ensures last { IfOk result (λ n. n ≡ 0 → IsAtEnd (R.remaining (device reader.new))) }
     ensures read { has_failed reader.new ≡ read_failed result }
+    ensures end { has_ended reader.new ≡ (has_ended reader.old || gave_none result) }
+    ensures size { RefusesPast (SIZE_MAX - vec_len bytes.old) (R.remaining (device reader.old)) (R.remaining (device reader.new)) (size_failed result) }
     ensures others { IfErr result (λ e. (is_write_error e ≡ false) × (is_utf8_error e ≡ false)) }
-    ensures size { IfErr result (λ e. is_size_error e ≡ true → IfSome (R.remaining (device reader.old)) (λ text. SIZE_MAX < vec_len bytes.old + length text)) }
 {
     let n = reader.read(chunk).map_err(RunError::Read)?;
+    if n == 0 {
+        return Ok(0);
+    }
     if n > SIZE_MAX - bytes.len() {
         return Err(RunError::Size);
     }
-    bytes
-        .extend_from_slice(&chunk[..n])
-        .map_err(|_| RunError::Memory)?;
+    bytes.extend_from_slice(&chunk[..n])?;
     Ok(n)
 }
 

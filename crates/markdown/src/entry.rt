@@ -1,0 +1,49 @@
+//! The program, on the words that it was started with.
+ghost use Rattle.std.specs.Prelude.{◌≡◌, ◌≤◌};
+ghost use Rattle.markdown.specs.Words.{unread_status};
+
+use crate::command::{STATUS_FAULT, STATUS_WORDS, program};
+use crate::watched::Watched;
+use std::env;
+use std::io::{self, ErrorKind, Read, Write};
+use std::rt::Env;
+
+/// Runs [`program`] on the words of the command line, and answers its status.
+pub fn start<R: Read + Drop, W: Write + Drop, F: Write>(
+    rt: &(impl Env + AllocGlobal),
+    reader: R,
+    writer: W,
+    faults: &mut F,
+) -> u8
+    ensures { result ≤ 2 }
+{
+    match words(rt) {
+        Ok(words) => {
+            let mut reader = Watched::new(reader);
+            let mut writer = Watched::new(writer);
+            program(rt, &words, &mut reader, &mut writer, faults)
+        }
+        Err(error) => refuse_words(faults, error.kind()),
+    }
+}
+
+/// The words after the program's name.
+fn words(rt: &(impl Env + AllocGlobal)) -> io::Result<Vec<String>> {
+    let mut words = Vec::new(rt.alloc());
+    for word in env::args(rt)?.skip(1) {
+        words.push(word)?;
+    }
+    Ok(words)
+}
+
+/// The status where the words can't be had, with one line on `faults`.
+fn refuse_words<F: Write>(faults: &mut F, kind: ErrorKind) -> u8
+    ensures { result ≡ unread_status kind }
+{
+    let (status, line): (u8, &[u8]) = match kind {
+        ErrorKind::OutOfMemory => (STATUS_FAULT, b"markdown: out of memory\n"),
+        _ => (STATUS_WORDS, b"markdown: wrong command line\n"),
+    };
+    let _ = faults.write_all(line);
+    status
+}
