@@ -1,14 +1,75 @@
 #!/bin/sh
-# Proves and builds the program, and installs it as `markdown` in a folder (by default ~/.local/bin).
+# Proves and builds the program, and installs it as `markdown` in a folder (by default ~/.local/bin); or, with --library,
+# the library for C as lib/libmarkdown.a, lib/libmarkdown.so and include/markdown.h in a folder (by default ~/.local).
 #
 #     ./install.sh [FOLDER]
+#     ./install.sh --library [FOLDER]
+#
+# It says which crates are proved so far. As many are proved side by side as there are processors, with 2 GB each;
+# $JOBS sets another number. What is proved stays in the crates' out/ folders, so a second run takes seconds.
 set -eu
 cd "$(dirname "$0")"
-folder=${1:-$HOME/.local/bin}
+crate=markdown_program
+[ "${1:-}" = --library ] && { crate=markdown_c; shift; }
 log=$(mktemp)
 trap 'rm -f "$log"' EXIT
-(cd crates/markdown_program && rt run -- --plain < stdin) > "$log" 2>&1 || { cat "$log" >&2; exit 1; }
-program=crates/markdown_program/out/markdown_program
-mkdir -p "$folder"
-cp "$program" "$folder/markdown"
-echo "built $program, installed as $folder/markdown" >&2
+
+# How many crates a crate stands on, and itself.
+count_crates() {
+    awk -v top="$1" '
+        /^[a-z]/ { name = $1; sub(/:$/, "", name); from[name] = $0 }
+        function reach(name,   words, n, i) {
+            if (!(name in from) || name in seen) return
+            seen[name] = 1; count++
+            n = split(from[name], words, /[ :]+/)
+            for (i = 2; i <= n; i++) reach(words[i])
+        }
+        END { reach(top); print count }
+    ' crates.txt
+}
+
+# How many crates to prove at once.
+jobs() {
+    awk -v processors="$(nproc)" '
+        /^MemAvailable:/ { fit = int($2 / 2000000) }
+        END { print fit < 1 ? 1 : fit < processors ? fit : processors }
+    ' /proc/meminfo
+}
+
+# Prints the crates as they are proved.
+show_progress() {
+    done=0
+    while read -r mark name rest; do
+        if [ "$mark" = == ] && [ "$name" != summary ] && [ -z "$rest" ]; then
+            done=$((done + 1))
+            echo "$done of $1: $name" >&2
+        fi
+    done
+}
+
+crates=$(count_crates "$crate")
+echo "proving $crates crates" >&2
+cd "crates/$crate"
+mkfifo "$log.pipe"
+trap 'rm -f "$log" "$log.pipe"' EXIT
+show_progress "$crates" < "$log.pipe" &
+if ! rt all check --jobs "${JOBS:-$(jobs)}" 2>&1 | tee "$log" > "$log.pipe"; then :; fi
+wait
+tail -n 1 "$log" | grep -q "^$crates of $crates crates ok$" || { cat "$log" >&2; exit 1; }
+
+if [ "$crate" = markdown_program ]; then
+    rt run -- --plain < stdin > "$log" 2>&1 || { cat "$log" >&2; exit 1; }
+    folder=${1:-$HOME/.local/bin}
+    mkdir -p "$folder"
+    cp out/markdown_program "$folder/markdown"
+    echo "built crates/$crate/out/$crate, installed as $folder/markdown" >&2
+else
+    rt lib > "$log" 2>&1 || { cat "$log" >&2; exit 1; }
+    folder=${1:-$HOME/.local}
+    allocator=$(dirname "$(rt doc)")/c/liblibc_c.a
+    mkdir -p "$folder/lib" "$folder/include"
+    cp ../../include/markdown.h "$folder/include/markdown.h"
+    printf 'create %s/lib/libmarkdown.a\naddlib out/libmarkdown_c.a\naddlib %s\nsave\nend\n' "$folder" "$allocator" | ar -M
+    ${CC:-cc} -shared -o "$folder/lib/libmarkdown.so" -Wl,--whole-archive "$folder/lib/libmarkdown.a" -Wl,--no-whole-archive
+    echo "built crates/$crate/out/lib$crate.a, installed as $folder/lib/libmarkdown.a, libmarkdown.so and include/markdown.h" >&2
+fi

@@ -1,0 +1,74 @@
+//! From a text to HTML in a buffer of the caller's.
+ghost use Rattle.std.specs.Prelude.{◌≡◌, ◌≤◌, ◌<◌, ◌↔◌, ◌^◌, length, None};
+ghost use Rattle.std.specs.Str.{IsUtf8};
+ghost use Rattle.markdown_c.specs.Flags.{options_of};
+ghost use Rattle.markdown_c.specs.Pages.{OfPage, HoldsPage};
+
+use crate::flags::options_of;
+use markdown::{fits, to_html_with_options};
+use std::alloc::Global;
+
+/// The buffer begins with the page.
+const OK: u32 = 0;
+
+/// The buffer is too small for the page.
+const ROOM: u32 = 1;
+
+/// The text isn't UTF-8.
+const UTF8: u32 = 2;
+
+/// There is a flag that isn't known.
+const FLAGS: u32 = 3;
+
+/// The text has more than `usize::MAX / 8` bytes.
+const SIZE: u32 = 4;
+
+/// No memory was left.
+const MEMORY: u32 = 5;
+
+/// Converts a text to HTML, into a buffer, and answers a status. `size` is then the page's length
+/// where the status is `OK` or `ROOM`, and otherwise 0.
+///
+/// A page that is too long for the buffer isn't written, nor is anything past a page's end.
+#[unsafe(no_mangle)]
+pub extern "C" fn markdown_convert(
+    alloc: Global,
+    text: &[u8],
+    flags: u32,
+    buffer: &mut [u8],
+    size: &mut usize,
+) -> u32
+    // The buffer begins with the page, and goes on as it was. Otherwise it is as it was.
+    ensures ok { result ≡ OK → OfPage flags text.now (λ page. HoldsPage page buffer.old buffer.new) }
+    ensures unchanged { ¬ (result ≡ OK) → buffer.new ≡ buffer.old }
+
+    // The page's length is told where there is room, and where there isn't.
+    ensures length { result ≤ ROOM → OfPage flags text.now (λ page. size.new ≡ length page) }
+    ensures room { result ≤ ROOM → ((result ≡ OK) ↔ (size.new ≤ length buffer.old)) }
+    ensures none { ROOM < result → size.new ≡ 0 }
+
+    ensures flags { (result ≡ FLAGS) ↔ (options_of flags ≡ None) }
+    ensures utf8 { (result ≡ UTF8) ↔ (¬ (options_of flags ≡ None) × ¬ IsUtf8 text.now) }
+    ensures size { (result ≡ SIZE) ↔ (¬ (options_of flags ≡ None) × (IsUtf8 text.now × 2 ^ 61 ≤ length text.now)) }
+    ensures status { result ≤ MEMORY }
+{
+    *size = 0;
+    let Some(options) = options_of(flags) else {
+        return FLAGS;
+    };
+    let Ok(text) = str::from_utf8(text) else {
+        return UTF8;
+    };
+    if !fits(text) {
+        return SIZE;
+    }
+    let Ok(page) = to_html_with_options(alloc, text, &options) else {
+        return MEMORY;
+    };
+    *size = page.len();
+    if *size > buffer.len() {
+        return ROOM;
+    }
+    buffer[..*size].copy_from_slice(page.as_bytes());
+    OK
+}

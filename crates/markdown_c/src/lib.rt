@@ -1,0 +1,5 @@
+//! From a text to HTML, called from C.
+#![tactic(auto)]
+
+mod convert;
+mod flags;

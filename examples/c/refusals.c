@@ -1,0 +1,115 @@
+/* Checks what no page shows: what a call leaves where it refuses, at the edges of a buffer, and where each request for
+ * memory is refused in turn. It is linked with -Wl,--wrap=malloc -Wl,--wrap=realloc, and ends with the line of a check that
+ * failed, on standard error. */
+#include <stdio.h>
+#include <string.h>
+
+#include "markdown.h"
+
+#define CHECK(holds) \
+    do \
+        if (!(holds)) { \
+            fprintf(stderr, "refusals: line %d: %s\n", __LINE__, #holds); \
+            return 1; \
+        } \
+    while (0)
+
+void *__real_malloc(size_t size);
+void *__real_realloc(void *block, size_t size);
+static long left = -1; /* how many requests are still granted; below 0: all */
+
+static int is_granted(void)
+{
+    return left < 0 || left-- > 0;
+}
+
+void *__wrap_malloc(size_t size)
+{
+    return is_granted() ? __real_malloc(size) : NULL;
+}
+
+void *__wrap_realloc(void *block, size_t size)
+{
+    return is_granted() ? __real_realloc(block, size) : NULL;
+}
+
+static const unsigned char TEXT[] = "# *a* & [b](c)\n\n- <b>d</b>\n- `e`\n\n[f]\n\n[f]: /g";
+static const char PAGE[] = "<h1><em>a</em> &amp; <a href=\"c\">b</a></h1>\n<ul>\n<li>&lt;b&gt;d&lt;/b&gt;</li>\n<li><code>e</code></li>\n</ul>\n<p><a href=\"/g\">f</a></p>\n";
+static unsigned char buffer[1024];
+enum { LENGTH = sizeof PAGE - 1 };
+
+static uint32_t convert(uint32_t flags, size_t room, size_t *length)
+{
+    memset(buffer, '?', sizeof buffer);
+    return markdown_convert(TEXT, sizeof TEXT - 1, flags, buffer, room, length);
+}
+
+static int is_untouched_from(size_t at)
+{
+    while (at < sizeof buffer && buffer[at] == '?')
+        at++;
+    return at == sizeof buffer;
+}
+
+static int check_room(void)
+{
+    size_t length = 7;
+    for (size_t room = 1; room < LENGTH; room++) {
+        CHECK(convert(0, room, &length) == MARKDOWN_ROOM);
+        CHECK(length == LENGTH && is_untouched_from(0));
+    }
+    for (size_t room = LENGTH; room < LENGTH + 3; room++) {
+        CHECK(convert(0, room, &length) == MARKDOWN_OK && length == LENGTH);
+        CHECK(memcmp(buffer, PAGE, LENGTH) == 0 && is_untouched_from(LENGTH));
+    }
+    return 0;
+}
+
+static int check_refusals(void)
+{
+    size_t length = 7;
+    CHECK(convert(4, sizeof buffer, &length) == MARKDOWN_FLAGS && length == 0 && is_untouched_from(0));
+    CHECK(convert(UINT32_MAX, sizeof buffer, &length) == MARKDOWN_FLAGS && length == 0 && is_untouched_from(0));
+    CHECK(markdown_convert((const unsigned char *)"a\xff", 2, 0, buffer, sizeof buffer, &length) == MARKDOWN_UTF8);
+    CHECK(length == 0 && is_untouched_from(0));
+    CHECK(markdown_convert(TEXT, 0, 0, buffer, sizeof buffer, &length) == MARKDOWN_OK && length == 0);
+    CHECK(convert(MARKDOWN_DANGEROUS, sizeof buffer, &length) == MARKDOWN_OK && strstr((char *)buffer, "<b>d</b>"));
+    CHECK(convert(MARKDOWN_PLAIN, sizeof buffer, &length) == MARKDOWN_OK && memcmp(buffer, "<p># *a*", 8) == 0);
+    CHECK(convert(MARKDOWN_PLAIN | MARKDOWN_DANGEROUS, sizeof buffer, &length) == MARKDOWN_OK && memcmp(buffer, "<p># *a*", 8) == 0);
+    return 0;
+}
+
+static int check_memory(void)
+{
+    size_t length = 7;
+    uint32_t status = MARKDOWN_MEMORY;
+    long granted;
+    for (granted = 0; status == MARKDOWN_MEMORY; granted++) {
+        left = granted;
+        status = convert(0, sizeof buffer, &length);
+        left = -1;
+        CHECK(status == MARKDOWN_MEMORY ? length == 0 && is_untouched_from(0) : status == MARKDOWN_OK);
+    }
+    CHECK(granted > 10 && memcmp(buffer, PAGE, LENGTH) == 0);
+    return 0;
+}
+
+static int check_growing(void)
+{
+    size_t length, room = 0;
+    unsigned char *page = NULL;
+    CHECK(markdown_convert_growing(NULL, 0, 0, &page, &room, &length) == MARKDOWN_OK && length == 0);
+    CHECK(markdown_convert_growing((const unsigned char *)"\"\"\"\"\"\"\"\"\"\"\"\"\"\"\"\"\"\"\"\"", 20, 0, &page, &room, &length) == MARKDOWN_OK);
+    CHECK(length == 127 && room == 127 && memcmp(page, "<p>&quot;", 9) == 0);
+    CHECK(markdown_convert_growing(TEXT, sizeof TEXT - 1, 0, &page, &room, &length) == MARKDOWN_OK && length == LENGTH);
+    left = 0;
+    CHECK(markdown_convert_growing(TEXT, 1, 0, &page, &room, &length) == MARKDOWN_MEMORY);
+    left = -1;
+    free(page);
+    return 0;
+}
+
+int main(void)
+{
+    return check_room() || check_refusals() || check_memory() || check_growing();
+}

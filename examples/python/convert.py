@@ -1,0 +1,14 @@
+#!/usr/bin/env python3
+"""Reads Markdown from standard input, and writes its HTML to standard output.
+
+    convert.py LIBRARY [--dangerous | --plain]
+"""
+import sys
+
+import markdown_c
+
+FLAGS = {"--dangerous": markdown_c.DANGEROUS, "--plain": markdown_c.PLAIN}
+
+library = markdown_c.load(sys.argv[1])
+flags = sum(FLAGS[word] for word in sys.argv[2:])
+sys.stdout.buffer.write(markdown_c.to_html(library, sys.stdin.buffer.read(), flags))

@@ -1,0 +1,90 @@
+//! Markdown to HTML, over the static library of C calls.
+
+use std::fmt;
+
+/// What `include/markdown.h` declares.
+mod calls {
+    pub const OK: u32 = 0;
+    pub const ROOM: u32 = 1;
+    pub const UTF8: u32 = 2;
+    pub const FLAGS: u32 = 3;
+    pub const SIZE: u32 = 4;
+    pub const DANGEROUS: u32 = 1;
+    pub const PLAIN: u32 = 2;
+
+    #[link(name = "markdown", kind = "static")]
+    extern "C" {
+        pub fn markdown_convert(
+            text: *const u8,
+            text_length: usize,
+            flags: u32,
+            buffer: *mut u8,
+            room: usize,
+            length: *mut usize,
+        ) -> u32;
+    }
+}
+
+/// How a text is read and printed.
+#[derive(Clone, Copy, Debug, Default)]
+pub enum Flags {
+    /// CommonMark, safely.
+    #[default]
+    Safe,
+    /// HTML of the text is printed as it is, and links may have any protocol.
+    Dangerous,
+    /// Every construct is off.
+    Plain,
+}
+
+/// Why there is no page.
+#[derive(Clone, Copy, Debug, PartialEq, Eq)]
+pub enum Fault {
+    Size,
+    Memory,
+}
+
+impl fmt::Display for Fault {
+    fn fmt(&self, f: &mut fmt::Formatter) -> fmt::Result {
+        f.write_str(match self {
+            Fault::Size => "input is too large",
+            Fault::Memory => "out of memory",
+        })
+    }
+}
+
+impl std::error::Error for Fault {}
+
+/// The HTML of a text.
+pub fn to_html(text: &str, flags: Flags) -> Result<String, Fault> {
+    let flags = match flags {
+        Flags::Safe => 0,
+        Flags::Dangerous => calls::DANGEROUS,
+        Flags::Plain => calls::PLAIN,
+    };
+    let mut page = vec![0; text.len() + text.len() / 4 + 64];
+    loop {
+        let mut length = 0;
+        // SAFETY: each pointer leads to as many bytes as are told, and the page is borrowed by nobody else.
+        let status = unsafe {
+            calls::markdown_convert(
+                text.as_ptr(),
+                text.len(),
+                flags,
+                page.as_mut_ptr(),
+                page.len(),
+                &mut length,
+            )
+        };
+        match status {
+            calls::OK => {
+                page.truncate(length);
+                return Ok(String::from_utf8(page).expect("a page is UTF-8"));
+            }
+            calls::ROOM => page.resize(length, 0),
+            calls::SIZE => return Err(Fault::Size),
+            calls::UTF8 | calls::FLAGS => unreachable!("a text is UTF-8, and the flags are known"),
+            _ => return Err(Fault::Memory),
+        }
+    }
+}
