@@ -1,13 +1,13 @@
 //! Reads standard input by a machine that consumes every byte, and prints how many steps it took.
 #![tactic(auto)]
 
-use tests_engine::count::Count;
-use tests_engine::tables::Ascii;
 use markdown_engine::place::START;
 use markdown_engine::state::{Inline, Name, State};
 use markdown_engine::tokenizer::Tokenizer;
 use markdown_engine::{ParseOptions, ParseState};
 use std::io::{self, ErrorKind, Read};
+use tests_engine::count::Count;
+use tests_engine::tables::Ascii;
 
 fn main(rt: HostRuntime) -> io::Result<()> {
     let mut bytes = Vec::new(rt.alloc());

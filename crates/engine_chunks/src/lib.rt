@@ -4,8 +4,6 @@
 pub mod chunks;
 pub mod divide;
 mod join;
-#[cfg(test)]
-mod tests;
 
 pub use divide::divide_events;
 pub use join::{link, link_to};

@@ -6,7 +6,7 @@ use Rattle.std.specs.BTreeMap.{insert_entry, is_at}
 use Rattle.engine_events.specs.declared.event.Event.{Event}
 use Rattle.engine_edits.specs.Counts.{together}
 use Rattle.engine_edits.specs.declared.edit.Edit.{Edit}
-use Rattle.engine_edits.specs.Edits.{Placed, placed, placed_of, merged, with_merged, with_new, has_place}
+use Rattle.engine_edits.specs.Edits.{Placed, both_added, placed, placed_of, merged, with_merged, with_new, has_place}
 
 tied : (k q : ℕ) (t : Bool) → (k == q) ≡ t → is_at (nat_cmp k) q ≡ t
 tied k q t e = unsigned_tied k q ∙ e
@@ -15,7 +15,7 @@ module _ {A : Type 0} where
   -- what `edit` is after a merge
   pub record Merges (before : Bool) (remove : ℕ) (add : List Event) (old new : Edit A) : Type 0 where
     pub removes : new.remove ≡ together old.remove remove
-    pub adds : new.add.items ≡ (if before then add ++ old.add.items else old.add.items ++ add)
+    pub adds : new.add.items ≡ both_added before add old.add.items
 
   one_merged : (before : Bool) (k remove : ℕ) (add : List Event) (q : ℕ) (old new : Edit A) → Merges before remove add old new → placed q new.remove new.add.items ≡ merged before remove add (placed q old.remove old.add.items)
   one_merged before k remove add q old new h = ap (λ (n : ℕ). placed q n new.add.items) h.removes ∙ ap (λ (xs : List Event). placed q (together old.remove remove) xs) h.adds

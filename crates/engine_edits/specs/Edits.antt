@@ -23,9 +23,13 @@ module _ {A : Type 0} where
   abbrev pub edits_of : EditMap A → List Placed
   edits_of m = map placed_of m.edits.entries
 
+-- what comes with other events, before or after those there
+abbrev pub both_added : Bool → List Event → List Event → List Event
+both_added before add there = if before then add ++ there else there ++ add
+
 -- two edits of one place as one: removals add up, and additions go after or before those there
 abbrev pub merged : Bool → ℕ → List Event → Placed → Placed
-merged before remove add e = placed e.at (together e.remove remove) (if before then add ++ e.add else e.add ++ add)
+merged before remove add e = placed e.at (together e.remove remove) (both_added before add e.add)
 
 -- the edits, with the one of this place merged
 abbrev pub with_merged : Bool → ℕ → ℕ → List Event → List Placed → List Placed

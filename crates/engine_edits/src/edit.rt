@@ -1,6 +1,7 @@
 //! One edit: events that go, and events that come in their place.
-ghost use Rattle.std.specs.Prelude.{◌≡◌, ◌+◌, ◌++◌, ◌≤◌, ◌↔◌, IsTrue, OnOk, OnErr};
+ghost use Rattle.std.specs.Prelude.{◌≡◌, ◌+◌, ◌≤◌, ◌↔◌, IsTrue, OnOk, OnErr};
 ghost use Rattle.engine_edits.specs.Counts.{together};
+ghost use Rattle.engine_edits.specs.Edits.{both_added};
 
 use engine_events::Event;
 use std::alloc::{AllocError, Allocator};
@@ -15,28 +16,25 @@ pub struct Edit<A: Allocator> {
 }
 
 impl<A: Allocator> Edit<A> {
-    /// Adds another edit of the same place: its events come after those there.
-    pub fn merge_after(&mut self, remove: usize, add: &[Event]) -> Result<(), AllocError>
-        ensures add { OnOk result (self.new.add.items ≡ self.old.add.items ++ add.now) }
+    /// Adds another edit of the same place: its events come before or after those there.
+    pub fn merge(
+        &mut self,
+        before: bool,
+        remove: usize,
+        add: Vec<Event, A>,
+    ) -> Result<(), AllocError>
+        ensures add { OnOk result (self.new.add.items ≡ both_added before add.items self.old.add.items) }
         ensures remove { OnOk result (self.new.remove ≡ together self.old.remove remove) }
         ensures err_add { OnErr result (self.new.add.items ≡ self.old.add.items) }
         ensures err_remove { OnErr result (self.new.remove ≡ self.old.remove) }
     {
-        self.add.extend_from_slice(add)?;
-        self.remove = self.remove.saturating_add(remove);
-        Ok(())
-    }
-
-    /// Adds another edit of the same place: its events come before those there.
-    pub fn merge_before(&mut self, remove: usize, add: Vec<Event, A>) -> Result<(), AllocError>
-        ensures add { OnOk result (self.new.add.items ≡ add.items ++ self.old.add.items) }
-        ensures remove { OnOk result (self.new.remove ≡ together self.old.remove remove) }
-        ensures err_add { OnErr result (self.new.add.items ≡ self.old.add.items) }
-        ensures err_remove { OnErr result (self.new.remove ≡ self.old.remove) }
-    {
-        let mut all = add;
-        all.extend_from_slice(&self.add)?;
-        self.add = all;
+        if before {
+            let mut all = add;
+            all.extend_from_slice(&self.add)?;
+            self.add = all;
+        } else {
+            self.add.extend_from_slice(&add)?;
+        }
         self.remove = self.remove.saturating_add(remove);
         Ok(())
     }

@@ -40,11 +40,7 @@ impl<A: Allocator + Clone> EditMap<A> {
         ensures err { OnErr result (edits_of self.new ≡ edits_of self.old) }
         ensures memory { IfErr result (λ message. IsOutOfMemory message) }
     {
-        if let Some(edit) = self.edits.get_mut(&index) {
-            edit.merge_after(remove, &add)?;
-            return Ok(());
-        }
-        self.insert(index, Edit { remove, add })?;
+        self.merge(false, index, remove, add)?;
         Ok(())
     }
 
@@ -59,8 +55,23 @@ impl<A: Allocator + Clone> EditMap<A> {
         ensures err { OnErr result (edits_of self.new ≡ edits_of self.old) }
         ensures memory { IfErr result (λ message. IsOutOfMemory message) }
     {
+        self.merge(true, index, remove, add)?;
+        Ok(())
+    }
+
+    /// Adds an edit, whose events come before or after those there.
+    fn merge(
+        &mut self,
+        before: bool,
+        index: usize,
+        remove: usize,
+        add: Vec<Event, A>,
+    ) -> Result<(), AllocError>
+        ensures edits { OnOk result (edits_of self.new ≡ with_edit before index remove add.items (edits_of self.old)) }
+        ensures err { OnErr result (edits_of self.new ≡ edits_of self.old) }
+    {
         if let Some(edit) = self.edits.get_mut(&index) {
-            edit.merge_before(remove, add)?;
+            edit.merge(before, remove, add)?;
             return Ok(());
         }
         self.insert(index, Edit { remove, add })?;

@@ -4,7 +4,5 @@
 pub mod edit;
 pub mod edit_map;
 pub mod relink;
-#[cfg(test)]
-mod tests;
 
 pub use edit_map::EditMap;

@@ -10,8 +10,6 @@ pub mod place;
 pub mod resolve;
 pub mod state;
 pub mod subresult;
-#[cfg(test)]
-mod tests;
 
 pub use container::{Container, ContainerState};
 pub use event::{Content, Event, Kind, Link, VOID_EVENTS};

@@ -7,7 +7,5 @@ pub mod char;
 pub mod location;
 pub mod skip;
 pub mod slice;
-#[cfg(test)]
-mod tests;
 
 pub use location::{Location, Stop};

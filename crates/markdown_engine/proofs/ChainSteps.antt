@@ -1,5 +1,6 @@
 -- Chains: their chunks one after another, what is skipped before them, and the edits that replace them.
-use Rattle.std.proofs.Common.{◌≡◌, ◌∙◌, ℕ, ◌+◌, ◌<◌, ◌≤◌, zero, suc, Bool, true, false, ◌&&◌, List, [], ◌∷◌, ◌++◌, length, get_or, Option, refl, ap, subst, arith}
+use Rattle.std.proofs.Common.{◌≡◌, ◌∙◌, ℕ, ◌+◌, ◌<◌, ◌≤◌, zero, suc, Bool, true, false, ◌&&◌, List, [], ◌∷◌, ◌++◌, length, drop, get_or, Option, refl, ap, subst, arith}
+use Rattle.std.proofs.lemmas.List.{drop_more}
 use Rattle.engine_events.specs.declared.event.Content.{Content}
 use Rattle.engine_events.specs.declared.event.Event.{Event}
 use Rattle.engine_events.specs.declared.place.Point.{Point}
@@ -10,13 +11,13 @@ use Rattle.engine_edits.specs.Edits.{Placed}
 use Rattle.engine_chunks.specs.Chunks.{chunks}
 use Rattle.engine_chunks.specs.Parts.{counts, divided}
 use Rattle.markdown_engine.specs.declared.tokenizer.Tokenizer.{Tokenizer}
-use Rattle.markdown_engine.specs.Chains.{Chain, chain_content, chains_from, with_chain, chunks_of, AreApart, IsPlace, ArePlaces, place_at, after_chunk, unskipped, with_chunks, end_of, chain_text, first_state, Divides, ReadsChain, MayBegin, is_empty}
+use Rattle.markdown_engine.specs.Chains.{Chain, chain_content, chains_from, with_chain, chunks_of, AreApart, IsPlace, ArePlaces, place_at, after_chunk, with_chunks, end_of, chain_text, first_state, Divides, ReadsChain, MayBegin, is_empty}
 use Rattle.markdown_engine.proofs.ChainLaws.{apart_room}
 use Rattle.markdown_engine.specs.Laws.{HoldsAt}
 use Rattle.markdown_engine.specs.Machine.{config, fresh, source, Completed}
 use Rattle.markdown_engine.specs.Reading.{Config, Outcome, Steps}
 use Rattle.markdown_engine.specs.Resolving.{Found, Resolves, found_both, nothing_found}
-use Rattle.markdown_engine.specs.VirtualText.{Source, Text, text_to}
+use Rattle.markdown_engine.specs.VirtualText.{Source, Text, text_to, unskipped}
 use Rattle.markdown_engine.proofs.Push.{at_outcome, whole_run}
 
 pub place_read : (events : List Event) (k : ℕ) (d : Event) → k < length events → point_of (get_or events k d) ≡ place_at events k
@@ -77,8 +78,12 @@ module _ {M T A : Type 0} (events : List Event) where
         apart = g.apart.1;
       }
 
-  pub skipping_place : (end : Point) (ks rest : List ℕ) (k : ℕ) (t : Tokenizer M T A) (first : Point) (all : List ℕ) (old : Tokenizer M T A) → ks ≡ k ∷ rest → Skipping events end ks t first all old → k + 2 ≤ length events
-  skipping_place end ks rest k t first all old e h = apart_first h.from k rest (length events) (subst (λ (z : List ℕ). AreApart h.from z (length events)) e h.apart)
+  -- the next chunk has its exit
+  pub next_fits : (end : Point) (chain : List ℕ) (i : ℕ) (t old : Tokenizer M T A) → i < length chain → Skipping events end (drop i chain) t old.point chain old → get_or chain i 0 + 2 ≤ length events
+  next_fits end chain i t old low h =
+      let k = get_or chain i 0 in
+      let rest = drop (i + 1) chain in
+      apart_first h.from k rest (length events) (subst (λ (z : List ℕ). AreApart h.from z (length events)) (drop_more chain i 0 low) h.apart)
 
 -- what the walk over the chains keeps
 pub record Dividing {M : Type 0} (valid : HoldsAt M) (step : Steps M) (resolve : Resolves M) (bytes : List ℕ) (machine : M) (events : List Event) (cs : List Chain) (acc : ℕ × ℕ) (edits : List Placed) (found : Found) (done : Bool) (all : List Chain) (old : List Placed) : Type 0 where

@@ -17,7 +17,8 @@ use Rattle.markdown_engine.specs.VirtualText.{Source, Text, is_before, byte_befo
 use Rattle.markdown_engine.specs.Context.{Context, context}
 use Rattle.markdown_engine.specs.Reading.{Config, Steps, Runs, mark, moved, resumed, chosen, handed, feed, Outcome, ended}
 use Rattle.markdown_engine.specs.Machine.{config, read_with, source, AreCuts, Around, Opened, IsAfter, GoesOn, Goes, GoesAll, Pushed, Refused, Did, Answers, Turn, Ended, Flushed, ReadWhole, weight}
-use Rattle.markdown_engine.specs.Laws.{Holds, HoldsAt, MovesOn, RanksAt, KeepsAt, FallsAt, OnlyAdds, IsFed}
+use Rattle.markdown_engine.specs.Laws.{Holds, HoldsAt, LawfulAt, MovesOn, RanksAt, KeepsAt, FallsAt, OnlyAdds, IsFed}
+use Rattle.markdown_engine.proofs.Falls.{is_fed}
 use Rattle.markdown_engine.proofs.Outcomes.{ends, outcome_pop, outcome_retry, outcome_next}
 use Rattle.markdown_engine.proofs.Starts.{before, before_start, skip_later}
 use Rattle.markdown_engine.proofs.Tests.{by_tests, or_right, and_both}
@@ -125,7 +126,31 @@ module _ {M : Type 0} (size : ℕ) (valid : HoldsAt M) (step : Steps M) (rank : 
   falls_pop true stack a c h = falls.ok c stack a h
   falls_pop false stack a c h = falls.nok c stack a h
 
-module _ {M T A : Type 0} (size : ℕ) (valid : HoldsAt M) (step : Steps M) (rank : RanksAt M) (adds : OnlyAdds step) (keeps : KeepsAt size valid step) (falls : FallsAt size valid step rank) where
+-- the byte before the end of a range, or the end, was handed in
+pub record Handing {M T A : Type 0} (size : ℕ) (to : ℕ × ℕ) (f t v : Tokenizer M T A) (p : Point) (b : Option VirtualByte) : Type 0 where
+  pub place : p ≡ place_in f.skips.entries t.point
+  pub byte : b ≡ byte_before f.parse_state.now.bytes.now to p
+  pub fed : IsFed size t.point p b
+  pub config : config v ≡ handed (config t) p b
+  pub attempts : v.attempts.items ≡ t.attempts.items
+  pub same : Around t v
+
+pub handing : {M T A : Type 0} (to : ℕ × ℕ) (f t v : Tokenizer M T A) (p : Point) (b : Option VirtualByte) → let size = length f.parse_state.now.bytes.now in to.0 ≤ size → (to.0 ≡ size → to.1 ≡ 0) → Around f t
+    → p ≡ place_in t.skips.entries t.point → b ≡ byte_before t.parse_state.now.bytes.now to p → config v ≡ handed (config t) p b → v.attempts ≡ t.attempts → v.parse_state ≡ t.parse_state → v.skips ≡ t.skips → Handing size to f t v p b
+handing to f t v p b within column held ep eb ec ea es ek =
+    let same = around f t held in
+    let place = ep ∙ ap (λ (z : Source). place_in z.skips t.point) same in
+    let byte = eb ∙ ap (λ (z : Source). byte_before z.bytes to p) same in
+    record {
+      place = place;
+      byte = byte;
+      fed = is_fed f.parse_state.now.bytes.now f.skips.entries to t.point p b within column place byte;
+      config = ec;
+      attempts = rw ea refl;
+      same = record { parse_state = rw es refl; skips = rw ek refl };
+    }
+
+module _ {M T A : Type 0} (size : ℕ) (valid : HoldsAt M) (step : Steps M) (rank : RanksAt M) (lawful : LawfulAt size valid step rank) where
   pub is_valid : (to : ℕ × ℕ) (end : Bool) (f t : Tokenizer M T A) (s x y : State) → x ≡ y → (Refused y → ⊥) → Turn valid step to end f s t x → valid (config t) t.attempts.items y
   is_valid to end f t s x y e h k = subst (λ (z : State). valid (config t) t.attempts.items z) e (unless_refused x (λ r. h (at_refused x y e r)) k.holds)
 
@@ -134,8 +159,8 @@ module _ {M T A : Type 0} (size : ℕ) (valid : HoldsAt M) (step : Steps M) (ran
       let k : valid (config t) (u.attempts.items ++ a ∷ []) (ended v) = subst (λ (z : List Attempt). valid (config t) z (ended v)) p (is_valid to end f t s x (ended v) ex (not_ended v) h) in
       record {
         same = around_both f t u h.same b;
-        holds = inr (at_valid valid (resumed a (config t) v) (config u) u.attempts.items u.attempts.items (chosen a v) y (sym q) refl (sym ey) (kept_pop size valid step keeps v u.attempts.items a (config t) k));
-        reads = elim h.reads [ inl r ↦ absurd (not_ended v (at_refused x (ended v) ex r)) | inr g ↦ inr (λ more limit on. goes_pop (text_to more limit) step adds v a f t u s x y ex ey p q (g more limit on)) ];
+        holds = inr (at_valid valid (resumed a (config t) v) (config u) u.attempts.items u.attempts.items (chosen a v) y (sym q) refl (sym ey) (kept_pop size valid step lawful.keeps v u.attempts.items a (config t) k));
+        reads = elim h.reads [ inl r ↦ absurd (not_ended v (at_refused x (ended v) ex r)) | inr g ↦ inr (λ more limit on. goes_pop (text_to more limit) step lawful.adds v a f t u s x y ex ey p q (g more limit on)) ];
       }
 
   pub turn_retry : (n : Name) (to : ℕ × ℕ) (end : Bool) (f t u : Tokenizer M T A) (s x y : State) → x ≡ states.Retry n → Answers (step (config t) n) t u y → Turn valid step to end f s t x → Turn valid step to end f s u y
@@ -146,30 +171,28 @@ module _ {M T A : Type 0} (size : ℕ) (valid : HoldsAt M) (step : Steps M) (ran
         | inl r ↦ record { same = around_both f t u k.same h.0; holds = inl r; reads = inl r }
         | inr did ↦ record {
           same = around_both f t u k.same h.0;
-          holds = inr (at_valid valid e.config (config u) (t.attempts.items ++ map mark e.pushed) u.attempts.items e.state y (sym did.config) (sym did.attempts) (sym did.state) (keeps.called (config t) t.attempts.items n v));
-          reads = elim k.reads [ inl r ↦ absurd (at_refused x (states.Retry n) ex r) | inr g ↦ inr (λ more limit on. goes_retry (text_to more limit) step adds n f t u s x y ex did (g more limit on)) ];
+          holds = inr (at_valid valid e.config (config u) (t.attempts.items ++ map mark e.pushed) u.attempts.items e.state y (sym did.config) (sym did.attempts) (sym did.state) (lawful.keeps.called (config t) t.attempts.items n v));
+          reads = elim k.reads [ inl r ↦ absurd (at_refused x (states.Retry n) ex r) | inr g ↦ inr (λ more limit on. goes_retry (text_to more limit) step lawful.adds n f t u s x y ex did (g more limit on)) ];
         }
       ]
 
-  pub valid_fed : (n : Name) (p : Point) (b : Option VirtualByte) (to : ℕ × ℕ) (end : Bool) (f t v : Tokenizer M T A) (s x : State) → IsFed size t.point p b → x ≡ states.Next n
-      → config v ≡ handed (config t) p b → v.attempts.items ≡ t.attempts.items → Turn valid step to end f s t x → valid (config v) v.attempts.items (states.Retry n)
-  valid_fed n p b to end f t v s x read ex ec es k =
+  pub valid_fed : (n : Name) (p : Point) (b : Option VirtualByte) (to : ℕ × ℕ) (end : Bool) (f t v : Tokenizer M T A) (s x : State) → Handing size to f t v p b → x ≡ states.Next n → Turn valid step to end f s t x → valid (config v) v.attempts.items (states.Retry n)
+  valid_fed n p b to end f t v s x given ex k =
       let h : valid (config t) t.attempts.items (states.Next n) = is_valid to end f t s x (states.Next n) ex (λ r. r) k in
-      at_valid valid (handed (config t) p b) (config v) t.attempts.items v.attempts.items (states.Retry n) (states.Retry n) (sym ec) (sym es) refl (keeps.fed (config t) t.attempts.items n p b read h)
+      at_valid valid (handed (config t) p b) (config v) t.attempts.items v.attempts.items (states.Retry n) (states.Retry n) (sym given.config) (sym given.attempts) refl (lawful.keeps.fed (config t) t.attempts.items n p b given.fed h)
 
-  pub turn_next : (n : Name) (p : Point) (b : Option VirtualByte) (to : ℕ × ℕ) (end : Bool) (f t v u : Tokenizer M T A) (s x y : State) → IsFed size t.point p b → x ≡ states.Next n
-      → config v ≡ handed (config t) p b → v.attempts.items ≡ t.attempts.items → Around t v
+  pub turn_next : (n : Name) (p : Point) (b : Option VirtualByte) (to : ℕ × ℕ) (end : Bool) (f t v u : Tokenizer M T A) (s x y : State) → Handing size to f t v p b → x ≡ states.Next n
       → ((more : Source) (limit : ℕ × ℕ) → GoesOn (source f) to end more limit → IsThere more limit t.point p b)
       → Answers (step (config v) n) v u y → Turn valid step to end f s t x → Turn valid step to end f s u y
-  turn_next n p b to end f t v u s x y read ex ec es eb text h k =
+  turn_next n p b to end f t v u s x y given ex text h k =
       let e = step (config v) n in
-      let bs : Around f u = around_both f v u (around_both f t v k.same eb) h.0 in
+      let bs : Around f u = around_both f v u (around_both f t v k.same given.same) h.0 in
       elim h.1 [
         | inl r ↦ record { same = bs; holds = inl r; reads = inl r }
         | inr did ↦ record {
           same = bs;
-          holds = inr (at_valid valid e.config (config u) (v.attempts.items ++ map mark e.pushed) u.attempts.items e.state y (sym did.config) (sym did.attempts) (sym did.state) (keeps.called (config v) v.attempts.items n (valid_fed n p b to end f t v s x read ex ec es k)));
-          reads = elim k.reads [ inl r ↦ absurd (at_refused x (states.Next n) ex r) | inr g ↦ inr (λ more limit on. goes_next (text_to more limit) step adds n f t v u s x y ex (ec ∙ fed_as more limit (config t) p b (text more limit on)) es did (g more limit on)) ];
+          holds = inr (at_valid valid e.config (config u) (v.attempts.items ++ map mark e.pushed) u.attempts.items e.state y (sym did.config) (sym did.attempts) (sym did.state) (lawful.keeps.called (config v) v.attempts.items n (valid_fed n p b to end f t v s x given ex k)));
+          reads = elim k.reads [ inl r ↦ absurd (at_refused x (states.Next n) ex r) | inr g ↦ inr (λ more limit on. goes_next (text_to more limit) step lawful.adds n f t v u s x y ex (given.config ∙ fed_as more limit (config t) p b (text more limit on)) given.attempts did (g more limit on)) ];
         }
       ]
 
@@ -179,7 +202,7 @@ module _ {M T A : Type 0} (size : ℕ) (valid : HoldsAt M) (step : Steps M) (ran
   pub smaller_pop : (v : Bool) (a : Attempt) (to : ℕ × ℕ) (end : Bool) (f t u : Tokenizer M T A) (s x y : State) → x ≡ ended v → y ≡ chosen a v → t.attempts.items ≡ u.attempts.items ++ a ∷ [] → config u ≡ resumed a (config t) v → Turn valid step to end f s t x → weight y (rank (config u) u.attempts.items y) < weight x (rank (config t) t.attempts.items x)
   smaller_pop v a to end f t u s x y ex ey p q h =
       let k : valid (config t) (u.attempts.items ++ a ∷ []) (ended v) = subst (λ (z : List Attempt). valid (config t) z (ended v)) p (is_valid to end f t s x (ended v) ex (not_ended v) h) in
-      let lower = falls_pop size valid step rank falls v u.attempts.items a (config t) k in
+      let lower = falls_pop size valid step rank lawful.falls v u.attempts.items a (config t) k in
       let at_u : rank (config u) u.attempts.items y ≡ rank (resumed a (config t) v) u.attempts.items (chosen a v) = cc in
       let at_t : rank (config t) t.attempts.items x ≡ rank (config t) (u.attempts.items ++ a ∷ []) (ended v) = cc in
       smaller_by t u x y (omega arith) (weight_known x (ended v) (rank (config t) t.attempts.items x) ex (weight_ended v (rank (config t) t.attempts.items x)))
@@ -191,27 +214,28 @@ module _ {M T A : Type 0} (size : ℕ) (valid : HoldsAt M) (step : Steps M) (ran
       elim a.1 [
         | inl r ↦ (let z = weight_refused y (rank (config u) u.attempts.items y) r in omega arith)
         | inr did ↦ (
-            let lower = falls.called (config t) t.attempts.items n h in
+            let lower = lawful.falls.called (config t) t.attempts.items n h in
             let e = step (config t) n in
             let at_u : rank (config u) u.attempts.items y ≡ rank e.config (t.attempts.items ++ map mark e.pushed) e.state = cc in
             let at_t : rank (config t) t.attempts.items x ≡ rank (config t) t.attempts.items (states.Retry n) = cc in
             smaller_by t u x y (omega arith) top)
       ]
 
-  pub smaller_next : (n : Name) (p : Point) (b : Option VirtualByte) (to : ℕ × ℕ) (end : Bool) (f t v u : Tokenizer M T A) (s x y : State) → IsFed size t.point p b → x ≡ states.Next n
-      → config v ≡ handed (config t) p b → v.attempts.items ≡ t.attempts.items
+  pub smaller_next : (n : Name) (p : Point) (b : Option VirtualByte) (to : ℕ × ℕ) (end : Bool) (f t v u : Tokenizer M T A) (s x y : State) → Handing size to f t v p b → x ≡ states.Next n
       → Answers (step (config v) n) v u y → Turn valid step to end f s t x → weight y (rank (config u) u.attempts.items y) < weight x (rank (config t) t.attempts.items x)
-  smaller_next n p b to end f t v u s x y read ex ec es a k =
+  smaller_next n p b to end f t v u s x y given ex a k =
       let h : valid (config t) t.attempts.items (states.Next n) = is_valid to end f t s x (states.Next n) ex (λ r. r) k in
-      let hv = valid_fed n p b to end f t v s x read ex ec es k in
+      let hv = valid_fed n p b to end f t v s x given ex k in
       let top : weight x (rank (config t) t.attempts.items x) ≡ rank (config t) t.attempts.items x + 1 = weight_known x (states.Next n) (rank (config t) t.attempts.items x) ex refl in
       elim a.1 [
         | inl r ↦ (let z = weight_refused y (rank (config u) u.attempts.items y) r in omega arith)
         | inr did ↦ (
-            let lower = falls.called (config v) v.attempts.items n hv in
-            let fed = falls.fed (config t) t.attempts.items n p b h read in
+            let lower = lawful.falls.called (config v) v.attempts.items n hv in
+            let fed = lawful.falls.fed (config t) t.attempts.items n p b h given.fed in
             let e = step (config v) n in
             let at_u : rank (config u) u.attempts.items y ≡ rank e.config (v.attempts.items ++ map mark e.pushed) e.state = cc in
+            let ec = given.config in
+            let es = given.attempts in
             let at_v : rank (config v) v.attempts.items (states.Retry n) ≡ rank (handed (config t) p b) t.attempts.items (states.Retry n) = cc in
             let at_t : rank (config t) t.attempts.items x ≡ rank (config t) t.attempts.items (states.Next n) = cc in
             smaller_by t u x y (omega arith) top)

@@ -7,7 +7,7 @@ use Rattle.engine_events.specs.declared.state.State.TheVariants as states
 use Rattle.markdown_engine.specs.declared.attempt.Attempt.{Attempt}
 use Rattle.markdown_engine.specs.VirtualText.{Source, Text, byte_before, place_in, text_to}
 use Rattle.markdown_engine.specs.Reading.{Config, Steps, mark, feed, resumed, chosen, ended}
-use Rattle.markdown_engine.specs.Laws.{HoldsAt, RanksAt, OnlyAdds, KeepsAt, FallsAt, IsFed}
+use Rattle.markdown_engine.specs.Laws.{HoldsAt, LawfulAt, RanksAt, OnlyAdds, IsFed}
 use Rattle.markdown_engine.specs.Outcomes.{HasOutcome, HasRun}
 use Rattle.markdown_engine.proofs.Outcomes.{ends, outcome_pop, outcome_retry, outcome_next}
 use Rattle.markdown_engine.proofs.Falls.{is_fed}
@@ -48,32 +48,32 @@ module _ {M : Type 0} (text : Text) (step : Steps M) where
 pub feeds_to : (s : Source) (to : ℕ × ℕ) → to.0 ≤ length s.bytes → (to.0 ≡ length s.bytes → to.1 ≡ 0) → (p : Point) → let text = text_to s to in IsFed (length s.bytes) p (text.start p) (text.byte (text.start p))
 feeds_to s to h k p = let place = place_in s.skips p in is_fed s.bytes s.skips to p place (byte_before s.bytes to place) h k refl refl
 
-module _ {M : Type 0} (size : ℕ) (valid : HoldsAt M) (step : Steps M) (rank : RanksAt M) (adds : OnlyAdds step) (keeps : KeepsAt size valid step) (falls : FallsAt size valid step rank) (text : Text) (fed : (p : Point) → IsFed size p (text.start p) (text.byte (text.start p))) where
+module _ {M : Type 0} (size : ℕ) (valid : HoldsAt M) (step : Steps M) (rank : RanksAt M) (lawful : LawfulAt size valid step rank) (text : Text) (fed : (p : Point) → IsFed size p (text.start p) (text.byte (text.start p))) where
   below : (n : ℕ) (c : Config M) (stack : List Attempt) (s : State) → rank c stack s < n → valid c stack s → HasOutcome text step c stack s
   below zero c stack s low h = absurd (omega arith)
-  below (suc n) c stack (states.Error m) low h = absurd (keeps.no_error c stack m h)
+  below (suc n) c stack (states.Error m) low h = absurd (lawful.keeps.no_error c stack m h)
   below (suc n) c stack (states.Next name) low h =
       let place = text.start c.point in
       let byte = text.byte place in
-      let held = keeps.fed c stack name place byte (fed c.point) h in
-      let most = falls.fed c stack name place byte h (fed c.point) in
-      let less = falls.called (feed text c) stack name held in
+      let held = lawful.keeps.fed c stack name place byte (fed c.point) h in
+      let most = lawful.falls.fed c stack name place byte h (fed c.point) in
+      let less = lawful.falls.called (feed text c) stack name held in
       let e = step (feed text c) name in
-      gone_on text step adds c stack name (below n e.config (stack ++ map mark e.pushed) e.state (omega arith) (keeps.called (feed text c) stack name held))
+      gone_on text step lawful.adds c stack name (below n e.config (stack ++ map mark e.pushed) e.state (omega arith) (lawful.keeps.called (feed text c) stack name held))
   below (suc n) c stack (states.Retry name) low h =
-      let less = falls.called c stack name h in
+      let less = lawful.falls.called c stack name h in
       let e = step c name in
-      retried text step adds c stack name (below n e.config (stack ++ map mark e.pushed) e.state (omega arith) (keeps.called c stack name h))
+      retried text step lawful.adds c stack name (below n e.config (stack ++ map mark e.pushed) e.state (omega arith) (lawful.keeps.called c stack name h))
   below (suc n) c stack states.Ok low h = pop text step true c stack (λ rest a e.
       let held = subst (λ (z : List Attempt). valid c z states.Ok) e h in
       let least = subst (λ (z : List Attempt). rank c z states.Ok < suc n) e low in
-      let less = falls.ok c rest a held in
-      below n (resumed a c true) rest a.ok (omega arith) (keeps.ok c rest a held))
+      let less = lawful.falls.ok c rest a held in
+      below n (resumed a c true) rest a.ok (omega arith) (lawful.keeps.ok c rest a held))
   below (suc n) c stack states.Nok low h = pop text step false c stack (λ rest a e.
       let held = subst (λ (z : List Attempt). valid c z states.Nok) e h in
       let least = subst (λ (z : List Attempt). rank c z states.Nok < suc n) e low in
-      let less = falls.nok c rest a held in
-      below n (resumed a c false) rest a.nok (omega arith) (keeps.nok c rest a held))
+      let less = lawful.falls.nok c rest a held in
+      below n (resumed a c false) rest a.nok (omega arith) (lawful.keeps.nok c rest a held))
 
   -- whatever holds has an outcome
   pub has_outcome : (c : Config M) (stack : List Attempt) (s : State) → valid c stack s → HasOutcome text step c stack s

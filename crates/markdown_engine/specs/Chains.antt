@@ -17,11 +17,12 @@ use Rattle.engine_edits.specs.Edits.{Placed}
 use Rattle.engine_edits.specs.Replacement.{edited}
 use Rattle.engine_chunks.specs.Chunks.{chunks}
 use Rattle.engine_chunks.specs.Parts.{counts, divided}
+use Rattle.markdown_engine.specs.Context.{Context}
 use Rattle.markdown_engine.specs.Laws.{HoldsAt}
 use Rattle.markdown_engine.specs.Machine.{fresh}
 use Rattle.markdown_engine.specs.Reading.{Config, Steps, Runs}
 use Rattle.markdown_engine.specs.Resolving.{Found, Resolves, found_both, nothing_found, resolve_all}
-use Rattle.markdown_engine.specs.VirtualText.{Source, Text, line_start, text_to, with_skip}
+use Rattle.markdown_engine.specs.VirtualText.{IsCut, Source, Text, line_start, text_to, unskipped, with_skip}
 
 -- whether a content is asked for; without a filter each is
 abbrev pub is_asked : Option Content → Content → Bool
@@ -62,10 +63,9 @@ abbrev pub AreApart : ℕ → List ℕ → ℕ → Type 0
 AreApart from [] count = from ≤ count
 AreApart from (k ∷ ks) count = (from ≤ k) × AreApart (k + 2) ks count
 
--- a place of a text: only before its end a tab has columns
-pub record IsPlace (bytes : List ℕ) (p : Point) : Type 0 where
-  pub within : p.index ≤ length bytes
-  pub column : p.index ≡ length bytes → p.vs ≡ 0
+-- a place of a text
+abbrev pub IsPlace : List ℕ → Point → Type 0
+IsPlace bytes p = IsCut bytes (p.index, p.vs)
 
 -- where the event at an index is; past the last one, at the text's start
 abbrev pub place_at : List Event → ℕ → Point
@@ -76,6 +76,11 @@ place_at (e ∷ es) (suc k) = place_at es k
 -- each event is at a place of the text
 abbrev pub ArePlaces : List ℕ → List Event → Type 0
 ArePlaces bytes events = (k : ℕ) → k < length events → IsPlace bytes (place_at events k)
+
+-- the chains that are asked for can be read
+pub record AreReadable (bytes : List ℕ) (filter : Option Content) (events : List Event) : Type 0 where
+  pub places : ArePlaces bytes events
+  pub apart : AreApart 0 (chunks_of events (chains filter events)) (length events)
 
 -- a chunk whose line starts at or after the end of the chunk before
 abbrev pub starts_line : List ℕ → Point → Point → Bool
@@ -95,16 +100,12 @@ abbrev pub end_of : List Event → Point → List ℕ → Point
 end_of events end [] = end
 end_of events end (k ∷ ks) = end_of events (place_at events (k + 1)) ks
 
--- a text of which nothing is skipped
-abbrev pub unskipped : List ℕ → Source
-unskipped bytes = record { bytes = bytes; skips = [] }
-
 -- a chain's text: up to its last chunk's end, without what stands before chunks on their lines
 abbrev pub chain_text : List ℕ → List Event → ℕ → Text
 chain_text bytes events k =
     let first = place_at events k in
     let end = end_of events first (chunks events k) in
-    text_to (with_chunks events first (chunks events k) (record { bytes = bytes; skips = [] })) (end.index, end.vs)
+    text_to (with_chunks events first (chunks events k) (unskipped bytes)) (end.index, end.vs)
 
 -- the state that a content is read by
 abbrev pub first_state : Content → Name
@@ -133,6 +134,17 @@ pub record Subtokenized {M : Type 0} (step : Steps M) (resolve : Resolves M) (by
   pub edits : List Placed
   pub divides : Divides step resolve bytes machine old (chains filter old) (0, 0) [] edits nothing_found found
   pub edited : new ≡ edited edits old
+
+-- the same, with what a text is read with
+module _ {T M : Type 0} (step : Context T → Steps M) (resolve : Context T → Resolves M) (x : Context T) (machine : M) where
+  abbrev pub ReadsChainIn : List Event → Chain → List Event → Found → Type 0
+  ReadsChainIn events chain children found = ReadsChain (step x) (resolve x) x.bytes machine events chain children found
+
+  abbrev pub DividesIn : Option Content → List Event → List Placed → List Placed → Found → Type 0
+  DividesIn filter events edits all total = Divides (step x) (resolve x) x.bytes machine events (chains filter events) (0, 0) edits all nothing_found total
+
+  abbrev pub SubtokenizedIn : Option Content → List Event → List Event → Found → Type 0
+  SubtokenizedIn filter old new found = Subtokenized (step x) (resolve x) x.bytes machine filter old new found
 
 -- the machine may begin each of these chains
 abbrev pub MayBegin : {M : Type 0} → HoldsAt M → M → List Event → List Chain → Type 0

@@ -1,5 +1,5 @@
 -- What a machine's steps keep.
-use Rattle.std.specs.Prelude.{◌≡◌, ℕ, ◌+◌, ◌-◌, ◌*◌, ◌<◌, ◌≤◌, Bool, true, false, List, [], ◌∷◌, ◌++◌, map, length, Option, Some}
+use Rattle.std.specs.Prelude.{◌≡◌, ℕ, ◌+◌, ◌-◌, ◌*◌, ◌<◌, ◌≤◌, Bool, true, false, List, [], ◌∷◌, ◌++◌, map, length, Option, Some, ◌⊎◌}
 use Rattle.std.specs.Borrow.{Bor}
 use Rattle.markdown_options.specs.declared.message.Message.{Message}
 use Rattle.engine_events.specs.declared.event.Event.{Event}
@@ -10,8 +10,8 @@ use Rattle.engine_events.specs.declared.state.State.TheVariants as states
 use Rattle.markdown_engine.specs.declared.attempt.Attempt.{Attempt}
 use Rattle.markdown_engine.specs.declared.virtual_text.VirtualByte.{VirtualByte}
 use Rattle.markdown_engine.specs.Context.{Context}
-use Rattle.markdown_engine.specs.Order.{Reaches, IsTidy, opened}
-use Rattle.markdown_engine.specs.Reading.{Config, Frame, Steps, mark, moved, resumed, handed, ended}
+use Rattle.markdown_engine.specs.Order.{IsTidy, LeadsOn, Reaches, opened}
+use Rattle.markdown_engine.specs.Reading.{Config, Frame, Steps, consumed, ended, handed, mark, moved, resumed}
 
 -- the first list is a front of the second
 abbrev pub IsFront : List Event → List Event → Type 0
@@ -25,9 +25,6 @@ Nested before (f ∷ fs) after = IsFront before f.start.events × Nested f.start
 -- events are only added
 abbrev pub OnlyAdds : {M : Type 0} → Steps M → Type 0
 OnlyAdds {M} step = (c : Config M) (n : Name) → let e = step c n in Nested c.events e.pushed e.config.events
-
-abbrev pub Adds : {T M : Type 0} → (Context T → Steps M) → Type 0
-Adds {T} step = (x : Context T) → OnlyAdds (step x)
 
 -- how many bytes of the virtual text are left at most, in a text of so many bytes
 abbrev pub remaining : ℕ → Point → ℕ
@@ -44,6 +41,11 @@ pub record IsFed (size : ℕ) (from p : Point) (v : Option VirtualByte) : Type 0
   pub forward : remaining size p ≤ remaining size from
   pub order : Reaches from p
   pub read : (w : VirtualByte) → v ≡ Some w → IsRead size p w
+
+-- a byte that is at hand leads on, and leaves less
+pub record IsAhead {M : Type 0} (size : ℕ) (c : Config M) : Type 0 where
+  pub less : (b : ℕ) → c.current ≡ Some b → remaining size c.next < remaining size c.point
+  pub leads : LeadsOn c
 
 -- what holds of a configuration, its stack and its next state
 abbrev pub HoldsAt : Type 0 → Type 1
@@ -72,9 +74,6 @@ pub record KeepsAt {M : Type 0} (size : ℕ) (valid : HoldsAt M) (step : Steps M
   -- an error is no state: it is answered for want of memory alone
   pub no_error : (c : Config M) (stack : List Attempt) (m : Bor Message) → valid c stack (states.Error m) → ⊥
 
-abbrev pub Keeps : {T M : Type 0} → Holds T M → (Context T → Steps M) → Type 0
-Keeps {T} valid step = (x : Context T) → KeepsAt (length x.bytes) (valid x) (step x)
-
 -- a number that falls with each turn
 abbrev pub RanksAt : Type 0 → Type 0
 RanksAt M = Config M → List Attempt → State → ℕ
@@ -92,19 +91,55 @@ pub record FallsAt {M : Type 0} (size : ℕ) (valid : HoldsAt M) (step : Steps M
   pub nok : (c : Config M) (stack : List Attempt) (a : Attempt) → valid c (stack ++ a ∷ []) states.Nok
       → rank (resumed a c false) stack a.nok < rank c (stack ++ a ∷ []) states.Nok
 
-abbrev pub Falls : {T M : Type 0} → Holds T M → (Context T → Steps M) → Ranks T M → Type 0
-Falls {T} valid step rank = (x : Context T) → FallsAt (length x.bytes) (valid x) (step x) (rank x)
+-- the place stays, with what is around it
+pub record IsStill {M : Type 0} (c d : Config M) : Type 0 where
+  pub point : d.point ≡ c.point
+  pub next : d.next ≡ c.next
+  pub line_start : d.line_start ≡ c.line_start
+  pub previous : d.previous ≡ c.previous
+  pub current : d.current ≡ c.current
+
+-- there was a byte, and it was consumed once
+abbrev pub HasConsumed : {M : Type 0} → Config M → Config M → Type 0
+HasConsumed c d = (b : ℕ) × (c.current ≡ Some b) × IsStill (consumed c) d
+
+-- the same, or nothing was consumed
+abbrev pub MayConsume : {M : Type 0} → Config M → Config M → Type 0
+MayConsume c d = IsStill c d ⊎ HasConsumed c d
+
+-- what is consumed by a call that answers a state
+abbrev pub Consumes : {M : Type 0} → State → Config M → Config M → Type 0
+Consumes (states.Error m) c d = Unit {0}
+Consumes (states.Next n) c d = HasConsumed c d
+Consumes (states.Retry n) c d = IsStill c d
+Consumes states.Ok c d = MayConsume c d
+Consumes states.Nok c d = MayConsume c d
+
+-- each attempt of a call begins before or after the byte, and then goes on with no byte at hand
+abbrev pub BeginAround : {M : Type 0} → Config M → List (Frame M) → Type 0
+BeginAround c [] = Unit {0}
+BeginAround c (f ∷ fs) = MayConsume c f.start × MovesOn f.ok × MovesOn f.nok × BeginAround c fs
+
+-- next comes a byte after exactly one was consumed, and the same byte after none; at the end none is consumed
+abbrev pub ConsumesAt : {M : Type 0} → HoldsAt M → Steps M → Type 0
+ConsumesAt {M} valid step = (c : Config M) (stack : List Attempt) (n : Name) → valid c stack (states.Retry n) → let e = step c n in Consumes e.state c e.config × BeginAround c e.pushed
 
 -- events are nested and in order of place
 abbrev pub TidiesAt : {M : Type 0} → HoldsAt M → Type 0
 TidiesAt {M} valid = (c : Config M) (stack : List Attempt) (s : State) → valid c stack s → IsTidy c
 
-abbrev pub Tidies : {T M : Type 0} → Holds T M → Type 0
-Tidies {T} valid = (x : Context T) → TidiesAt (valid x)
-
 -- nothing is open at the end
 abbrev pub ClosesAt : {M : Type 0} → HoldsAt M → Type 0
 ClosesAt {M} valid = (c : Config M) (well : Bool) → valid c [] (ended well) → opened [] c.events ≡ []
 
-abbrev pub Closes : {T M : Type 0} → Holds T M → Type 0
-Closes {T} valid = (x : Context T) → ClosesAt (valid x)
+-- the laws of reading
+pub record LawfulAt {M : Type 0} (size : ℕ) (valid : HoldsAt M) (step : Steps M) (rank : RanksAt M) : Type 0 where
+  pub adds : OnlyAdds step
+  pub consumes : ConsumesAt valid step
+  pub keeps : KeepsAt size valid step
+  pub falls : FallsAt size valid step rank
+  pub tidies : TidiesAt valid
+  pub closes : ClosesAt valid
+
+abbrev pub Lawful : {T M : Type 0} → Holds T M → (Context T → Steps M) → Ranks T M → Type 0
+Lawful {T} valid step rank = (x : Context T) → LawfulAt (length x.bytes) (valid x) (step x) (rank x)

@@ -9,6 +9,7 @@ pub mod Resolving
 pub mod Machine
 pub mod Chains
 pub mod OrderLaws
+pub mod StepLaws
 pub mod ReadingLaws
 pub mod Outcomes
 pub mod ResolvingLaws

@@ -1,5 +1,5 @@
 -- What the calls of a tokenizer do.
-use Rattle.std.specs.Prelude.{◌≡◌, ℕ, ◌+◌, ◌≤◌, ◌<◌, Bool, true, false, if◌then◌else◌, length, List, [], ◌∷◌, ◌++◌, map, Option, None, ◌⊎◌}
+use Rattle.std.specs.Prelude.{◌≡◌, ℕ, ◌+◌, ◌≤◌, ◌<◌, Bool, true, false, if◌then◌else◌, length, List, [], ◌∷◌, ◌++◌, map, OnOk, Option, None, Result, ◌⊎◌}
 use Rattle.engine_events.specs.declared.event.Name.{Name}
 use Rattle.engine_events.specs.declared.event.Kind.TheVariants.{Enter, Exit}
 use Rattle.engine_events.specs.declared.state.State.{State}
@@ -7,11 +7,13 @@ use Rattle.engine_events.specs.declared.state.State.TheVariants as states
 use Rattle.engine_events.specs.declared.event.Link.{Link}
 use Rattle.engine_events.specs.Events.{event}
 pub use Rattle.engine_events.specs.States.{Refused}
+pub use Rattle.markdown_engine.specs.Reading.{consumed}
 use Rattle.markdown_engine.specs.declared.tokenizer.Tokenizer.{Tokenizer}
+use Rattle.engine_events.specs.declared.subresult.Subresult.{Subresult}
 use Rattle.engine_edits.specs.Edits.{edits_of}
 use Rattle.markdown_engine.specs.Kept.{kept, nothing_kept}
 use Rattle.markdown_engine.specs.Context.{Context, context}
-use Rattle.markdown_engine.specs.Resolving.{Found, Resolves, finished}
+use Rattle.markdown_engine.specs.Resolving.{Found, Resolved, Resolves, finished, found_in}
 use Rattle.markdown_engine.specs.Reading.{Config, Effect, Frame, Steps, Outcome, Runs, ended, mark, moved}
 use Rattle.engine_events.specs.declared.resolve.Name.{Name as Resolver}
 use Rattle.markdown_engine.specs.Resolvers.{with_first, with_last}
@@ -27,6 +29,10 @@ module _ {M T A : Type 0} where
   -- what it reads from
   abbrev pub source : Tokenizer M T A → Source
   source t = record { bytes = t.parse_state.now.bytes.now; skips = t.skips.entries }
+
+  -- where it reads, as bytes
+  abbrev pub bytes_of : Tokenizer M T A → List ℕ
+  bytes_of t = t.parse_state.now.bytes.now
 
   -- what it reads with
   abbrev pub read_with : Tokenizer M T A → Context T
@@ -111,6 +117,15 @@ module _ {M T A : Type 0} where
     pub config : config new ≡ (finished resolve all read).config
     pub labels : found ≡ (finished resolve all read).found
 
+  -- the same, with what the tokenizer reads with
+  abbrev pub Completes : (Context T → Steps M) → (Context T → Resolves M) → ℕ × ℕ → Bool → State → Tokenizer M T A → Tokenizer M T A → Found → Type 0
+  Completes step resolve to all given old new found = Completed (text_to (source old) to) (step (read_with old)) (resolve (read_with old)) all given old new found
+
+  -- resolvers left this, and found this
+  pub record IsResolved (r : Resolved M) (new : Tokenizer M T A) (given : Subresult A) : Type 0 where
+    pub config : config new ≡ r.config
+    pub found : found_in given ≡ r.found
+
   -- the text read at once
   pub record ReadWhole (from : Source) (step : Steps M) (given : State) (old new : Tokenizer M T A) (s : State) : Type 0 where
     pub well : Bool
@@ -123,12 +138,22 @@ module _ {M T A : Type 0} where
     pub holds : Refused s ⊎ valid (config t) t.attempts.items s
     pub reads : Refused s ⊎ GoesAll step (source first) to end given first t s
 
+  -- neither the text nor what is skipped was touched
+  pub record SameText (old new : Tokenizer M T A) : Type 0 where
+    pub parse_state : new.parse_state ≡ old.parse_state
+    pub skips : new.skips ≡ old.skips
+
   -- a part of a call changed the configuration so
   pub record Became (c : Config M) (old new : Tokenizer M T A) : Type 0 where
     pub config : config new ≡ c
     pub attempts : new.attempts ≡ old.attempts
-    pub parse_state : new.parse_state ≡ old.parse_state
-    pub skips : new.skips ≡ old.skips
+    pub text : SameText old new
+
+  -- an attempt begins, unless memory is wanted; nothing else changes
+  pub record Began {E : Type 0} (f : Frame M) (old new : Tokenizer M T A) (result : Result (Unit {0}) E) : Type 0 where
+    pub config : config new ≡ config old
+    pub text : SameText old new
+    pub pushed : OnOk result (new.attempts.items ≡ old.attempts.items ++ mark f ∷ [])
 
   -- where `push` stops: at the range's end, or with nothing that waits
   abbrev pub Reached : ℕ × ℕ → Tokenizer M T A → State → Type 0
@@ -156,10 +181,6 @@ module _ {M : Type 0} where
 
   abbrev pub exited : Name → Config M → Config M
   exited name c = record c { events = c.events ++ event Exit name (if is_feed c.previous then c.line_start else c.point) None ∷ [] }
-
-  -- over the byte
-  abbrev pub consumed : Config M → Config M
-  consumed c = record c { point = c.next; line_start = if is_feed c.current then c.next else c.line_start; previous = c.current; current = None }
 
   -- with a resolver registered, to run last or first
   abbrev pub to_run_last : Resolver → Config M → Config M

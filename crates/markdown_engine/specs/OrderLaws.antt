@@ -65,7 +65,7 @@ pub tidy_on : (es : List Event) (p q : Point) → AreTidy es p → Reaches p q �
 tidy_on es p q h k = record { nested = h.nested; order = order_on text_start p q es h.order k }
 
 -- right after a byte an exit stands at the point
-exit_place : (b : Bool) (p line : Point) → (if b then (if b then p else line) else p) ≡ p
+pub exit_place : (b : Bool) (p line : Point) → (if b then (if b then p else line) else p) ≡ p
 exit_place true p line = refl
 exit_place false p line = refl
 

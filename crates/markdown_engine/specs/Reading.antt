@@ -1,5 +1,5 @@
 -- What reading gives: an ordered choice with look ahead, by recursion, with no stack of marks.
-use Rattle.std.specs.Prelude.{◌≡◌, ℕ, Bool, true, false, List, [], ◌∷◌, length, take, Option, Some, None, cond}
+use Rattle.std.specs.Prelude.{◌≡◌, ℕ, Bool, true, false, List, [], ◌∷◌, length, take, Option, Some, None, cond, if◌then◌else◌}
 use Rattle.engine_events.specs.declared.event.Event.{Event}
 use Rattle.engine_events.specs.declared.place.Point.{Point}
 use Rattle.engine_events.specs.declared.state.Name.{Name}
@@ -10,7 +10,7 @@ use Rattle.markdown_engine.specs.declared.attempt.Attempt.{Attempt}
 use Rattle.engine_edits.specs.Edits.{Placed}
 use Rattle.markdown_engine.specs.Kept.{Kept}
 use Rattle.markdown_engine.specs.declared.virtual_text.VirtualByte.{VirtualByte}
-use Rattle.markdown_engine.specs.VirtualText.{Text}
+use Rattle.markdown_engine.specs.VirtualText.{Text, is_feed}
 
 -- what a state may read and write: the events so far, the place, the place after the byte there, where the line starts, the byte before, the byte, what states keep for one another, the edits that are to be made, the resolvers that are to run, how the text stands among its containers, and the machine
 pub record Config (M : Type 0) : Type 0 where
@@ -61,6 +61,10 @@ moved p c = record c { point = p }
 -- the byte of a place, or the end there, is handed in
 abbrev pub handed : {M : Type 0} → Config M → Point → Option VirtualByte → Config M
 handed c p v = record c { point = p; current = byte_of v; next = place_after c.next v }
+
+-- over the byte
+abbrev pub consumed : {M : Type 0} → Config M → Config M
+consumed c = record c { point = c.next; line_start = if is_feed c.current then c.next else c.line_start; previous = c.current; current = None }
 
 -- the next byte is handed in, at the text's end none
 abbrev pub feed : {M : Type 0} → Text → Config M → Config M

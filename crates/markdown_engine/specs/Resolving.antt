@@ -8,7 +8,7 @@ use Rattle.engine_edits.specs.Replacement.{IsOrdered, edited}
 use Rattle.markdown_engine.specs.Context.{Context}
 use Rattle.markdown_engine.specs.Laws.{HoldsAt, Holds}
 use Rattle.markdown_engine.specs.Order.{AreWhole}
-use Rattle.markdown_engine.specs.Reading.{Config, Steps}
+use Rattle.markdown_engine.specs.Reading.{Config, Effect, Steps}
 
 -- the labels of the definitions that were found
 pub record Found : Type 0 where
@@ -84,9 +84,13 @@ IsUnresolved c = (c.map ≡ []) × (c.resolvers ≡ [])
 abbrev pub Unresolved : {M : Type 0} → HoldsAt M → HoldsAt M
 Unresolved valid c stack s = valid c stack s × IsUnresolved c
 
--- the steps leave edits and resolvers as they are
+-- a call leaves edits and resolvers as they are
+abbrev pub LeavesAt : {M : Type 0} → Config M → Effect M → Type 0
+LeavesAt c e = (e.config.map ≡ c.map) × (e.config.resolvers ≡ c.resolvers)
+
+-- so do all
 abbrev pub Leaves : {M : Type 0} → Steps M → Type 0
-Leaves {M} step = (c : Config M) (n : Name) → ((step c n).config.map ≡ c.map) × ((step c n).config.resolvers ≡ c.resolvers)
+Leaves {M} step = (c : Config M) (n : Name) → LeavesAt c (step c n)
 
 abbrev pub resolves_nothing : {M : Type 0} → Resolves M
 resolves_nothing c n = record { config = c; found = nothing_found }

@@ -9,7 +9,7 @@ use Rattle.engine_events.specs.Events.{link_of, point_of}
 use Rattle.engine_edits.specs.Edits.{Placed}
 use Rattle.engine_edits.specs.Replacement.{IsOrdered, Places, edited, places, relinked, relinked_as}
 use Rattle.markdown_engine.specs.declared.attempt.Attempt.{Attempt}
-use Rattle.markdown_engine.specs.Laws.{ClosesAt, FallsAt, HoldsAt, KeepsAt, RanksAt, TidiesAt}
+use Rattle.markdown_engine.specs.Laws.{FallsAt, HoldsAt, KeepsAt, LawfulAt, RanksAt}
 use Rattle.markdown_engine.specs.Order.{AreWhole, InOrder, IsNested, MayStand, Reaches, opened, opened_by, text_start}
 use Rattle.markdown_engine.specs.Reading.{Config, Steps, restore, resumed}
 use Rattle.markdown_engine.specs.Resolving.{IsUnresolved, Leaves, ResolvesAt, Unresolved, resolves_nothing, settles_whole}
@@ -59,7 +59,7 @@ module _ {M : Type 0} (size : ℕ) (valid : HoldsAt M) (step : Steps M) where
   back a c true h = elim a.check as (λ b. IsUnresolved (cond b (restore a c) c)) [ true ↦ h | false ↦ h ]
   back a c false h = h
 
-  pub keeps_unresolved : Leaves step → KeepsAt size valid step → KeepsAt size (Unresolved valid) step
+  keeps_unresolved : Leaves step → KeepsAt size valid step → KeepsAt size (Unresolved valid) step
   keeps_unresolved leaves keeps = record {
     fed = λ c stack n p v fed h. (keeps.fed c stack n p v fed h.0, h.1);
     moved = λ c stack s p on less order h. (keeps.moved c stack s p on less order h.0, h.1);
@@ -69,7 +69,7 @@ module _ {M : Type 0} (size : ℕ) (valid : HoldsAt M) (step : Steps M) where
     no_error = λ c stack m h. keeps.no_error c stack m h.0;
   }
 
-  pub falls_unresolved : (rank : RanksAt M) → FallsAt size valid step rank → FallsAt size (Unresolved valid) step rank
+  falls_unresolved : (rank : RanksAt M) → FallsAt size valid step rank → FallsAt size (Unresolved valid) step rank
   falls_unresolved rank falls = record {
     fed = λ c stack n p v h fed. falls.fed c stack n p v h.0 fed;
     called = λ c stack n h. falls.called c stack n h.0;
@@ -77,17 +77,21 @@ module _ {M : Type 0} (size : ℕ) (valid : HoldsAt M) (step : Steps M) where
     nok = λ c stack a h. falls.nok c stack a h.0;
   }
 
-module _ {M : Type 0} (valid : HoldsAt M) where
-  pub tidies_unresolved : TidiesAt valid → TidiesAt (Unresolved valid)
-  tidies_unresolved tidies c stack s h = tidies c stack s h.0
+  -- a lawful machine stays lawful
+  pub lawful_unresolved : (rank : RanksAt M) → Leaves step → LawfulAt size valid step rank → LawfulAt size (Unresolved valid) step rank
+  lawful_unresolved rank leaves lawful = record {
+    adds = lawful.adds;
+    consumes = λ c stack n h. lawful.consumes c stack n h.0;
+    keeps = keeps_unresolved leaves lawful.keeps;
+    falls = falls_unresolved rank lawful.falls;
+    tidies = λ c stack s h. lawful.tidies c stack s h.0;
+    closes = λ c well h. lawful.closes c well h.0;
+  }
 
-  pub closes_unresolved : ClosesAt valid → ClosesAt (Unresolved valid)
-  closes_unresolved closes c well h = closes c well h.0
-
-  pub resolves_unresolved : ((c : Config M) → valid c [] states.Nok → ⊥) → TidiesAt valid → ClosesAt valid → ResolvesAt (Unresolved valid) resolves_nothing settles_whole
-  resolves_unresolved well tidies closes = record {
+  pub resolves_unresolved : (rank : RanksAt M) → LawfulAt size valid step rank → ((c : Config M) → valid c [] states.Nok → ⊥) → ResolvesAt (Unresolved valid) resolves_nothing settles_whole
+  resolves_unresolved rank lawful well = record {
     well = λ c h. well c h.0;
-    begins = λ c h. let t = tidies c [] states.Ok h.0 in (h.1.0, ((t.nested, closes c true h.0), t.order));
+    begins = λ c h. let t = lawful.tidies c [] states.Ok h.0 in (h.1.0, ((t.nested, lawful.closes c true h.0), t.order));
     keeps = λ c n ns h. h;
     ordered = λ c h. no_edits c.map (length c.events) h.0;
     whole = λ c h. unedited c.map c.events c.point h.0 h.1;

@@ -7,6 +7,7 @@ use Rattle.engine_edits.specs.Replacement.{Places, relinked}
 use Rattle.engine_chunks.specs.Chunks.{chunks}
 use Rattle.engine_chunks.specs.Parts.{counts, divided, places_of}
 use Rattle.markdown_engine.specs.Chains.{Chain, chains, Divides, Subtokenized}
+use Rattle.markdown_engine.specs.Context.{Context}
 use Rattle.markdown_engine.specs.Reading.{Steps}
 use Rattle.markdown_engine.specs.Resolving.{Found, Resolves, found_both, nothing_found}
 
@@ -26,3 +27,7 @@ module _ {M : Type 0} (step : Steps M) (resolve : Resolves M) (bytes : List ℕ)
 abbrev pub LinksLead : {M : Type 0} → Steps M → Resolves M → List ℕ → M → Option Content → List Event → List Event → Found → Type 0
 LinksLead step resolve bytes machine filter old new found =
     (read : Subtokenized step resolve bytes machine filter old new found) → EachStands step resolve bytes machine old new (chains filter old) (0, 0) [] read.edits nothing_found found read.divides
+
+-- the same, with what a text is read with
+abbrev pub LinksLeadIn : {T M : Type 0} → (Context T → Steps M) → (Context T → Resolves M) → Context T → M → Option Content → List Event → List Event → Found → Type 0
+LinksLeadIn step resolve x machine filter old new found = LinksLead (step x) (resolve x) x.bytes machine filter old new found

@@ -1,5 +1,5 @@
 -- The text as the states see it (CommonMark 2.1 and 2.2): a tab gives itself and then spaces up to the next tab stop, a line ending gives one line feed, and a line may be read from a later place than its start.
-use Rattle.std.specs.Prelude.{◌≡◌, ℕ, ◌+◌, ◌-◌, ◌^◌, zero, suc, min, Bool, true, false, not, ◌==◌, ◌&&◌, ◌||◌, nat_lt, nat_le, if◌then◌else◌, List, slice_get, slice_index, Option, None, Some}
+use Rattle.std.specs.Prelude.{◌≡◌, ℕ, ◌+◌, ◌-◌, ◌^◌, ◌≤◌, length, zero, suc, min, Bool, true, false, not, ◌==◌, ◌&&◌, ◌||◌, nat_lt, nat_le, if◌then◌else◌, List, [], slice_get, slice_index, Option, None, Some}
 use Rattle.std.specs.Ordering.{nat_cmp}
 use Rattle.std.specs.BTreeMap.{is_at, insert_entry}
 use Rattle.std.specs.Map.{lookup}
@@ -54,6 +54,11 @@ virtual_byte bytes p = given bytes p (slice_index bytes p.index)
 abbrev pub is_before : ℕ × ℕ → Point → Bool
 is_before to p = nat_lt p.index to.0 || ((p.index == to.0) && nat_lt p.vs to.1)
 
+-- where a text may be cut: an index and a column of a tab there, of which only the text's end has none
+pub record IsCut (bytes : List ℕ) (to : ℕ × ℕ) : Type 0 where
+  pub within : to.0 ≤ length bytes
+  pub column : to.0 ≡ length bytes → to.1 ≡ 0
+
 -- the byte at a place, before an index and a column of a tab there
 abbrev pub byte_before : List ℕ → ℕ × ℕ → Point → Option VirtualByte
 byte_before bytes to p = if is_before to p then Some (virtual_byte bytes p) else None
@@ -93,6 +98,10 @@ pub data Walks (bytes : List ℕ) (to : ℕ × ℕ) : Point → Point → Type 0
 pub record Source : Type 0 where
   pub bytes : List ℕ
   pub skips : Skips
+
+-- a text of which nothing is skipped
+abbrev pub unskipped : List ℕ → Source
+unskipped bytes = record { bytes = bytes; skips = [] }
 
 -- of a further line that has a skip
 abbrev pub with_skip : Source → Point → Source

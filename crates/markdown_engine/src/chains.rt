@@ -8,11 +8,11 @@ ghost use Rattle.markdown_options.specs.Messages.{IsOutOfMemory};
 ghost use Rattle.engine_events.specs.declared.state.State.TheVariants as states;
 ghost use Rattle.engine_edits.specs.Edits.{edits_of};
 ghost use Rattle.engine_chunks.specs.Chunks.{chunks};
-ghost use Rattle.markdown_engine.specs.Chains.{AreApart, ArePlaces, Divides, IsPlace, MayBegin, ReadsChain, Subtokenized, chain_content, chains, chunks_of, first_state, after_chunk, is_empty, starts_line, with_chunks, end_of, place_at};
+ghost use Rattle.markdown_engine.specs.Chains.{AreApart, ArePlaces, AreReadable, DividesIn, IsPlace, MayBegin, ReadsChainIn, SubtokenizedIn, after_chunk, chain_content, chains, end_of, first_state, is_empty, place_at, starts_line, with_chunks};
 ghost use Rattle.markdown_engine.specs.Context.{context};
-ghost use Rattle.markdown_engine.specs.Machine.{config, fresh, source};
+ghost use Rattle.markdown_engine.specs.Machine.{bytes_of, config, fresh, source};
 ghost use Rattle.markdown_engine.specs.Resolving.{found_in, nothing_found};
-ghost use Rattle.markdown_engine.specs.Standing.{LinksLead};
+ghost use Rattle.markdown_engine.specs.Standing.{LinksLeadIn};
 
 use crate::flush::{add_found, nothing_found};
 use crate::parse_state::ParseState;
@@ -76,7 +76,7 @@ fn skip_before<'a, M, T, A: Allocator + Clone>(
     end: Point,
     start: Point,
 ) -> Result<(), Message>
-    requires { start.index ≤ length tokenizer.old.parse_state.now.bytes.now }
+    requires { start.index ≤ length (bytes_of tokenizer.old) }
     ensures source { OnOk result (source tokenizer.new ≡ after_chunk end start (source tokenizer.old)) }
     ensures config { config tokenizer.new ≡ config tokenizer.old }
     ensures attempts { tokenizer.new.attempts ≡ tokenizer.old.attempts }
@@ -97,11 +97,11 @@ fn skip_before_chunks<'a, M, T, A: Allocator + Clone>(
     chain: &[usize],
 ) -> Result<Point, Message>
     requires apart { AreApart 0 chain.now (length events.now) }
-    requires places { ArePlaces tokenizer.old.parse_state.now.bytes.now events.now }
-    requires place { IsPlace tokenizer.old.parse_state.now.bytes.now tokenizer.old.point }
+    requires places { ArePlaces (bytes_of tokenizer.old) events.now }
+    requires place { IsPlace (bytes_of tokenizer.old) tokenizer.old.point }
     ensures source { OnOk result (source tokenizer.new ≡ with_chunks events.now tokenizer.old.point chain.now (source tokenizer.old)) }
     ensures end { IfOk result (λ end. end ≡ end_of events.now tokenizer.old.point chain.now) }
-    ensures place { IfOk result (λ end. IsPlace tokenizer.old.parse_state.now.bytes.now end) }
+    ensures place { IfOk result (λ end. IsPlace (bytes_of tokenizer.old) end) }
     ensures config { config tokenizer.new ≡ config tokenizer.old }
     ensures attempts { tokenizer.new.attempts.items ≡ tokenizer.old.attempts.items }
     ensures failed { tokenizer.new.failed ≡ tokenizer.old.failed }
@@ -129,7 +129,7 @@ fn read_chain<M: Machine<T> + Copy, T: Tables, A: Allocator + Clone>(
     requires apart { AreApart 0 (chunks events.now first) (length events.now) }
     requires places { ArePlaces parse_state.now.bytes.now events.now }
     requires begins { M.valid (context parse_state.now) (fresh (place_at events.now first) machine) [] (states.Next (first_state content)) }
-    ensures reads { IfOk result (λ read. ReadsChain (M.step (context parse_state.now)) (M.resolved (context parse_state.now)) parse_state.now.bytes.now machine events.now (first, content) read.0.items (found_in read.1)) }
+    ensures reads { IfOk result (λ read. ReadsChainIn M.step M.resolved (context parse_state.now) machine events.now (first, content) read.0.items (found_in read.1)) }
     ensures memory { IfErr result (λ message. IsOutOfMemory message) }
 {
     let chain = chunks(alloc.clone()?, events, first)?;
@@ -151,10 +151,9 @@ fn divide_chains<M: Machine<T> + Copy, T: Tables, A: Allocator + Clone>(
     machine: M,
     filter: Option<Content>,
 ) -> Result<Subresult<A>, Message>
-    requires apart { AreApart 0 (chunks_of events.now (chains filter events.now)) (length events.now) }
-    requires places { ArePlaces parse_state.now.bytes.now events.now }
+    requires readable { AreReadable parse_state.now.bytes.now filter events.now }
     requires begins { MayBegin (M.valid (context parse_state.now)) machine events.now (chains filter events.now) }
-    ensures divides { IfOk result (λ found. Divides (M.step (context parse_state.now)) (M.resolved (context parse_state.now)) parse_state.now.bytes.now machine events.now (chains filter events.now) (0, 0) (edits_of map.old) (edits_of map.new) nothing_found (found_in found)) }
+    ensures divides { IfOk result (λ found. DividesIn M.step M.resolved (context parse_state.now) machine filter events.now (edits_of map.old) (edits_of map.new) (found_in found)) }
     ensures done { IfOk result (λ found. found.done ≡ is_empty (chains filter events.now)) }
     ensures memory { IfErr result (λ message. IsOutOfMemory message) }
 {
@@ -184,11 +183,10 @@ pub fn subtokenize<M: Machine<T> + Copy, T: Tables, A: Allocator + Clone>(
     machine: M,
     filter: Option<&Content>,
 ) -> Result<Subresult<A>, Message>
-    requires apart { AreApart 0 (chunks_of events.old.items (chains (option_copied filter) events.old.items)) (length events.old.items) }
-    requires places { ArePlaces parse_state.now.bytes.now events.old.items }
+    requires readable { AreReadable parse_state.now.bytes.now (option_copied filter) events.old.items }
     requires begins { MayBegin (M.valid (context parse_state.now)) machine events.old.items (chains (option_copied filter) events.old.items) }
-    ensures read { IfOk result (λ found. Subtokenized (M.step (context parse_state.now)) (M.resolved (context parse_state.now)) parse_state.now.bytes.now machine (option_copied filter.entry) events.old.items events.new.items (found_in found)) }
-    ensures links { IfOk result (λ found. LinksLead (M.step (context parse_state.now)) (M.resolved (context parse_state.now)) parse_state.now.bytes.now machine (option_copied filter.entry) events.old.items events.new.items (found_in found)) }
+    ensures read { IfOk result (λ found. SubtokenizedIn M.step M.resolved (context parse_state.now) machine (option_copied filter.entry) events.old.items events.new.items (found_in found)) }
+    ensures links { IfOk result (λ found. LinksLeadIn M.step M.resolved (context parse_state.now) machine (option_copied filter.entry) events.old.items events.new.items (found_in found)) }
     ensures done { IfOk result (λ found. found.done ≡ is_empty (chains (option_copied filter.entry) events.old.items)) }
     ensures err { OnErr result (events.new.items ≡ events.old.items) }
     ensures memory { IfErr result (λ message. IsOutOfMemory message) }

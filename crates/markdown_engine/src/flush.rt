@@ -38,23 +38,22 @@ pub(crate) fn add_found<A: Allocator>(
 }
 
 impl<'a, M: Machine<T>, T: Tables, A: Allocator + Clone> Tokenizer<'a, M, T, A> {
-    ghost use Rattle.std.specs.Prelude.{◌≡◌, ◌≤◌, [], IfOk, OnOk, OnErr, IfErr, IsErr, length, true, false, ◌⊎◌};
+    ghost use Rattle.std.specs.Prelude.{◌≡◌, ◌⊎◌, IfErr, IfOk, IsErr, OnErr, OnOk, [], false, true};
     ghost use Rattle.markdown_options.specs.Messages.{IsOutOfMemory};
     ghost use Rattle.engine_events.specs.declared.state.State.TheVariants as states;
-    ghost use Rattle.markdown_engine.specs.Machine.{config, source, read_with, Completed, Refused};
+    ghost use Rattle.markdown_engine.specs.Machine.{bytes_of, config, read_with, Completes, IsResolved, Refused};
     ghost use Rattle.markdown_engine.specs.Order.{AreWhole};
-    ghost use Rattle.markdown_engine.specs.Resolving.{Resolved, found_in, resolve_all, resolve_each};
-    ghost use Rattle.markdown_engine.specs.VirtualText.{text_to};
+    ghost use Rattle.markdown_engine.specs.Resolving.{found_in, nothing_found, resolve_all, resolve_each};
+    ghost use Rattle.markdown_engine.specs.VirtualText.{IsCut};
 
     /// Hands in the end where the last range ended, and, if that is asked for, runs the resolvers in
     /// their order and makes the edits that they asked for. Answers what they found.
     ///
     /// Once memory was refused, an error is answered.
     pub fn flush(&mut self, state: State, resolve: bool) -> Result<Subresult<A>, Message>
-        requires within { self.old.end.0 ≤ length self.old.parse_state.now.bytes.now }
-        requires column { self.old.end.0 ≡ length self.old.parse_state.now.bytes.now → self.old.end.1 ≡ 0 }
+        requires end { IsCut (bytes_of self.old) self.old.end }
         requires valid { (self.old.failed ≡ true) ⊎ M.valid (read_with self.old) (config self.old) self.old.attempts.items state }
-        ensures completed { IfOk result (λ found. Completed (text_to (source self.old) self.old.end) (M.step (read_with self.old)) (M.resolved (read_with self.old)) resolve state self.old self.new (found_in found)) }
+        ensures completed { IfOk result (λ found. Completes M.step M.resolved self.old.end resolve state self.old self.new (found_in found)) }
         ensures done { IfOk result (λ found. found.done ≡ false) }
         ensures whole { OnOk result (AreWhole self.new.events.items self.new.point) }
         ensures err { OnErr result (self.new.failed ≡ true) }
@@ -71,10 +70,9 @@ impl<'a, M: Machine<T>, T: Tables, A: Allocator + Clone> Tokenizer<'a, M, T, A> 
         state: State,
         resolve: bool,
     ) -> Result<Subresult<A>, Message>
-        requires within { to.0 ≤ length self.old.parse_state.now.bytes.now }
-        requires column { to.0 ≡ length self.old.parse_state.now.bytes.now → to.1 ≡ 0 }
+        requires to { IsCut (bytes_of self.old) to }
         requires valid { (self.old.failed ≡ true) ⊎ M.valid (read_with self.old) (config self.old) self.old.attempts.items state }
-        ensures completed { IfOk result (λ found. Completed (text_to (source self.old) to) (M.step (read_with self.old)) (M.resolved (read_with self.old)) resolve state self.old self.new (found_in found)) }
+        ensures completed { IfOk result (λ found. Completes M.step M.resolved to resolve state self.old self.new (found_in found)) }
         ensures done { IfOk result (λ found. found.done ≡ false) }
         ensures whole { OnOk result (AreWhole self.new.events.items self.new.point) }
         ensures err { OnErr result (self.new.failed ≡ true) }
@@ -96,10 +94,9 @@ impl<'a, M: Machine<T>, T: Tables, A: Allocator + Clone> Tokenizer<'a, M, T, A> 
         state: State,
         resolve: bool,
     ) -> Result<Subresult<A>, Message>
-        requires within { to.0 ≤ length self.old.parse_state.now.bytes.now }
-        requires column { to.0 ≡ length self.old.parse_state.now.bytes.now → to.1 ≡ 0 }
+        requires to { IsCut (bytes_of self.old) to }
         requires valid { M.valid (read_with self.old) (config self.old) self.old.attempts.items state }
-        ensures completed { IfOk result (λ found. Completed (text_to (source self.old) to) (M.step (read_with self.old)) (M.resolved (read_with self.old)) resolve state self.old self.new (found_in found)) }
+        ensures completed { IfOk result (λ found. Completes M.step M.resolved to resolve state self.old self.new (found_in found)) }
         ensures done { IfOk result (λ found. found.done ≡ false) }
         ensures whole { OnOk result (AreWhole self.new.events.items self.new.point) }
         ensures memory { IfErr result (λ message. IsOutOfMemory message) }
@@ -118,8 +115,7 @@ impl<'a, M: Machine<T>, T: Tables, A: Allocator + Clone> Tokenizer<'a, M, T, A> 
     fn resolve_all(&mut self, found: &mut Subresult<A>) -> Result<(), Message>
         requires settled { M.settled (read_with self.old) (record (config self.old) { resolvers = [] }) self.old.resolvers.items }
         requires nothing { found_in found.old ≡ nothing_found }
-        ensures config { OnOk result (config self.new ≡ (resolve_all (M.resolved (read_with self.old)) (config self.old)).config) }
-        ensures found { OnOk result (found_in found.new ≡ (resolve_all (M.resolved (read_with self.old)) (config self.old)).found) }
+        ensures resolved { OnOk result (IsResolved (resolve_all (M.resolved (read_with self.old)) (config self.old)) self.new found.new) }
         ensures done { found.new.done ≡ found.old.done }
         ensures whole { OnOk result (AreWhole self.new.events.items self.new.point) }
         ensures memory { IfErr result (λ message. IsOutOfMemory message) }
@@ -137,8 +133,7 @@ impl<'a, M: Machine<T>, T: Tables, A: Allocator + Clone> Tokenizer<'a, M, T, A> 
         found: &mut Subresult<A>,
     ) -> Result<(), Message>
         requires settled { M.settled (read_with self.old) (config self.old) names.now }
-        ensures config { OnOk result (config self.new ≡ (resolve_each (M.resolved (read_with self.old)) names.now (config self.old) (found_in found.old)).config) }
-        ensures found { OnOk result (found_in found.new ≡ (resolve_each (M.resolved (read_with self.old)) names.now (config self.old) (found_in found.old)).found) }
+        ensures resolved { OnOk result (IsResolved (resolve_each (M.resolved (read_with self.old)) names.now (config self.old) (found_in found.old)) self.new found.new) }
         ensures settled { OnOk result (M.settled (read_with self.old) (config self.new) []) }
         ensures done { found.new.done ≡ found.old.done }
         ensures memory { IfErr result (λ message. IsOutOfMemory message) }

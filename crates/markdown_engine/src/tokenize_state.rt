@@ -1,6 +1,7 @@
 //! What states keep for one another.
 use engine_events::event::Name;
-use engine_events::{ContainerState, Label, LabelStart};
+use engine_events::state::Name as StateName;
+use engine_events::{ContainerState, Content, Label, LabelStart};
 use std::alloc::{AllocError, Allocator};
 
 /// What states keep for one another; a failed attempt leaves what was written here.
@@ -24,6 +25,8 @@ pub struct TokenizeState<A: Allocator> {
     pub marker: u8,
     /// A second byte to look for.
     pub marker_b: u8,
+    /// The bytes at which data ends.
+    pub markers: &'static [u8],
     /// Several counts, each meant by the construct that uses it.
     pub size: usize,
     pub size_b: usize,
@@ -41,6 +44,21 @@ pub struct TokenizeState<A: Allocator> {
     pub token_4: Name,
     pub token_5: Name,
     pub token_6: Name,
+    /// How many spaces and tabs are read at least and at most, and how many were.
+    pub space_or_tab_min: usize,
+    pub space_or_tab_max: usize,
+    pub space_or_tab_size: usize,
+    /// The name of the event round spaces and tabs.
+    pub space_or_tab_token: Name,
+    /// What spaces and tabs are read as later, and whether they are joined to the chunk before.
+    pub space_or_tab_content: Option<Content>,
+    pub space_or_tab_connect: bool,
+    /// The same where a line ending may stand among them, and whether there were any.
+    pub space_or_tab_eol_content: Option<Content>,
+    pub space_or_tab_eol_connect: bool,
+    pub space_or_tab_eol_ok: bool,
+    /// The state that reading returns to from a part that several constructs have.
+    pub return_to: Option<StateName>,
 }
 
 impl<A: Allocator + Clone> TokenizeState<A> {
@@ -61,6 +79,7 @@ impl<A: Allocator + Clone> TokenizeState<A> {
             connect: false,
             marker: 0,
             marker_b: 0,
+            markers: &[],
             size: 0,
             size_b: 0,
             size_c: 0,
@@ -73,6 +92,16 @@ impl<A: Allocator + Clone> TokenizeState<A> {
             token_4: Name::Data,
             token_5: Name::Data,
             token_6: Name::Data,
+            space_or_tab_min: 0,
+            space_or_tab_max: 0,
+            space_or_tab_size: 0,
+            space_or_tab_token: Name::SpaceOrTab,
+            space_or_tab_content: None,
+            space_or_tab_connect: false,
+            space_or_tab_eol_content: None,
+            space_or_tab_eol_connect: false,
+            space_or_tab_eol_ok: false,
+            return_to: None,
         })
     }
 }

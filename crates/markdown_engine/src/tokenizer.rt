@@ -4,10 +4,10 @@ ghost use Rattle.markdown_options.specs.Messages.{IsOutOfMemory};
 ghost use Rattle.engine_events.specs.declared.state.State.TheVariants as states;
 ghost use Rattle.markdown_engine.specs.Reading.{Steps, mark, restore, resumed, handed};
 ghost use Rattle.std.specs.BTreeMap.{insert_entry};
-ghost use Rattle.markdown_engine.specs.Machine.{config, source, read_with, Answers, Became, Around, Refused, Pushed, Reached, Ended, Flushed, entered, exited, consumed, begun, to_run_first, to_run_last};
+ghost use Rattle.markdown_engine.specs.Machine.{Answers, Around, Became, Began, Ended, Flushed, Pushed, Reached, Refused, SameText, begun, bytes_of, config, consumed, entered, exited, read_with, source, to_run_first, to_run_last};
 ghost use Rattle.markdown_engine.specs.Resolvers.{AreOnce, is_registered};
 ghost use Rattle.markdown_engine.specs.VirtualText.{is_before, line_start};
-ghost use Rattle.markdown_engine.specs.Laws.{Holds, Ranks, Adds, Keeps, Falls, Tidies, Closes};
+ghost use Rattle.markdown_engine.specs.Laws.{Holds, Ranks, Lawful};
 ghost use Rattle.markdown_engine.specs.Context.{Context};
 ghost use Rattle.markdown_engine.specs.Resolving.{Resolves, Settles, Resolving, found_of, found_in, nothing_found};
 ghost use Rattle.engine_events.specs.declared.resolve.Name.{Name as Resolver};
@@ -16,9 +16,7 @@ ghost use Rattle.markdown_engine.specs.Order.{IsInnermost, AreWhole};
 use crate::attempt::Attempt;
 use crate::parse_state::ParseState;
 use crate::tokenize_state::TokenizeState;
-use crate::virtual_text::{
-    VirtualByte, is_before, line_start, place_over, start_of_line, virtual_byte,
-};
+use crate::virtual_text::{VirtualByte, is_before, line_start, place_in, place_over, virtual_byte};
 use engine_edits::EditMap;
 use engine_events::event::Name as EventName;
 use engine_events::state::Name;
@@ -61,20 +59,10 @@ pub trait Machine<T: Tables> {
         ensures parse_state { tokenizer.new.parse_state.now ≡ tokenizer.old.parse_state.now }
         ensures memory { IfErr result (λ message. IsOutOfMemory message) };
 
-    // A state only adds events.
-    ghost only_adds: { Adds step };
-
-    // Each turn of the tokenizer keeps what holds.
-    ghost keeps: { Keeps valid step };
-
-    // Reading ends.
-    ghost falls: { Falls valid step rank };
-
-    // Events are nested and in order of place.
-    ghost tidy: { Tidies valid };
-
-    // Nothing is open at the end.
-    ghost closes: { Closes valid };
+    // The laws of reading: a state only adds events, and answers `Next` after exactly one `consume`
+    // and `Retry` after none; each turn of the tokenizer keeps what holds; reading ends; events are
+    // nested and in order of place, and none is open at the end.
+    ghost lawful: { Lawful valid step rank };
 
     // Each resolver keeps what holds, and leaves edits that can be made.
     ghost resolving: { Resolving valid resolved settled };
@@ -126,7 +114,7 @@ impl<'a, M, T, A: Allocator + Clone> Tokenizer<'a, M, T, A> {
     ghost use Rattle.std.specs.Prelude.{◌≡◌, [], None, false, IfOk, IfErr, OnOk, OnErr, length, ◌≤◌};
     ghost use Rattle.std.specs.Ordering.{nat_cmp};
     ghost use Rattle.std.specs.BTreeMap.{insert_entry};
-    ghost use Rattle.markdown_engine.specs.Machine.{config, fresh};
+    ghost use Rattle.markdown_engine.specs.Machine.{bytes_of, config, fresh};
     ghost use Rattle.markdown_engine.specs.VirtualText.{line_start};
     ghost use Rattle.markdown_options.specs.Messages.{IsOutOfMemory};
 
@@ -172,7 +160,7 @@ impl<'a, M, T, A: Allocator + Clone> Tokenizer<'a, M, T, A> {
 
     /// Makes the reading of a point's line begin at the point, whenever the line is read.
     pub fn define_skip(&mut self, point: Point) -> Result<(), Message>
-        requires { point.index ≤ length self.old.parse_state.now.bytes.now }
+        requires { point.index ≤ length (bytes_of self.old) }
         ensures skips { OnOk result (self.new.skips.entries ≡ insert_entry nat_cmp self.old.skips.entries (line_start self.old.parse_state.now.bytes.now point.index) point) }
         ensures err { OnErr result (self.new.skips.entries ≡ self.old.skips.entries) }
         ensures config { config self.new ≡ config self.old }
@@ -193,8 +181,7 @@ impl<'a, M, T, A: Allocator> Tokenizer<'a, M, T, A> {
     /// Adds that something begins here.
     pub fn enter(&mut self, name: EventName) -> Result<(), Message>
         ensures became { OnOk result (Became (entered name None (config self.old)) self.old self.new) }
-        ensures parse_state { self.new.parse_state ≡ self.old.parse_state }
-        ensures skips { self.new.skips ≡ self.old.skips }
+        ensures text { SameText self.old self.new }
         ensures memory { IfErr result (λ message. IsOutOfMemory message) }
     {
         self.add(Event::new(Kind::Enter, name, self.point, None))?;
@@ -204,8 +191,7 @@ impl<'a, M, T, A: Allocator> Tokenizer<'a, M, T, A> {
     /// Adds that something begins here whose text is read later, together with its neighbours.
     pub fn enter_link(&mut self, name: EventName, link: Link) -> Result<(), Message>
         ensures became { OnOk result (Became (entered name (Some link) (config self.old)) self.old self.new) }
-        ensures parse_state { self.new.parse_state ≡ self.old.parse_state }
-        ensures skips { self.new.skips ≡ self.old.skips }
+        ensures text { SameText self.old self.new }
         ensures memory { IfErr result (λ message. IsOutOfMemory message) }
     {
         self.add(Event::new(Kind::Enter, name, self.point, Some(link)))?;
@@ -216,8 +202,7 @@ impl<'a, M, T, A: Allocator> Tokenizer<'a, M, T, A> {
     pub fn exit(&mut self, name: EventName) -> Result<(), Message>
         requires { IsInnermost name self.old.events.items }
         ensures became { OnOk result (Became (exited name (config self.old)) self.old self.new) }
-        ensures parse_state { self.new.parse_state ≡ self.old.parse_state }
-        ensures skips { self.new.skips ≡ self.old.skips }
+        ensures text { SameText self.old self.new }
         ensures memory { IfErr result (λ message. IsOutOfMemory message) }
     {
         let point = if self.previous == Some(b'\n') {
@@ -232,8 +217,7 @@ impl<'a, M, T, A: Allocator> Tokenizer<'a, M, T, A> {
     /// Adds an event.
     fn add(&mut self, event: Event) -> Result<(), AllocError>
         ensures became { OnOk result (Became (record (config self.old) { events = self.old.events.items ++ event ∷ [] }) self.old self.new) }
-        ensures parse_state { self.new.parse_state ≡ self.old.parse_state }
-        ensures skips { self.new.skips ≡ self.old.skips }
+        ensures text { SameText self.old self.new }
     {
         self.events.push(event)?;
         Ok(())
@@ -259,39 +243,27 @@ impl<'a, M, T, A: Allocator> Tokenizer<'a, M, T, A> {
     /// Tries what follows: goes on with one state if it goes well, and otherwise goes back here
     /// and on with another.
     pub fn attempt(&mut self, ok: State, nok: State) -> Result<(), Message>
-        ensures same { config self.new ≡ config self.old }
-        ensures parse_state { self.new.parse_state ≡ self.old.parse_state }
-        ensures skips { self.new.skips ≡ self.old.skips }
-        ensures pushed { OnOk result (self.new.attempts.items ≡ self.old.attempts.items ++ mark (begun false ok nok (config self.old)) ∷ []) }
+        ensures began { Began (begun false ok nok (config self.old)) self.old self.new result }
         ensures memory { IfErr result (λ message. IsOutOfMemory message) }
     {
-        let attempt = Attempt {
-            check: false,
-            ok,
-            nok,
-            events: self.events.len(),
-            point: self.point,
-            next: self.next,
-            line_start: self.line_start,
-            previous: self.previous,
-            current: self.current,
-        };
-        if self.attempts.push(attempt).is_err() {
-            return Err(Message::out_of_memory());
-        }
-        Ok(())
+        self.begin(false, ok, nok)
     }
 
     /// Looks ahead: goes back here in any case, and on with one state or the other.
     pub fn check(&mut self, ok: State, nok: State) -> Result<(), Message>
-        ensures same { config self.new ≡ config self.old }
-        ensures parse_state { self.new.parse_state ≡ self.old.parse_state }
-        ensures skips { self.new.skips ≡ self.old.skips }
-        ensures pushed { OnOk result (self.new.attempts.items ≡ self.old.attempts.items ++ mark (begun true ok nok (config self.old)) ∷ []) }
+        ensures began { Began (begun true ok nok (config self.old)) self.old self.new result }
+        ensures memory { IfErr result (λ message. IsOutOfMemory message) }
+    {
+        self.begin(true, ok, nok)
+    }
+
+    /// Begins an attempt here.
+    fn begin(&mut self, check: bool, ok: State, nok: State) -> Result<(), Message>
+        ensures began { Began (begun check ok nok (config self.old)) self.old self.new result }
         ensures memory { IfErr result (λ message. IsOutOfMemory message) }
     {
         let attempt = Attempt {
-            check: true,
+            check,
             ok,
             nok,
             events: self.events.len(),
@@ -313,8 +285,7 @@ impl<'a, M, T, A: Allocator> Tokenizer<'a, M, T, A> {
         ensures once { OnOk result (AreOnce self.old.resolvers.items → AreOnce self.new.resolvers.items) }
         ensures there { is_registered name self.old.resolvers.items ≡ true → IsOk result }
         ensures err { OnErr result (config self.new ≡ config self.old) }
-        ensures parse_state { self.new.parse_state ≡ self.old.parse_state }
-        ensures skips { self.new.skips ≡ self.old.skips }
+        ensures text { SameText self.old self.new }
         ensures memory { IfErr result (λ message. IsOutOfMemory message) }
     {
         if self.resolvers.contains(&name) {
@@ -332,8 +303,7 @@ impl<'a, M, T, A: Allocator> Tokenizer<'a, M, T, A> {
         ensures once { OnOk result (AreOnce self.old.resolvers.items → AreOnce self.new.resolvers.items) }
         ensures there { is_registered name self.old.resolvers.items ≡ true → IsOk result }
         ensures err { OnErr result (config self.new ≡ config self.old) }
-        ensures parse_state { self.new.parse_state ≡ self.old.parse_state }
-        ensures skips { self.new.skips ≡ self.old.skips }
+        ensures text { SameText self.old self.new }
         ensures memory { IfErr result (λ message. IsOutOfMemory message) }
     {
         if self.resolvers.contains(&name) {
@@ -349,8 +319,7 @@ impl<'a, M, T, A: Allocator> Tokenizer<'a, M, T, A> {
     fn free(&mut self, attempt: &Attempt)
         ensures config { config self.new ≡ restore attempt.now (config self.old) }
         ensures attempts { self.new.attempts ≡ self.old.attempts }
-        ensures parse_state { self.new.parse_state ≡ self.old.parse_state }
-        ensures skips { self.new.skips ≡ self.old.skips }
+        ensures text { SameText self.old self.new }
     {
         self.events.truncate(attempt.events);
         self.point = attempt.point;
@@ -364,8 +333,7 @@ impl<'a, M, T, A: Allocator> Tokenizer<'a, M, T, A> {
     fn resume(&mut self, attempt: &Attempt, well: bool)
         ensures config { config self.new ≡ resumed attempt.now (config self.old) well }
         ensures attempts { self.new.attempts ≡ self.old.attempts }
-        ensures parse_state { self.new.parse_state ≡ self.old.parse_state }
-        ensures skips { self.new.skips ≡ self.old.skips }
+        ensures text { SameText self.old self.new }
     {
         if !well || attempt.check {
             self.free(attempt);
@@ -376,8 +344,7 @@ impl<'a, M, T, A: Allocator> Tokenizer<'a, M, T, A> {
     fn hand(&mut self, place: Point, given: Option<VirtualByte>)
         ensures config { config self.new ≡ handed (config self.old) place given }
         ensures attempts { self.new.attempts ≡ self.old.attempts }
-        ensures parse_state { self.new.parse_state ≡ self.old.parse_state }
-        ensures skips { self.new.skips ≡ self.old.skips }
+        ensures text { SameText self.old self.new }
     {
         self.point = place;
         match given {
@@ -393,24 +360,20 @@ impl<'a, M, T, A: Allocator> Tokenizer<'a, M, T, A> {
 impl<'a, M: Machine<T>, T: Tables, A: Allocator> Tokenizer<'a, M, T, A> {
     ghost use Rattle.markdown_engine.specs.Laws.{MovesOn};
     ghost use Rattle.std.specs.Prelude.{◌≡◌, ◌≤◌, ◌<◌, [], length, true, false, ◌⊎◌};
-    ghost use Rattle.markdown_engine.specs.Machine.{config, source, read_with, Refused, Opened, Pushed, PushedFrom, Reached, Ended, Flushed, ReadWhole, AreCuts};
-    ghost use Rattle.markdown_engine.specs.VirtualText.{text_to, byte_before, place_in};
+    ghost use Rattle.markdown_engine.specs.Machine.{AreCuts, Ended, Flushed, Opened, Pushed, PushedFrom, ReadWhole, Reached, Refused, bytes_of, config, read_with, source};
+    ghost use Rattle.markdown_engine.specs.VirtualText.{IsCut, byte_before, place_in, text_to};
     ghost use Rattle.markdown_engine.specs.Outcomes.{HasOutcome, HasRun};
 
     /// Where reading goes on: at the start of a line that has a skip, after it.
     fn place(&self) -> Point
         ensures { result ≡ place_in self.now.skips.entries self.now.point }
     {
-        if self.point.column != 1 || self.point.vs != 0 {
-            return self.point;
-        }
-        start_of_line(self.point, self.skips.get(&self.point.index).copied())
+        place_in(&self.skips, self.point)
     }
 
     /// The byte at a place, before the end of a range.
     fn byte_before(&self, place: Point, to: (usize, usize)) -> Option<VirtualByte>
-        requires within { to.0 ≤ length self.now.parse_state.now.bytes.now }
-        requires column { to.0 ≡ length self.now.parse_state.now.bytes.now → to.1 ≡ 0 }
+        requires to { IsCut (bytes_of self.now) to }
         ensures { result ≡ byte_before self.now.parse_state.now.bytes.now to place }
     {
         if is_before(place, to) {
@@ -422,8 +385,7 @@ impl<'a, M: Machine<T>, T: Tables, A: Allocator> Tokenizer<'a, M, T, A> {
 
     /// Reads up to the end of a range, which may be the text's end, too.
     fn read(&mut self, to: (usize, usize), end: bool, state: State) -> State
-        requires within { to.0 ≤ length self.old.parse_state.now.bytes.now }
-        requires column { to.0 ≡ length self.old.parse_state.now.bytes.now → to.1 ≡ 0 }
+        requires to { IsCut (bytes_of self.old) to }
         requires valid { Refused state ⊎ M.valid (read_with self.old) (config self.old) self.old.attempts.items state }
         ensures valid { Refused result ⊎ M.valid (read_with self.old) (config self.new) self.new.attempts.items result }
         ensures reads { Pushed (M.step (read_with self.old)) to end state self.old self.new result }
@@ -469,8 +431,7 @@ impl<'a, M: Machine<T>, T: Tables, A: Allocator> Tokenizer<'a, M, T, A> {
 
     /// Goes on at a later place, over what isn't read; stays where that isn't after where reading is.
     fn move_to(&mut self, from: (usize, usize))
-        requires within { from.0 ≤ length self.old.parse_state.now.bytes.now }
-        requires column { from.0 ≡ length self.old.parse_state.now.bytes.now → from.1 ≡ 0 }
+        requires from { IsCut (bytes_of self.old) from }
         ensures { Opened from self.old self.new }
     {
         let place = self.place();
@@ -487,10 +448,8 @@ impl<'a, M: Machine<T>, T: Tables, A: Allocator> Tokenizer<'a, M, T, A> {
     /// byte at hand again is no state to begin a range with, and none is answered. Once memory was
     /// refused, an error is answered to any further range.
     pub fn push(&mut self, from: (usize, usize), to: (usize, usize), state: State) -> State
-        requires from_within { from.0 ≤ length self.old.parse_state.now.bytes.now }
-        requires from_column { from.0 ≡ length self.old.parse_state.now.bytes.now → from.1 ≡ 0 }
-        requires within { to.0 ≤ length self.old.parse_state.now.bytes.now }
-        requires column { to.0 ≡ length self.old.parse_state.now.bytes.now → to.1 ≡ 0 }
+        requires from { IsCut (bytes_of self.old) from }
+        requires to { IsCut (bytes_of self.old) to }
         requires moves_on { MovesOn state }
         requires valid { (self.old.failed ≡ true) ⊎ M.valid (read_with self.old) (config self.old) self.old.attempts.items state }
         ensures valid { (self.new.failed ≡ true) ⊎ M.valid (read_with self.old) (config self.new) self.new.attempts.items result }
@@ -515,8 +474,7 @@ impl<'a, M: Machine<T>, T: Tables, A: Allocator> Tokenizer<'a, M, T, A> {
 
     /// Reads on, up to an index and a column of a tab there, where the text ends.
     pub(crate) fn finish(&mut self, to: (usize, usize), state: State) -> State
-        requires within { to.0 ≤ length self.old.parse_state.now.bytes.now }
-        requires column { to.0 ≡ length self.old.parse_state.now.bytes.now → to.1 ≡ 0 }
+        requires to { IsCut (bytes_of self.old) to }
         requires valid { Refused state ⊎ M.valid (read_with self.old) (config self.old) self.old.attempts.items state }
         ensures reads { Refused result ⊎ Flushed (text_to (source self.old) to) (M.step (read_with self.old)) state self.old self.new result }
         ensures valid { Refused result ⊎ M.valid (read_with self.old) (config self.new) [] result }
@@ -533,7 +491,7 @@ impl<'a, M: Machine<T>, T: Tables, A: Allocator> Tokenizer<'a, M, T, A> {
         requires fresh { self.old.attempts.items ≡ [] }
         requires valid { M.valid (read_with self.old) (config self.old) [] state }
         ensures reads { Refused result ⊎ ReadWhole (source self.old) (M.step (read_with self.old)) state self.old self.new result }
-        ensures total { HasRun (text_to (source self.old) (length self.old.parse_state.now.bytes.now, 0)) (M.step (read_with self.old)) (config self.old) state }
+        ensures total { HasRun (text_to (source self.old) (length (bytes_of self.old), 0)) (M.step (read_with self.old)) (config self.old) state }
         ensures whole { Refused result ⊎ AreWhole self.new.events.items self.new.point }
         ensures failed { Refused result → self.new.failed ≡ true }
     {
@@ -544,7 +502,7 @@ impl<'a, M: Machine<T>, T: Tables, A: Allocator> Tokenizer<'a, M, T, A> {
     /// Reads a text in ranges, cut anywhere, inside of a tab or a line ending, too: each ends at one
     /// of these places, an index and a column of a tab there, and the last at the text's end.
     pub fn in_ranges(&mut self, cuts: &[(usize, usize)], state: State) -> State
-        requires cuts { AreCuts (0, 0) cuts.now (length self.old.parse_state.now.bytes.now) }
+        requires cuts { AreCuts (0, 0) cuts.now (length (bytes_of self.old)) }
         requires fresh { self.old.attempts.items ≡ [] }
         requires valid { M.valid (read_with self.old) (config self.old) [] state }
         ensures reads { Refused result ⊎ ReadWhole (source self.old) (M.step (read_with self.old)) state self.old self.new result }
@@ -565,14 +523,14 @@ impl<'a, M: Machine<T>, T: Tables, A: Allocator> Tokenizer<'a, M, T, A> {
 
 impl<'a, M: Machine<T>, T: Tables, A: Allocator + Clone> Tokenizer<'a, M, T, A> {
     ghost use Rattle.std.specs.Prelude.{◌≡◌, ◌≤◌, ◌<◌, [], length, ◌⊎◌};
-    ghost use Rattle.markdown_engine.specs.Machine.{config, source, read_with, Refused, ReadWhole};
+    ghost use Rattle.markdown_engine.specs.Machine.{ReadWhole, Refused, bytes_of, config, read_with, source};
     ghost use Rattle.markdown_engine.specs.VirtualText.{line_start, with_skip};
 
     /// Reads a text in two ranges, the second of which is read from a later place of its line: what
     /// is read is the text that skips the line's start.
     pub fn in_lines(&mut self, cut: usize, point: Point, state: State) -> State
-        requires cut { cut < length self.old.parse_state.now.bytes.now }
-        requires within { point.index ≤ length self.old.parse_state.now.bytes.now }
+        requires cut { cut < length (bytes_of self.old) }
+        requires within { point.index ≤ length (bytes_of self.old) }
         requires line { cut ≤ line_start self.old.parse_state.now.bytes.now point.index }
         requires fresh { self.old.attempts.items ≡ [] }
         requires valid { M.valid (read_with self.old) (config self.old) [] state }

@@ -3,12 +3,15 @@
 //! A tab gives itself and then spaces up to the next tab stop (CommonMark 2.2). CR LF, CR and LF
 //! each give one line feed (CommonMark 2.1). A line may be read from a later place than its start.
 ghost use Rattle.std.specs.Prelude.{◌≡◌, ◌<◌, ◌≤◌, ◌+◌, ◌-◌, ◌^◌, length};
-ghost use Rattle.markdown_engine.specs.VirtualText.{virtual_byte, tab_column, is_before, feeds, in_line, next_line, ends_before, line_start, start_of_line, Walks};
+ghost use Rattle.markdown_engine.specs.VirtualText.{IsCut, virtual_byte, tab_column, is_before, feeds, in_line, next_line, ends_before, line_start, place_in, start_of_line, Walks};
 ghost use Rattle.markdown_engine.specs.Laws.{remaining};
 ghost use Rattle.markdown_engine.specs.Order.{Reaches};
 
 use engine_events::Point;
 use engine_events::place::tab_size;
+use markdown_options::constants::TAB_SIZE;
+use std::alloc::Allocator;
+use std::collections::BTreeMap;
 
 /// A byte of the virtual text, and the place after it.
 #[derive(Clone, Copy, Debug, PartialEq, Eq)]
@@ -45,7 +48,7 @@ fn tab_column(point: Point) -> VirtualByte
     ensures { result ≡ tab_column point }
 {
     let byte = if point.vs == 0 { b'\t' } else { b' ' };
-    let next = if tab_size(point.column) == 1 || point.vs >= 3 {
+    let next = if tab_size(point.column) == 1 || point.vs as usize >= TAB_SIZE - 1 {
         in_line(point)
     } else {
         Point {
@@ -100,8 +103,7 @@ pub fn is_before(point: Point, to: (usize, usize)) -> bool
 
 /// The place at or after an index and a column of a tab there, on the way from a place before.
 pub fn place_over(bytes: &[u8], point: Point, to: (usize, usize)) -> Point
-    requires within { to.0 ≤ length bytes.now }
-    requires column { to.0 ≡ length bytes.now → to.1 ≡ 0 }
+    requires to { IsCut bytes.now to }
     ensures walks { Walks bytes.now to point result }
     ensures forward { remaining (length bytes.now) result ≤ remaining (length bytes.now) point }
     ensures order { Reaches point result }
@@ -131,6 +133,18 @@ fn ends_before(bytes: &[u8], index: usize) -> bool
     ensures { result ≡ ends_before bytes.now index }
 {
     feeds(bytes, index - 1) || (bytes.get(index - 1) == Some(&b'\r') && !feeds(bytes, index))
+}
+
+/// Where reading goes on from a place: at the start of a line that has a skip, after it.
+///
+/// The skips say where lines are read from, by the index of their start.
+pub fn place_in<A: Allocator>(skips: &BTreeMap<usize, Point, A>, point: Point) -> Point
+    ensures { result ≡ place_in skips.now.entries point }
+{
+    if point.column != 1 || point.vs != 0 {
+        return point;
+    }
+    start_of_line(point, skips.get(&point.index).copied())
 }
 
 /// Where a line is read from: from its start, or from a later place that is given for it.

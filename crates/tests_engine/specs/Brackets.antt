@@ -9,10 +9,13 @@ use Rattle.engine_events.specs.declared.state.State.{State}
 use Rattle.engine_events.specs.declared.state.State.TheVariants as states
 use Rattle.markdown_engine.specs.declared.attempt.Attempt.{Attempt}
 use Rattle.markdown_engine.specs.Descent.{Weighs, descent}
-use Rattle.markdown_engine.specs.Laws.{RanksAt, remaining}
+use Rattle.markdown_engine.specs.Laws.{IsAhead, RanksAt, remaining}
 use Rattle.markdown_engine.specs.Machine.{consumed, entered, exited, plain, tries}
 use Rattle.markdown_engine.specs.Order.{AreMarks, IsTidy, LeadsOn, opened}
 use Rattle.markdown_engine.specs.Reading.{Config, Effect, Steps}
+use Rattle.tests_engine.specs.declared.brackets.Brackets.{Brackets}
+use Rattle.tests_engine.specs.Readings.{IsReading}
+use Rattle.engine_events.specs.declared.event.Event.{Event}
 
 -- what a state reads: items, a group, a group's end, and data
 abbrev pub items_state : Name
@@ -99,14 +102,10 @@ least Close = 1
 least Rest = 0
 
 module _ {M : Type 0} (size : ℕ) where
-  -- a byte that is at hand leaves less
-  abbrev pub IsAhead : Config M → Type 0
-  IsAhead c = (b : ℕ) → c.current ≡ Some b → remaining size c.next < remaining size c.point
-
   abbrev pub Stands : State → List Attempt → Config M → Type 0
   Stands (states.Error m) stack c = ⊥
   Stands (states.Next n) stack c = Level size (in_group (part n)) (least (part n)) stack (remaining size c.point)
-  Stands (states.Retry n) stack c = Level size (in_group (part n)) (least (part n)) stack (remaining size c.point) × IsAhead c
+  Stands (states.Retry n) stack c = Level size (in_group (part n)) (least (part n)) stack (remaining size c.point) × IsAhead size c
   Stands states.Ok stack c = Level size false 0 stack (remaining size c.point) ⊎ Level size true 1 stack (remaining size c.point)
   Stands states.Nok stack c = Level size true 0 stack (remaining size c.point)
 
@@ -139,13 +138,13 @@ module _ {M : Type 0} where
   IsOpen states.Ok stack c = opened [] c.events ≡ labels stack
   IsOpen states.Nok stack c = Unit {0}
 
-  pub record IsOrdered (s : State) (stack : List Attempt) (c : Config M) : Type 0 where
+  pub record IsSound (s : State) (stack : List Attempt) (c : Config M) : Type 0 where
     pub tidy : IsTidy c
     pub marks : AreMarks Fits c.events stack
     pub open_names : IsOpen s stack c
 
   unfoldable pub brackets_valid : ℕ → Config M → List Attempt → State → Type 0
-  brackets_valid size c stack s = Stands size s (reverse stack) c × IsOrdered s (reverse stack) c
+  brackets_valid size c stack s = Stands size s (reverse stack) c × IsSound s (reverse stack) c
 
 -- the height of a part above what is left
 abbrev pub height : Part → ℕ
@@ -168,3 +167,7 @@ brackets_waits size a = 4 * remaining size a.point + 1
 
 abbrev pub brackets_rank : {M : Type 0} → ℕ → RanksAt M
 brackets_rank size = descent 2 (brackets_weight size) (brackets_waits size)
+
+-- these are the events of the one reading of a text
+abbrev pub Bracketed : List ℕ → Brackets → List Event → Type 0
+Bracketed = IsReading brackets_step items_state

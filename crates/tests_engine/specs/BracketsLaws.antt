@@ -15,17 +15,15 @@ use Rattle.markdown_engine.specs.Chains.{first_state}
 use Rattle.markdown_engine.specs.OrderLaws.{fresh_tidy}
 use Rattle.tests_engine.specs.declared.brackets.Brackets.{Brackets}
 use Rattle.markdown_engine.specs.Machine.{fresh, entered, exited, consumed, plain, tries}
-use Rattle.markdown_engine.specs.Resolving.{Leaves, ResolvesAt, Unresolved, resolves_nothing, settles_whole}
-use Rattle.markdown_engine.specs.ResolvingLaws.{closes_unresolved, falls_unresolved, keeps_unresolved, resolves_unresolved, tidies_unresolved}
+use Rattle.markdown_engine.specs.Resolving.{Leaves, LeavesAt, ResolvesAt, Unresolved, resolves_nothing, settles_whole}
+use Rattle.markdown_engine.specs.ResolvingLaws.{lawful_unresolved, resolves_unresolved}
+use Rattle.markdown_engine.specs.StepLaws.{by_test, handed_ahead, same_front, same_place}
 use Rattle.markdown_engine.specs.Descent.{AllBelow, DescendsAt}
 use Rattle.markdown_engine.specs.DescentLaws.{descends}
-use Rattle.markdown_engine.specs.Laws.{IsFed, IsFront, Nested, MovesOn, OnlyAdds, KeepsAt, FallsAt, TidiesAt, ClosesAt, remaining}
+use Rattle.markdown_engine.specs.Laws.{BeginAround, Consumes, ConsumesAt, HasConsumed, IsAhead, IsFed, LawfulAt, Nested, MovesOn, OnlyAdds, KeepsAt, FallsAt, TidiesAt, ClosesAt, remaining}
 use Rattle.markdown_engine.specs.Order.{IsInnermost, Reaches, opened}
-use Rattle.tests_engine.specs.Brackets.{Part, Items, Group, Close, Rest, part, items_state, group_state, close_state, rest_state, items, rest, group, close, step_of, brackets_step, brackets_valid, brackets_rank, brackets_waits, brackets_weight, IsAhead, IsOrdered, Level, in_group, labels, labels_at, height, least, Stands}
-use Rattle.tests_engine.specs.BracketsOrderLaws.{by_test, called_orders, fed_orders, moved_orders, no_more, nok_orders, ok_orders, one_more}
-
-same_front : (a : List Event) → IsFront a a
-same_front a = ([], sym (append-nil a))
+use Rattle.tests_engine.specs.Brackets.{Part, Items, Group, Close, Rest, part, items_state, group_state, close_state, rest_state, items, rest, group, close, step_of, brackets_step, brackets_valid, brackets_rank, brackets_waits, brackets_weight, IsSound, Level, in_group, labels, labels_at, height, least, Stands}
+use Rattle.tests_engine.specs.BracketsOrderLaws.{called_orders, fed_orders, moved_orders, no_more, nok_orders, ok_orders, one_more}
 
 -- Events
 
@@ -61,9 +59,54 @@ module _ {M : Type 0} where
   part_adds Close c = close_adds c.current c
   part_adds Rest c = rest_adds c.current c
 
-  pub brackets_adds : OnlyAdds (brackets_step {M = M})
+  brackets_adds : OnlyAdds (brackets_step {M = M})
   unfolding brackets_step Adds
   brackets_adds c n = part_adds (part n) c
+
+-- Bytes
+
+module _ {M : Type 0} where
+  ConsumesOnce : Config M → Effect M → Type 0
+  ConsumesOnce c e = Consumes e.state c e.config × BeginAround c e.pushed
+
+  items_consume : (b : Option ℕ) (c : Config M) → c.current ≡ b → ConsumesOnce c (items b c)
+  unfolding ConsumesOnce items
+  items_consume None c e = (inl (same_place c), tt)
+  items_consume (Some b) c e = by_test (ConsumesOnce c) (b == 40) (tries (states.Next items_state) (states.Next rest_state) c (states.Retry group_state)) (if b == 41 then plain c states.Ok else plain (consumed c) (states.Next items_state))
+      (same_place c, (inl (same_place c), tt, tt, tt)) (by_test (ConsumesOnce c) (b == 41) (plain c states.Ok) (plain (consumed c) (states.Next items_state)) (inl (same_place c), tt) ((b, e, same_place (consumed c)), tt))
+
+  rest_consumes : (b : Option ℕ) (c : Config M) → c.current ≡ b → ConsumesOnce c (rest b c)
+  unfolding ConsumesOnce rest
+  rest_consumes None c e = (inl (same_place c), tt)
+  rest_consumes (Some b) c e = ((b, e, same_place (consumed c)), tt)
+
+  group_consumes : (b : Option ℕ) (c : Config M) → c.current ≡ b → ConsumesOnce c (group b c)
+  unfolding ConsumesOnce group
+  group_consumes None c e = (inl (same_place c), tt)
+  group_consumes (Some b) c e =
+      let there : HasConsumed c (consumed (entered names.Label None c)) = (b, e, record { point = refl; next = refl; line_start = refl; previous = refl; current = refl }) in
+      by_test (ConsumesOnce c) (b == 40) (tries (states.Next close_state) states.Nok (consumed (entered names.Label None c)) (states.Next items_state)) (plain c states.Nok)
+      (there, (inr there, tt, tt, tt)) (inl (same_place c), tt)
+
+  close_consumes : (b : Option ℕ) (c : Config M) → c.current ≡ b → ConsumesOnce c (close b c)
+  unfolding ConsumesOnce close
+  close_consumes None c e = (inl (same_place c), tt)
+  close_consumes (Some b) c e = by_test (ConsumesOnce c) (b == 41) (plain (exited names.Label (consumed c)) states.Ok) (plain c states.Nok)
+      (inr (b, e, record { point = refl; next = refl; line_start = refl; previous = refl; current = refl }), tt) (inl (same_place c), tt)
+
+  part_consumes : (p : Part) (c : Config M) → ConsumesOnce c (step_of p c)
+  part_consumes Items c = items_consume c.current c refl
+  part_consumes Group c = group_consumes c.current c refl
+  part_consumes Close c = close_consumes c.current c refl
+  part_consumes Rest c = rest_consumes c.current c refl
+
+  called_once : (c : Config M) (n : Name) → ConsumesOnce c (brackets_step c n)
+  unfolding brackets_step
+  called_once c n = part_consumes (part n) c
+
+brackets_consume : {M : Type 0} (size : ℕ) → ConsumesAt (brackets_valid {M = M} size) brackets_step
+unfolding ConsumesOnce
+brackets_consume size c stack n h = called_once c n
 
 -- Levels
 
@@ -98,7 +141,7 @@ module _ {M : Type 0} (size : ℕ) (stack : List Attempt) where
   unfolding items part
   items_fine None c e h ahead = plain_fine c states.Ok (inl h)
   items_fine (Some b) c e h ahead =
-      let less = ahead b e in
+      let less = ahead.less b e in
       by_test Fine (b == 40) (tries (states.Next items_state) (states.Next rest_state) c (states.Retry group_state)) (if b == 41 then plain c states.Ok else plain (consumed c) (states.Next items_state))
       (tries_fine (states.Next items_state) (states.Next rest_state) c (states.Retry group_state) ((record { check = refl; ok = refl; nok = refl }, omega arith, h), ahead))
       (by_test Fine (b == 41) (plain c states.Ok) (plain (consumed c) (states.Next items_state)) (plain_fine c states.Ok (inl h)) (plain_fine (consumed c) (states.Next items_state) (later size false 0 (reverse stack) (remaining size c.point) (remaining size c.next) (omega arith) h)))
@@ -107,7 +150,7 @@ module _ {M : Type 0} (size : ℕ) (stack : List Attempt) where
   unfolding rest part
   rest_fine None c e h ahead = plain_fine c states.Ok (inl h)
   rest_fine (Some b) c e h ahead =
-      let less = ahead b e in
+      let less = ahead.less b e in
       plain_fine (consumed c) (states.Next rest_state) (later size false 0 (reverse stack) (remaining size c.point) (remaining size c.next) (omega arith) h)
 
   group_fine : (b : Option ℕ) (c : Config M) → c.current ≡ b → Level size true 0 (reverse stack) (remaining size c.point) → IsAhead size c → Fine (group b c)
@@ -115,7 +158,7 @@ module _ {M : Type 0} (size : ℕ) (stack : List Attempt) where
   group_fine None c e h ahead = plain_fine c states.Nok h
   group_fine (Some b) c e h ahead =
       let d = consumed (entered names.Label None c) in
-      let less = ahead b e in
+      let less = ahead.less b e in
       by_test Fine (b == 40) (tries (states.Next close_state) states.Nok d (states.Next items_state)) (plain c states.Nok)
       (tries_fine (states.Next close_state) states.Nok d (states.Next items_state) (record { check = refl; ok = refl; nok = refl }, omega arith, further size (reverse stack) (remaining size c.point) (remaining size c.next) less h))
       (plain_fine c states.Nok h)
@@ -125,7 +168,7 @@ module _ {M : Type 0} (size : ℕ) (stack : List Attempt) where
   close_fine None c e h ahead = plain_fine c states.Nok (weaker size (reverse stack) (remaining size c.point) h)
   close_fine (Some b) c e h ahead =
       let d = exited names.Label (consumed c) in
-      let less = ahead b e in
+      let less = ahead.less b e in
       by_test Fine (b == 41) (plain d states.Ok) (plain c states.Nok)
       (plain_fine d states.Ok (inr (later size true 1 (reverse stack) (remaining size c.point) (remaining size c.next) (omega arith) h)))
       (plain_fine c states.Nok (weaker size (reverse stack) (remaining size c.point) h))
@@ -141,8 +184,7 @@ module _ {M : Type 0} (size : ℕ) (stack : List Attempt) where
   called_fine c n h = (part_fine (part n) c h.0.0 h.0.1, called_orders stack c n h.1)
 
   fed_stands : (c : Config M) (n : Name) (p : Point) (v : Option VirtualByte) → IsFed size c.point p v → Stands size (states.Next n) (reverse stack) c → Stands size (states.Retry n) (reverse stack) (handed c p v)
-  fed_stands c n p None fed h = (later size (in_group (part n)) (least (part n)) (reverse stack) (remaining size c.point) (remaining size p) fed.forward h, λ b e. absurd (let f : None ≡ Some b = e in cc))
-  fed_stands c n p (Some w) fed h = (later size (in_group (part n)) (least (part n)) (reverse stack) (remaining size c.point) (remaining size p) fed.forward h, λ b e. (fed.read w refl).falls)
+  fed_stands c n p v fed h = (later size (in_group (part n)) (least (part n)) (reverse stack) (remaining size c.point) (remaining size p) fed.forward h, handed_ahead size c p v fed)
 
   fed_fine : (c : Config M) (n : Name) (p : Point) (v : Option VirtualByte) → IsFed size c.point p v → brackets_valid size c stack (states.Next n) → brackets_valid size (handed c p v) stack (states.Retry n)
   unfolding brackets_valid
@@ -161,22 +203,22 @@ module _ {M : Type 0} (size : ℕ) (stack : List Attempt) where
   moved_fine c s p on low order h = (moved_stands c s p on low h.0, moved_orders (reverse stack) c s p on order h.1)
 
   -- an attempt that went well goes on in the state that it names
-  goes_on : (a : Attempt) (c : Config M) (n : Name) → a.check ≡ false → a.ok ≡ states.Next n → labels (a ∷ reverse stack) ≡ labels_at (part n) (reverse stack) → Level size (in_group (part n)) (least (part n)) (reverse stack) (remaining size c.point) → IsOrdered states.Ok (a ∷ reverse stack) c → brackets_valid size (resumed a c true) stack a.ok
+  goes_on : (a : Attempt) (c : Config M) (n : Name) → a.check ≡ false → a.ok ≡ states.Next n → labels (a ∷ reverse stack) ≡ labels_at (part n) (reverse stack) → Level size (in_group (part n)) (least (part n)) (reverse stack) (remaining size c.point) → IsSound states.Ok (a ∷ reverse stack) c → brackets_valid size (resumed a c true) stack a.ok
   unfolding brackets_valid
   goes_on a c n p q e l o = let ordered = ok_orders (reverse stack) a c n p q e o in (rw p (rw q l), ordered)
 
-  popped_ok : (a : Attempt) (c : Config M) → Stands size states.Ok (a ∷ reverse stack) c → IsOrdered states.Ok (a ∷ reverse stack) c → brackets_valid size (resumed a c true) stack a.ok
+  popped_ok : (a : Attempt) (c : Config M) → Stands size states.Ok (a ∷ reverse stack) c → IsSound states.Ok (a ∷ reverse stack) c → brackets_valid size (resumed a c true) stack a.ok
   unfolding part
   popped_ok a c (inl l) o = goes_on a c close_state l.0.check l.0.ok (rw l.0.nok refl) (later size true 1 (reverse stack) (remaining size a.point) (remaining size c.point) l.1 l.2) o
   popped_ok a c (inr l) o = let below = l.1 in goes_on a c items_state l.0.check l.0.ok (rw l.0.nok refl) (later size false 0 (reverse stack) (remaining size a.point) (remaining size c.point) (omega arith) l.2) o
 
-  popped_nok : (a : Attempt) (c : Config M) → Stands size states.Nok (a ∷ reverse stack) c → IsOrdered states.Nok (a ∷ reverse stack) c → brackets_valid size (resumed a c false) stack a.nok
+  popped_nok : (a : Attempt) (c : Config M) → Stands size states.Nok (a ∷ reverse stack) c → IsSound states.Nok (a ∷ reverse stack) c → brackets_valid size (resumed a c false) stack a.nok
   unfolding brackets_valid part
   popped_nok a c l o = (rw l.0.nok l.2, nok_orders (reverse stack) a c rest_state l.0.nok (rw l.0.nok refl) o)
 
-  was : (s : State) (a : Attempt) (c : Config M) → brackets_valid size c (stack ++ a ∷ []) s → Stands size s (a ∷ reverse stack) c × IsOrdered s (a ∷ reverse stack) c
+  was : (s : State) (a : Attempt) (c : Config M) → brackets_valid size c (stack ++ a ∷ []) s → Stands size s (a ∷ reverse stack) c × IsSound s (a ∷ reverse stack) c
   unfolding brackets_valid
-  was s a c h = subst (λ (z : List Attempt). Stands size s z c × IsOrdered s z c) (one_more stack a) h
+  was s a c h = subst (λ (z : List Attempt). Stands size s z c × IsSound s z c) (one_more stack a) h
 
 no_error : {M : Type 0} (size : ℕ) (c : Config M) (stack : List Attempt) (m : _) → brackets_valid size c stack (states.Error m) → ⊥
 unfolding brackets_valid
@@ -211,7 +253,7 @@ module _ {M : Type 0} (size : ℕ) where
     unfolding items part
     items_descends None e = plain_descends _ c states.Ok (omega arith)
     items_descends (Some b) e =
-        let less = ahead b e in
+        let less = ahead.less b e in
         let w = 4 * remaining size c.point + 3 in
         by_test (Descends w) (b == 40) (tries (states.Next items_state) (states.Next rest_state) c (states.Retry group_state)) (if b == 41 then plain c states.Ok else plain (consumed c) (states.Next items_state))
         (tries_descends w (states.Next items_state) (states.Next rest_state) c (states.Retry group_state) (omega arith) (omega arith))
@@ -220,13 +262,13 @@ module _ {M : Type 0} (size : ℕ) where
     rest_descends : (b : Option ℕ) → c.current ≡ b → let w = 4 * remaining size c.point + 1 in Descends w (rest b c)
     unfolding rest part
     rest_descends None e = plain_descends _ c states.Ok (omega arith)
-    rest_descends (Some b) e = let less = ahead b e in plain_descends _ (consumed c) (states.Next rest_state) (omega arith)
+    rest_descends (Some b) e = let less = ahead.less b e in plain_descends _ (consumed c) (states.Next rest_state) (omega arith)
 
     group_descends : (b : Option ℕ) → c.current ≡ b → let w = 4 * remaining size c.point + 2 in Descends w (group b c)
     unfolding group part
     group_descends None e = plain_descends _ c states.Nok (omega arith)
     group_descends (Some b) e =
-        let less = ahead b e in
+        let less = ahead.less b e in
         let w = 4 * remaining size c.point + 2 in
         let d = consumed (entered names.Label None c) in
         by_test (Descends w) (b == 40) (tries (states.Next close_state) states.Nok d (states.Next items_state)) (plain c states.Nok)
@@ -297,27 +339,24 @@ close_innermost size c stack n e h = (labels (reverse stack), subst (λ (z : Nam
 -- No resolver is registered
 
 module _ {M : Type 0} where
-  LeavesAt : Config M → Effect M → Type 0
-  LeavesAt c e = (e.config.map ≡ c.map) × (e.config.resolvers ≡ c.resolvers)
-
   items_leaves : (b : Option ℕ) (c : Config M) → LeavesAt c (items b c)
-  unfolding items LeavesAt
+  unfolding items
   items_leaves None c = (refl, refl)
   items_leaves (Some b) c = by_test (LeavesAt c) (b == 40) (tries (states.Next items_state) (states.Next rest_state) c (states.Retry group_state)) (if b == 41 then plain c states.Ok else plain (consumed c) (states.Next items_state))
       (refl, refl) (by_test (LeavesAt c) (b == 41) (plain c states.Ok) (plain (consumed c) (states.Next items_state)) (refl, refl) (refl, refl))
 
   rest_leaves : (b : Option ℕ) (c : Config M) → LeavesAt c (rest b c)
-  unfolding rest LeavesAt
+  unfolding rest
   rest_leaves None c = (refl, refl)
   rest_leaves (Some b) c = (refl, refl)
 
   group_leaves : (b : Option ℕ) (c : Config M) → LeavesAt c (group b c)
-  unfolding group LeavesAt
+  unfolding group
   group_leaves None c = (refl, refl)
   group_leaves (Some b) c = by_test (LeavesAt c) (b == 40) (tries (states.Next close_state) states.Nok (consumed (entered names.Label None c)) (states.Next items_state)) (plain c states.Nok) (refl, refl) (refl, refl)
 
   close_leaves : (b : Option ℕ) (c : Config M) → LeavesAt c (close b c)
-  unfolding close LeavesAt
+  unfolding close
   close_leaves None c = (refl, refl)
   close_leaves (Some b) c = by_test (LeavesAt c) (b == 41) (plain (exited names.Label (consumed c)) states.Ok) (plain c states.Nok) (refl, refl) (refl, refl)
 
@@ -328,24 +367,18 @@ module _ {M : Type 0} where
   part_leaves Rest c = rest_leaves c.current c
 
   brackets_leaves : Leaves (brackets_step {M = M})
-  unfolding brackets_step LeavesAt
+  unfolding brackets_step
   brackets_leaves c n = part_leaves (part n) c
 
 module _ {M : Type 0} (size : ℕ) where
-  pub brackets_keeps : KeepsAt size (Unresolved (brackets_valid {M = M} size)) brackets_step
-  brackets_keeps = keeps_unresolved size (brackets_valid size) brackets_step brackets_leaves (brackets_held size)
+  held : LawfulAt size (brackets_valid {M = M} size) brackets_step (brackets_rank size)
+  held = record { adds = brackets_adds; consumes = brackets_consume size; keeps = brackets_held size; falls = brackets_fell size; tidies = brackets_tidied size; closes = brackets_closed size }
 
-  pub brackets_falls : FallsAt size (Unresolved (brackets_valid {M = M} size)) brackets_step (brackets_rank size)
-  brackets_falls = falls_unresolved size (brackets_valid size) brackets_step (brackets_rank size) (brackets_fell size)
-
-  pub brackets_tidy : TidiesAt (Unresolved (brackets_valid {M = M} size))
-  brackets_tidy = tidies_unresolved (brackets_valid size) (brackets_tidied size)
-
-  pub brackets_closes : ClosesAt (Unresolved (brackets_valid {M = M} size))
-  brackets_closes = closes_unresolved (brackets_valid size) (brackets_closed size)
+  pub brackets_lawful : LawfulAt size (Unresolved (brackets_valid {M = M} size)) brackets_step (brackets_rank size)
+  brackets_lawful = lawful_unresolved size (brackets_valid size) brackets_step (brackets_rank size) brackets_leaves held
 
   pub brackets_resolves : ResolvesAt (Unresolved (brackets_valid {M = M} size)) resolves_nothing settles_whole
-  brackets_resolves = resolves_unresolved (brackets_valid size) (goes_well size) (brackets_tidied size) (brackets_closed size)
+  brackets_resolves = resolves_unresolved size (brackets_valid size) brackets_step (brackets_rank size) held (goes_well size)
 
 -- whatever a chain's content is, it may be read from anywhere
 pub begins_with : (size : ℕ) (machine : Brackets) (p : Point) (content : Content) → Unresolved (brackets_valid size) (fresh p machine) [] (states.Next (first_state content))

@@ -16,11 +16,8 @@ use Rattle.markdown_engine.specs.Machine.{begun, consumed, entered, exited, plai
 use Rattle.markdown_engine.specs.Order.{AreMarks, IsTidy, LeadsOn, Reaches, opened}
 use Rattle.markdown_engine.specs.OrderLaws.{consumed_tidy, entered_opened, entered_tidy, exited_after, exited_opened, handed_leads, handed_tidy, marks_added, marks_passed, marks_pushed, moved_tidy, restored_fits, restored_marks, restored_tidy}
 use Rattle.markdown_engine.specs.Reading.{Config, Effect, handed, mark, moved, resumed}
-use Rattle.tests_engine.specs.Brackets.{Close, Fits, Group, IsOpen, IsOrdered, Items, Part, Rest, close, close_state, group, group_state, items, items_state, labels, labels_at, part, rest, rest_state, step_of}
-
-pub by_test : {A : Type 0} (P : A → Type 0) (t : Bool) (x y : A) → P x → P y → P (if t then x else y)
-by_test P true x y h k = h
-by_test P false x y h k = k
+use Rattle.markdown_engine.specs.StepLaws.{by_test}
+use Rattle.tests_engine.specs.Brackets.{Close, Fits, Group, IsOpen, IsSound, Items, Part, Rest, close, close_state, group, group_state, items, items_state, labels, labels_at, part, rest, rest_state, step_of}
 
 pub no_more : (stack : List Attempt) → reverse (stack ++ []) ≡ reverse stack
 no_more stack = ap reverse (append-nil stack)
@@ -30,15 +27,15 @@ one_more stack a = reverse-append stack (a ∷ [])
 
 module _ {M : Type 0} (stack : List Attempt) where
   Orders : Effect M → Type 0
-  Orders e = IsOrdered e.state (reverse (stack ++ map mark e.pushed)) e.config
+  Orders e = IsSound e.state (reverse (stack ++ map mark e.pushed)) e.config
 
-  plain_orders : (d : Config M) (s : State) → IsOrdered s (reverse stack) d → Orders (plain d s)
+  plain_orders : (d : Config M) (s : State) → IsSound s (reverse stack) d → Orders (plain d s)
   unfolding Orders
-  plain_orders d s h = subst (λ (z : List Attempt). IsOrdered s z d) (sym (no_more stack)) h
+  plain_orders d s h = subst (λ (z : List Attempt). IsSound s z d) (sym (no_more stack)) h
 
-  tries_orders : (ok nok : State) (d : Config M) (s : State) → IsOrdered s (mark (begun false ok nok d) ∷ reverse stack) d → Orders (tries ok nok d s)
+  tries_orders : (ok nok : State) (d : Config M) (s : State) → IsSound s (mark (begun false ok nok d) ∷ reverse stack) d → Orders (tries ok nok d s)
   unfolding Orders
-  tries_orders ok nok d s h = subst (λ (z : List Attempt). IsOrdered s z d) (sym (one_more stack (mark (begun false ok nok d)))) h
+  tries_orders ok nok d s h = subst (λ (z : List Attempt). IsSound s z d) (sym (one_more stack (mark (begun false ok nok d)))) h
 
   refuses : (c : Config M) → IsTidy c → AreMarks Fits c.events (reverse stack) → Orders (plain c states.Nok)
   refuses c t h = plain_orders c states.Nok (record { tidy = t; marks = h; open_names = tt })
@@ -90,12 +87,12 @@ module _ {M : Type 0} (stack : List Attempt) where
   part_orders Close c t h o leads = close_orders c.current c refl t h o leads
   part_orders Rest c t h o leads = rest_orders c.current c refl t h o leads
 
-  pub called_orders : (c : Config M) (n : Name) → IsOrdered (states.Retry n) (reverse stack) c → let e = step_of (part n) c in IsOrdered e.state (reverse (stack ++ map mark e.pushed)) e.config
+  pub called_orders : (c : Config M) (n : Name) → IsSound (states.Retry n) (reverse stack) c → let e = step_of (part n) c in IsSound e.state (reverse (stack ++ map mark e.pushed)) e.config
   unfolding Orders
   called_orders c n h = part_orders (part n) c h.tidy h.marks h.open_names.0 h.open_names.1
 
 module _ {M : Type 0} (stack : List Attempt) where
-  pub fed_orders : (size : ℕ) (c : Config M) (n : Name) (p : Point) (v : Option VirtualByte) → IsFed size c.point p v → IsOrdered (states.Next n) stack c → IsOrdered (states.Retry n) stack (handed c p v)
+  pub fed_orders : (size : ℕ) (c : Config M) (n : Name) (p : Point) (v : Option VirtualByte) → IsFed size c.point p v → IsSound (states.Next n) stack c → IsSound (states.Retry n) stack (handed c p v)
   fed_orders size c n p v fed h = record { tidy = handed_tidy size c p v fed h.tidy; marks = h.marks; open_names = (h.open_names, handed_leads size c p v fed) }
 
   moved_open : (c : Config M) (s : State) (p : Point) → MovesOn s → IsOpen s stack c → IsOpen s stack (moved p c)
@@ -105,15 +102,15 @@ module _ {M : Type 0} (stack : List Attempt) where
   moved_open c states.Ok p on h = h
   moved_open c states.Nok p on h = h
 
-  pub moved_orders : (c : Config M) (s : State) (p : Point) → MovesOn s → Reaches c.point p → IsOrdered s stack c → IsOrdered s stack (moved p c)
+  pub moved_orders : (c : Config M) (s : State) (p : Point) → MovesOn s → Reaches c.point p → IsSound s stack c → IsSound s stack (moved p c)
   moved_orders c s p on k h = record { tidy = moved_tidy c p k h.tidy; marks = h.marks; open_names = moved_open c s p on h.open_names }
 
-  pub ok_orders : (a : Attempt) (c : Config M) (n : Name) → a.check ≡ false → a.ok ≡ states.Next n → labels (a ∷ stack) ≡ labels_at (part n) stack → IsOrdered states.Ok (a ∷ stack) c → IsOrdered a.ok stack (resumed a c true)
+  pub ok_orders : (a : Attempt) (c : Config M) (n : Name) → a.check ≡ false → a.ok ≡ states.Next n → labels (a ∷ stack) ≡ labels_at (part n) stack → IsSound states.Ok (a ∷ stack) c → IsSound a.ok stack (resumed a c true)
   ok_orders a c n p q e h =
-      let fine : IsOrdered (states.Next n) stack c = record { tidy = h.tidy; marks = marks_passed Fits a c.events stack h.marks; open_names = h.open_names ∙ e } in
+      let fine : IsSound (states.Next n) stack c = record { tidy = h.tidy; marks = marks_passed Fits a c.events stack h.marks; open_names = h.open_names ∙ e } in
       rw p (rw q fine)
 
-  pub nok_orders : (a : Attempt) (c : Config M) (n : Name) → a.nok ≡ states.Next n → labels (a ∷ stack) ≡ labels_at (part n) stack → IsOrdered states.Nok (a ∷ stack) c → IsOrdered a.nok stack (resumed a c false)
+  pub nok_orders : (a : Attempt) (c : Config M) (n : Name) → a.nok ≡ states.Next n → labels (a ∷ stack) ≡ labels_at (part n) stack → IsSound states.Nok (a ∷ stack) c → IsSound a.nok stack (resumed a c false)
   nok_orders a c n q e h =
-      let fine : IsOrdered (states.Next n) stack (resumed a c false) = record { tidy = restored_tidy Fits a c stack h.marks; marks = restored_marks Fits a c stack h.marks; open_names = restored_fits Fits a c stack h.marks ∙ e } in
+      let fine : IsSound (states.Next n) stack (resumed a c false) = record { tidy = restored_tidy Fits a c stack h.marks; marks = restored_marks Fits a c stack h.marks; open_names = restored_fits Fits a c stack h.marks ∙ e } in
       rw q fine

@@ -1,3 +1,6 @@
+pub mod Readings
+pub mod EachByte
+pub mod EachByteLaws
 pub mod Counting
 pub mod CountingLaws
 pub mod Letters
@@ -5,7 +8,6 @@ pub mod LettersLaws
 pub mod Brackets
 pub mod BracketsOrderLaws
 pub mod BracketsLaws
-pub mod Bracketed
 pub mod Pairs
 pub mod PairsLaws
 pub mod Wrapped

@@ -10,12 +10,13 @@ use Rattle.engine_events.specs.declared.state.State.{State}
 use Rattle.engine_events.specs.declared.state.State.TheVariants as states
 use Rattle.markdown_engine.specs.declared.attempt.Attempt.{Attempt}
 use Rattle.markdown_engine.specs.Descent.{Weighs, descent}
-use Rattle.markdown_engine.specs.Laws.{RanksAt, remaining}
+use Rattle.markdown_engine.specs.Laws.{IsAhead, RanksAt, remaining}
 use Rattle.markdown_engine.specs.Machine.{checks, consumed, entered, exited, fresh, plain}
 use Rattle.markdown_engine.specs.Order.{AreMarks, AreTidy, IsTidy, LeadsOn, Reaches, opened, text_start}
 use Rattle.markdown_engine.specs.Reading.{Config, Effect, Runs, Steps}
 use Rattle.markdown_engine.specs.VirtualText.{is_feed, text_to}
 use Rattle.tests_engine.specs.declared.pairs.Pairs.{Pairs}
+use Rattle.tests_engine.specs.Readings.{IsReading}
 
 -- what a state reads: items, the two bytes ahead, a single byte, and the two bytes of a pair
 abbrev pub items_state : Name
@@ -150,11 +151,6 @@ module _ {M : Type 0} where
     pub open_names : opened [] c.events ≡ open_at p
     pub exits : Exits p c
 
-  -- a byte that is at hand leaves less
-  pub record IsAhead (size : ℕ) (c : Config M) : Type 0 where
-    pub less : (b : ℕ) → c.current ≡ Some b → remaining size c.next < remaining size c.point
-    pub leads : LeadsOn c
-
   abbrev pub Stands : ℕ → State → List Attempt → Config M → Type 0
   Stands size (states.Error m) stack c = ⊥
   Stands size (states.Next n) stack c = IsAt (part n) stack c
@@ -195,8 +191,5 @@ abbrev pub pairs_rank : {M : Type 0} → ℕ → RanksAt M
 pairs_rank size = descent 2 (pairs_weight size) (pairs_waits size)
 
 -- these are the events of the one reading of a text
-pub record Paired (bytes : List ℕ) (machine : Pairs) (events : List Event) : Type 0 where
-  pub config : Config Pairs
-  pub well : Bool
-  pub runs : Runs (text_to (record { bytes = bytes; skips = [] }) (length bytes, 0)) pairs_step (fresh text_start machine) [] (states.Next items_state) config well
-  pub read : events ≡ config.events
+abbrev pub Paired : List ℕ → Pairs → List Event → Type 0
+Paired = IsReading pairs_step items_state

@@ -1,5 +1,5 @@
 -- The machine of pairs is lawful.
-use Rattle.std.proofs.Common.{◌≡◌, ℕ, ◌+◌, ◌*◌, ◌<◌, ◌≤◌, ◌++◌, ◌∙◌, [], ◌∷◌, map, List, Bool, true, false, refl, sym, ap, subst, arith, Option, Some, None, ◌==◌, if◌then◌else◌, append-nil, append_assoc, length}
+use Rattle.std.proofs.Common.{◌≡◌, ℕ, ◌+◌, ◌*◌, ◌<◌, ◌≤◌, ◌++◌, ◌∙◌, [], ◌∷◌, map, List, Bool, true, false, refl, sym, ap, subst, arith, inl, Option, Some, None, ◌==◌, if◌then◌else◌, append-nil, append_assoc, length}
 use Rattle.engine_events.specs.declared.event.Event.{Event}
 use Rattle.engine_events.specs.declared.event.Name.{Name as EventName}
 use Rattle.engine_events.specs.declared.event.Name.TheVariants.{AttentionSequence, Data}
@@ -11,25 +11,16 @@ use Rattle.markdown_engine.specs.declared.attempt.Attempt.{Attempt}
 use Rattle.markdown_engine.specs.declared.virtual_text.VirtualByte.{VirtualByte}
 use Rattle.markdown_engine.specs.Descent.{AllBelow, DescendsAt}
 use Rattle.markdown_engine.specs.DescentLaws.{descends}
-use Rattle.markdown_engine.specs.Laws.{ClosesAt, FallsAt, IsFed, IsFront, KeepsAt, MovesOn, Nested, OnlyAdds, TidiesAt, remaining}
+use Rattle.markdown_engine.specs.Laws.{BeginAround, ClosesAt, Consumes, FallsAt, IsAhead, IsFed, IsFront, KeepsAt, LawfulAt, MovesOn, Nested, OnlyAdds, TidiesAt, remaining}
 use Rattle.markdown_engine.specs.Machine.{begun, consumed, entered, exited, plain}
 use Rattle.markdown_engine.specs.Order.{AreMarks, AreTidy, IsInnermost, IsTidy, Reaches, opened}
-use Rattle.markdown_engine.specs.OrderLaws.{consumed_tidy, entered_opened, entered_tidy, exited_after, exited_opened, exited_tidy, handed_leads, handed_tidy, marks_pushed, moved_tidy, reaches_on, restored_fits, restored_tidy, stays, tidy_on}
+use Rattle.markdown_engine.specs.OrderLaws.{consumed_tidy, entered_opened, entered_tidy, exit_place, exited_after, exited_opened, exited_tidy, handed_leads, handed_tidy, marks_pushed, moved_tidy, reaches_on, restored_fits, restored_tidy, stays, tidy_on}
 use Rattle.markdown_engine.specs.Reading.{Config, Effect, handed, mark, moved, restore, resumed}
-use Rattle.markdown_engine.specs.Resolving.{Leaves, ResolvesAt, Unresolved, resolves_nothing, settles_whole}
-use Rattle.markdown_engine.specs.ResolvingLaws.{closes_unresolved, falls_unresolved, keeps_unresolved, resolves_unresolved, tidies_unresolved}
+use Rattle.markdown_engine.specs.Resolving.{Leaves, LeavesAt, ResolvesAt, Unresolved, resolves_nothing, settles_whole}
+use Rattle.markdown_engine.specs.ResolvingLaws.{lawful_unresolved, resolves_unresolved}
+use Rattle.markdown_engine.specs.StepLaws.{by_test, handed_ahead, same_front, same_place, two_more}
 use Rattle.markdown_engine.specs.VirtualText.{is_feed}
-use Rattle.tests_engine.specs.Pairs.{Close, Exits, First, Fits, IsAhead, IsAt, IsCheck, IsLooking, IsSound, Items, MayExit, MayLook, Pair, Part, Second, Single, Stands, Waits, close, close_state, first, first_state, height, items, items_state, marked, open_at, pair, pair_state, pairs_rank, pairs_step, pairs_valid, pairs_waits, pairs_weight, part, second, second_state, single, single_state, step_of}
-
-by_test : {A : Type 0} (P : A → Type 0) (t : Bool) (x y : A) → P x → P y → P (if t then x else y)
-by_test P true x y h k = h
-by_test P false x y h k = k
-
-same_front : (a : List Event) → IsFront a a
-same_front a = ([], sym (append-nil a))
-
-two_more : (a b c : List Event) → IsFront a ((a ++ b) ++ c)
-two_more a b c = (b ++ c, append_assoc a b c)
+use Rattle.tests_engine.specs.Pairs.{Close, Exits, First, Fits, IsAt, IsCheck, IsLooking, IsSound, Items, MayExit, MayLook, Pair, Part, Second, Single, Stands, Waits, close, close_state, first, first_state, height, items, items_state, marked, open_at, pair, pair_state, pairs_rank, pairs_step, pairs_valid, pairs_waits, pairs_weight, part, second, second_state, single, single_state, step_of}
 
 -- What a call leaves: it adds events only, makes one attempt at most, and asks for no edit and no resolver
 
@@ -37,54 +28,58 @@ module _ {M : Type 0} where
   record IsCall (c : Config M) (e : Effect M) : Type 0 where
     adds : Nested c.events e.pushed e.config.events
     fewer : length e.pushed < 2
-    leaves : (e.config.map ≡ c.map) × (e.config.resolvers ≡ c.resolvers)
+    leaves : LeavesAt c e
+    consumes : Consumes e.state c e.config × BeginAround c e.pushed
 
-  calls : (c d : Config M) (s : State) → IsFront c.events d.events → d.map ≡ c.map → d.resolvers ≡ c.resolvers → IsCall c (plain d s)
-  calls c d s h m r = record { adds = h; fewer = omega arith; leaves = (m, r) }
+  calls : (c d : Config M) (s : State) → IsFront c.events d.events → d.map ≡ c.map → d.resolvers ≡ c.resolvers → Consumes s c d → IsCall c (plain d s)
+  calls c d s h m r k = record { adds = h; fewer = omega arith; leaves = (m, r); consumes = (k, tt) }
 
-  items_call : (b : Option ℕ) (c : Config M) → IsCall c (items b c)
+
+  items_call : (b : Option ℕ) (c : Config M) → c.current ≡ b → IsCall c (items b c)
   unfolding items
-  items_call None c = calls c c states.Ok (same_front c.events) refl refl
-  items_call (Some b) c = record { adds = (same_front c.events, same_front c.events); fewer = omega arith; leaves = (refl, refl) }
+  items_call None c e = calls c c states.Ok (same_front c.events) refl refl (inl (same_place c))
+  items_call (Some b) c e = record { adds = (same_front c.events, same_front c.events); fewer = omega arith; leaves = (refl, refl); consumes = (record { point = refl; next = refl; line_start = refl; previous = refl; current = refl }, (inl (record { point = refl; next = refl; line_start = refl; previous = refl; current = refl }), tt, tt, tt)) }
 
-  first_call : (b : Option ℕ) (c : Config M) → IsCall c (first b c)
+  first_call : (b : Option ℕ) (c : Config M) → c.current ≡ b → IsCall c (first b c)
   unfolding first
-  first_call None c = calls c c states.Nok (same_front c.events) refl refl
-  first_call (Some b) c = calls c (consumed c) (states.Next second_state) (same_front c.events) refl refl
+  first_call None c e = calls c c states.Nok (same_front c.events) refl refl (inl (same_place c))
+  first_call (Some b) c e = calls c (consumed c) (states.Next second_state) (same_front c.events) refl refl (b, e, same_place (consumed c))
 
-  second_call : (b : Option ℕ) (c : Config M) → IsCall c (second b c)
+  second_call : (b : Option ℕ) (c : Config M) → c.current ≡ b → IsCall c (second b c)
   unfolding second
-  second_call None c = calls c c states.Nok (same_front c.events) refl refl
-  second_call (Some b) c = calls c c (if b == c.tokenize_state.marker then states.Ok else states.Nok) (same_front c.events) refl refl
+  second_call None c e = calls c c states.Nok (same_front c.events) refl refl (inl (same_place c))
+  second_call (Some b) c e =
+      calls c c (if b == c.tokenize_state.marker then states.Ok else states.Nok) (same_front c.events) refl refl
+      (by_test (λ (s : State). Consumes s c c) (b == c.tokenize_state.marker) states.Ok states.Nok (inl (same_place c)) (inl (same_place c)))
 
-  single_call : (b : Option ℕ) (c : Config M) → IsCall c (single b c)
+  single_call : (b : Option ℕ) (c : Config M) → c.current ≡ b → IsCall c (single b c)
   unfolding single
-  single_call None c = calls c c states.Ok (same_front c.events) refl refl
-  single_call (Some b) c = calls c (exited Data (consumed (entered Data None c))) (states.Next items_state) (two_more c.events _ _) refl refl
+  single_call None c e = calls c c states.Ok (same_front c.events) refl refl (inl (same_place c))
+  single_call (Some b) c e = calls c (exited Data (consumed (entered Data None c))) (states.Next items_state) (two_more c.events _ _) refl refl (b, e, record { point = refl; next = refl; line_start = refl; previous = refl; current = refl })
 
-  pair_call : (b : Option ℕ) (c : Config M) → IsCall c (pair b c)
+  pair_call : (b : Option ℕ) (c : Config M) → c.current ≡ b → IsCall c (pair b c)
   unfolding pair
-  pair_call None c = calls c c states.Ok (same_front c.events) refl refl
-  pair_call (Some b) c = calls c (consumed (entered AttentionSequence None c)) (states.Next close_state) (_, refl) refl refl
+  pair_call None c e = calls c c states.Ok (same_front c.events) refl refl (inl (same_place c))
+  pair_call (Some b) c e = calls c (consumed (entered AttentionSequence None c)) (states.Next close_state) (_, refl) refl refl (b, e, record { point = refl; next = refl; line_start = refl; previous = refl; current = refl })
 
-  close_call : (b : Option ℕ) (c : Config M) → IsCall c (close b c)
+  close_call : (b : Option ℕ) (c : Config M) → c.current ≡ b → IsCall c (close b c)
   unfolding close
-  close_call None c = calls c (exited AttentionSequence c) states.Ok (_, refl) refl refl
-  close_call (Some b) c = calls c (exited AttentionSequence (consumed c)) (states.Next items_state) (_, refl) refl refl
+  close_call None c e = calls c (exited AttentionSequence c) states.Ok (_, refl) refl refl (inl (record { point = refl; next = refl; line_start = refl; previous = refl; current = refl }))
+  close_call (Some b) c e = calls c (exited AttentionSequence (consumed c)) (states.Next items_state) (_, refl) refl refl (b, e, record { point = refl; next = refl; line_start = refl; previous = refl; current = refl })
 
   part_call : (p : Part) (c : Config M) → IsCall c (step_of p c)
-  part_call Items c = items_call c.current c
-  part_call First c = first_call c.current c
-  part_call Second c = second_call c.current c
-  part_call Single c = single_call c.current c
-  part_call Pair c = pair_call c.current c
-  part_call Close c = close_call c.current c
+  part_call Items c = items_call c.current c refl
+  part_call First c = first_call c.current c refl
+  part_call Second c = second_call c.current c refl
+  part_call Single c = single_call c.current c refl
+  part_call Pair c = pair_call c.current c refl
+  part_call Close c = close_call c.current c refl
 
   pairs_call : (c : Config M) (n : Name) → IsCall c (pairs_step c n)
   unfolding pairs_step
   pairs_call c n = part_call (part n) c
 
-  pub pairs_adds : OnlyAdds (pairs_step {M = M})
+  pairs_adds : OnlyAdds (pairs_step {M = M})
   pairs_adds c n = (pairs_call c n).adds
 
   pairs_leaves : Leaves (pairs_step {M = M})
@@ -106,12 +101,7 @@ may_look : (stack : List Attempt) → IsLooking stack → MayLook stack
 may_look [] h = tt
 may_look (a ∷ more) h = h
 
--- right after a byte an exit stands at the point
-exit_place : (b : Bool) (p line : Point) → (if b then (if b then p else line) else p) ≡ p
-exit_place true p line = refl
-exit_place false p line = refl
-
--- and where nothing is read, at a later one
+-- an exit stands at the point, and where nothing is read, at a later one
 exit_on : (b : Bool) (line from to : Point) (es : List Event) → Reaches from to → (let p = if b then line else from in AreTidy es p × Reaches p from) → (let p = if b then line else to in AreTidy es p × Reaches p to)
 exit_on true line from to es k h = (h.0, reaches_on line from to h.1 k)
 exit_on false line from to es k h = (tidy_on es from to h.0 k, stays to)
@@ -218,14 +208,10 @@ module _ {M : Type 0} (size : ℕ) (stack : List Attempt) where
   may_exit_on : (c : Config M) (p : Point) → Reaches c.point p → MayExit c → MayExit (moved p c)
   may_exit_on c p k h = record { place = exit_on (is_feed c.previous) c.line_start c.point p c.events k h.place }
 
-  less_on : (c : Config M) (p : Point) (v : Option VirtualByte) → IsFed size c.point p v → IsAhead size (handed c p v)
-  less_on c p None fed = record { less = λ b e. absurd (let f : None ≡ Some b = e in cc); leads = handed_leads size c p None fed }
-  less_on c p (Some w) fed = record { less = λ b e. (fed.read w refl).falls; leads = handed_leads size c p (Some w) fed }
-
   fed_fine : (c : Config M) (n : Name) (p : Point) (v : Option VirtualByte) → IsFed size c.point p v → pairs_valid size c stack (states.Next n) → pairs_valid size (handed c p v) stack (states.Retry n)
   unfolding pairs_valid
   fed_fine c n p v fed h = record {
-    stands = (at_on (part n) c (handed c p v) refl (λ k. record { place = (may_exit_on c p fed.order k).place }) h.stands, less_on c p v fed);
+    stands = (at_on (part n) c (handed c p v) refl (λ k. record { place = (may_exit_on c p fed.order k).place }) h.stands, handed_ahead size c p v fed);
     tidy = handed_tidy size c p v fed h.tidy;
     marks = h.marks;
   }
@@ -384,17 +370,11 @@ module _ {M : Type 0} (size : ℕ) where
 
   -- No resolver is registered
 
-  pub pairs_keeps : KeepsAt size (Unresolved (pairs_valid {M = M} size)) pairs_step
-  pairs_keeps = keeps_unresolved size (pairs_valid size) pairs_step pairs_leaves pairs_held
+  held : LawfulAt size (pairs_valid {M = M} size) pairs_step (pairs_rank size)
+  held = record { adds = pairs_adds; consumes = λ c stack n h. (pairs_call c n).consumes; keeps = pairs_held; falls = pairs_fell; tidies = pairs_tidied; closes = pairs_closed }
 
-  pub pairs_falls : FallsAt size (Unresolved (pairs_valid {M = M} size)) pairs_step (pairs_rank size)
-  pairs_falls = falls_unresolved size (pairs_valid size) pairs_step (pairs_rank size) pairs_fell
-
-  pub pairs_tidy : TidiesAt (Unresolved (pairs_valid {M = M} size))
-  pairs_tidy = tidies_unresolved (pairs_valid size) pairs_tidied
-
-  pub pairs_closes : ClosesAt (Unresolved (pairs_valid {M = M} size))
-  pairs_closes = closes_unresolved (pairs_valid size) pairs_closed
+  pub pairs_lawful : LawfulAt size (Unresolved (pairs_valid {M = M} size)) pairs_step (pairs_rank size)
+  pairs_lawful = lawful_unresolved size (pairs_valid size) pairs_step (pairs_rank size) pairs_leaves held
 
   pub pairs_resolves : ResolvesAt (Unresolved (pairs_valid {M = M} size)) resolves_nothing settles_whole
-  pairs_resolves = resolves_unresolved (pairs_valid size) goes_well pairs_tidied pairs_closed
+  pairs_resolves = resolves_unresolved size (pairs_valid size) pairs_step (pairs_rank size) held goes_well

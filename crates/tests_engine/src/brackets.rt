@@ -2,28 +2,31 @@
 //!
 //! Where a group doesn't end, all from its bracket on is data. A group is attempted, and in it its
 //! items are, so that its end is looked for after them.
-ghost use Rattle.std.specs.Prelude.{◌≡◌, ◌<◌, IfOk, IfErr, MatchOption, length};
+ghost use Rattle.std.specs.Prelude.{◌≡◌, IfErr, IfOk, length};
 ghost use Rattle.std.specs.Option.{option_copied};
 ghost use Rattle.markdown_options.specs.Messages.{IsOutOfMemory};
 ghost use Rattle.markdown_engine.specs.Machine.{Answers, AreCuts, config};
 ghost use Rattle.engine_events.specs.declared.event.Name.TheVariants as names;
-ghost use Rattle.markdown_engine.specs.Chains.{Subtokenized};
 ghost use Rattle.markdown_engine.specs.Order.{IsInnermost, IsBalanced, AreInOrder};
-ghost use Rattle.tests_engine.specs.Brackets.{items, rest, group, close, part, Part, Items, Group, Close, Rest, brackets_step, brackets_valid, brackets_rank};
-ghost use Rattle.markdown_engine.specs.Resolving.{Unresolved, found_in, resolves_nothing, settles_whole};
-ghost use Rattle.tests_engine.specs.Bracketed.{Bracketed};
-ghost use Rattle.tests_engine.specs.BracketsLaws.{brackets_adds, brackets_keeps, brackets_falls, brackets_tidy, brackets_closes, brackets_resolves};
+ghost use Rattle.tests_engine.specs.Brackets.{Bracketed, items, rest, group, close, part, Part, Items, Group, Close, Rest, brackets_step, brackets_valid, brackets_rank};
+ghost use Rattle.markdown_engine.specs.Context.{context};
+ghost use Rattle.markdown_engine.specs.Resolving.{Unresolved, resolves_nothing, settles_whole};
+ghost use Rattle.tests_engine.specs.BracketsLaws.{brackets_lawful, brackets_resolves};
+ghost use Rattle.tests_engine.specs.Readings.{ReadsChains};
 
+use crate::readings::{read_at_once, read_chains};
 use markdown_engine::event::{Content, Event, Name as EventName};
 use markdown_engine::place::START;
 use markdown_engine::state::{Inline, Name, State};
 use markdown_engine::subresult::Subresult;
 use markdown_engine::tokenizer::{Machine, Tokenizer};
-use markdown_engine::{Message, ParseState, are_apart, are_places, resolve, subtokenize};
+use markdown_engine::{Message, ParseState, resolve};
 use markdown_options::Tables;
 use std::alloc::Allocator;
 
-const ITEMS: State = State::Next(Name::Inline(Inline::TextStart));
+const BEGINNING: Name = Name::Inline(Inline::TextStart);
+
+const ITEMS: State = State::Next(BEGINNING);
 
 const GROUP: State = State::Retry(Name::Inline(Inline::LabelStart));
 
@@ -128,17 +131,9 @@ impl<T: Tables> Machine<T> for Brackets {
         Ok(None)
     }
 
-    ghost only_adds = { λ x. brackets_adds };
-
-    ghost keeps = { λ x. brackets_keeps (length x.bytes) };
-
-    ghost falls = { λ x. brackets_falls (length x.bytes) };
+    ghost lawful = { λ x. brackets_lawful (length x.bytes) };
 
     ghost resolving = { λ x. brackets_resolves (length x.bytes) };
-
-    ghost tidy = { λ x. brackets_tidy (length x.bytes) };
-
-    ghost closes = { λ x. brackets_closes (length x.bytes) };
 }
 
 /// The events of a text of brackets, read at once.
@@ -153,11 +148,7 @@ pub fn read_whole<T: Tables, A: Allocator + Clone>(
     ensures order { IfOk result (λ events. AreInOrder events.items) }
     ensures memory { IfErr result (λ message. IsOutOfMemory message) }
 {
-    let mut tokenizer = Tokenizer::new(alloc, START, parse_state, machine)?;
-    match tokenizer.whole(ITEMS) {
-        State::Error(message) => Err(*message),
-        _ => Ok(tokenizer.events),
-    }
+    read_at_once(alloc, parse_state, machine, BEGINNING)
 }
 
 /// The same, read in ranges: cut anywhere, inside of a tab or a line ending, too.
@@ -199,20 +190,15 @@ pub fn read_both_ways<T: Tables, A: Allocator + Clone>(
 
 /// Reads the groups of the chains that are asked for, and puts their events in place of the chunks.
 ///
-/// Answers none, and leaves the events, where they aren't such that their chains can be read.
+/// Answers none, and leaves the events, exactly where they aren't such that the chains can be read.
 pub fn read_groups<T: Tables, A: Allocator + Clone>(
     events: &mut Vec<Event, A>,
     parse_state: &ParseState<'_, T, A>,
     machine: Brackets,
     filter: Option<&Content>,
 ) -> Result<Option<Subresult<A>>, Message>
-    ensures read { IfOk result (λ found. MatchOption found (events.new.items ≡ events.old.items)
-        (λ result. Subtokenized brackets_step resolves_nothing parse_state.now.bytes.now machine (option_copied filter.entry) events.old.items events.new.items (found_in result))) }
+    ensures read { IfOk result (λ found. ReadsChains (λ x. brackets_step) (λ x. resolves_nothing) (context parse_state.now) machine (option_copied filter.entry) events.old.items events.new.items found) }
     ensures memory { IfErr result (λ message. IsOutOfMemory message) }
 {
-    let alloc = events.allocator().clone()?;
-    if !are_places(parse_state.bytes, events) || !are_apart(&alloc, events, filter)? {
-        return Ok(None);
-    }
-    Ok(Some(subtokenize(events, parse_state, machine, filter)?))
+    read_chains(events, parse_state, machine, filter)
 }

@@ -1,10 +1,9 @@
 //! A machine that consumes every byte and counts its calls.
 ghost use Rattle.std.specs.Prelude.{length};
 ghost use Rattle.markdown_engine.specs.Resolving.{Unresolved, resolves_nothing, settles_whole};
-ghost use Rattle.tests_engine.specs.Counting.{count_step, counts, count_rank};
-ghost use Rattle.std.specs.Prelude.{length};
-ghost use Rattle.markdown_engine.specs.Resolving.{Unresolved, resolves_nothing, settles_whole};
-ghost use Rattle.tests_engine.specs.CountingLaws.{count_adds, count_keeps, count_falls, count_tidy, count_closes, count_resolves};
+ghost use Rattle.tests_engine.specs.Counting.{count_step, counts};
+ghost use Rattle.tests_engine.specs.CountingLaws.{count_lawful, count_resolves};
+ghost use Rattle.tests_engine.specs.EachByte.{each_rank};
 
 use markdown_engine::resolve;
 use markdown_engine::state::{Name, State};
@@ -25,7 +24,7 @@ impl<T: Tables> Machine<T> for Count {
 
     ghost valid = { λ x. Unresolved counts };
 
-    ghost rank = { λ x. count_rank (length x.bytes) };
+    ghost rank = { λ x. each_rank (length x.bytes) };
 
     ghost resolved = { λ x. resolves_nothing };
 
@@ -51,15 +50,7 @@ impl<T: Tables> Machine<T> for Count {
         Ok(None)
     }
 
-    ghost only_adds = { λ x. count_adds };
+    ghost lawful = { λ x. count_lawful (length x.bytes) };
 
-    ghost keeps = { λ x. count_keeps (length x.bytes) };
-
-    ghost falls = { λ x. count_falls (length x.bytes) };
-
-    ghost resolving = { λ x. count_resolves };
-
-    ghost tidy = { λ x. count_tidy };
-
-    ghost closes = { λ x. count_closes };
+    ghost resolving = { λ x. count_resolves (length x.bytes) };
 }

@@ -4,14 +4,7 @@
 pub mod brackets;
 pub mod count;
 pub mod letters;
-#[cfg(test)]
-mod memory;
 pub mod pairs;
-#[cfg(test)]
-mod pairs_tests;
+pub mod readings;
 pub mod tables;
-#[cfg(test)]
-mod tests;
 pub mod wrapped;
-#[cfg(test)]
-mod wrapped_tests;

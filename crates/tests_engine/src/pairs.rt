@@ -1,17 +1,17 @@
 //! A machine that puts one event round two equal bytes, and one round each other byte.
 //!
 //! At each byte it looks ahead, to the byte after it.
-ghost use Rattle.std.specs.Prelude.{◌≡◌, IfOk, IfErr, length};
+ghost use Rattle.std.specs.Prelude.{IfErr, IfOk, length};
 ghost use Rattle.markdown_options.specs.Messages.{IsOutOfMemory};
 ghost use Rattle.markdown_engine.specs.Machine.{Answers, config};
 ghost use Rattle.engine_events.specs.declared.event.Name.TheVariants as names;
 ghost use Rattle.markdown_engine.specs.Order.{AreInOrder, IsBalanced, IsInnermost};
 ghost use Rattle.markdown_engine.specs.Resolving.{Unresolved, resolves_nothing, settles_whole};
 ghost use Rattle.tests_engine.specs.Pairs.{items, first, second, single, pair, close, part, Part, Items, First, Second, Single, Pair, Close, Paired, pairs_rank, pairs_step, pairs_valid};
-ghost use Rattle.tests_engine.specs.PairsLaws.{pairs_adds, pairs_closes, pairs_falls, pairs_keeps, pairs_resolves, pairs_tidy};
+ghost use Rattle.tests_engine.specs.PairsLaws.{pairs_lawful, pairs_resolves};
 
+use crate::readings::read_at_once;
 use markdown_engine::event::{Event, Name as EventName};
-use markdown_engine::place::START;
 use markdown_engine::state::{Inline, Name, State};
 use markdown_engine::subresult::Subresult;
 use markdown_engine::tokenizer::{Machine, Tokenizer};
@@ -19,7 +19,9 @@ use markdown_engine::{Message, ParseState, resolve};
 use markdown_options::Tables;
 use std::alloc::Allocator;
 
-const ITEMS: State = State::Next(Name::Inline(Inline::TextStart));
+const BEGINNING: Name = Name::Inline(Inline::TextStart);
+
+const ITEMS: State = State::Next(BEGINNING);
 
 const FIRST: State = State::Retry(Name::Inline(Inline::AttentionStart));
 
@@ -156,17 +158,9 @@ impl<T: Tables> Machine<T> for Pairs {
         Ok(None)
     }
 
-    ghost only_adds = { λ x. pairs_adds };
-
-    ghost keeps = { λ x. pairs_keeps (length x.bytes) };
-
-    ghost falls = { λ x. pairs_falls (length x.bytes) };
+    ghost lawful = { λ x. pairs_lawful (length x.bytes) };
 
     ghost resolving = { λ x. pairs_resolves (length x.bytes) };
-
-    ghost tidy = { λ x. pairs_tidy (length x.bytes) };
-
-    ghost closes = { λ x. pairs_closes (length x.bytes) };
 }
 
 /// The events of a text of pairs and single bytes.
@@ -181,9 +175,5 @@ pub fn read_pairs<T: Tables, A: Allocator + Clone>(
     ensures order { IfOk result (λ events. AreInOrder events.items) }
     ensures memory { IfErr result (λ message. IsOutOfMemory message) }
 {
-    let mut tokenizer = Tokenizer::new(alloc, START, parse_state, machine)?;
-    match tokenizer.whole(ITEMS) {
-        State::Error(message) => Err(*message),
-        _ => Ok(tokenizer.events),
-    }
+    read_at_once(alloc, parse_state, machine, BEGINNING)
 }

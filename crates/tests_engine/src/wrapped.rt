@@ -3,8 +3,9 @@ ghost use Rattle.std.specs.Prelude.{◌≡◌, ◌∷◌, [], length, IfOk, IfEr
 ghost use Rattle.markdown_options.specs.Messages.{IsOutOfMemory};
 ghost use Rattle.markdown_engine.specs.Order.{IsBalanced, AreInOrder};
 ghost use Rattle.markdown_engine.specs.Resolving.{found_in};
-ghost use Rattle.tests_engine.specs.Wrapped.{IsWrapped, one_found, wrapped_step, wrapped_rank, wraps_all, reads_wrapped, settles_wrapped};
-ghost use Rattle.tests_engine.specs.WrappedLaws.{wrapped_adds, wrapped_keeps, wrapped_falls, wrapped_tidy, wrapped_closes, wrapped_resolves};
+ghost use Rattle.tests_engine.specs.EachByte.{each_rank};
+ghost use Rattle.tests_engine.specs.Wrapped.{IsWrapped, one_found, reads_wrapped, settles_wrapped, wrapped_step, wraps_all};
+ghost use Rattle.tests_engine.specs.WrappedLaws.{wrapped_lawful, wrapped_resolves};
 
 use markdown_engine::event::{Event, Kind, Name as EventName};
 use markdown_engine::place::START;
@@ -38,7 +39,7 @@ impl<T: Tables> Machine<T> for Wrapped {
 
     ghost valid = { λ x. reads_wrapped };
 
-    ghost rank = { λ x. wrapped_rank (length x.bytes) };
+    ghost rank = { λ x. each_rank (length x.bytes) };
 
     ghost resolved = { λ x. wraps_all };
 
@@ -86,17 +87,9 @@ impl<T: Tables> Machine<T> for Wrapped {
         }))
     }
 
-    ghost only_adds = { λ x. wrapped_adds };
-
-    ghost keeps = { λ x. wrapped_keeps (length x.bytes) };
-
-    ghost falls = { λ x. wrapped_falls (length x.bytes) };
+    ghost lawful = { λ x. wrapped_lawful (length x.bytes) };
 
     ghost resolving = { λ x. wrapped_resolves };
-
-    ghost tidy = { λ x. wrapped_tidy };
-
-    ghost closes = { λ x. wrapped_closes };
 }
 
 /// The events of a text, with one round all, and what was found.

@@ -3,39 +3,22 @@ use Rattle.std.proofs.lemmas.List.{drop_more}
 use Rattle.engine_events.specs.declared.place.Point.{Point}
 use Rattle.markdown_engine.specs.Chains.{place_at, after_chunk}
 use Rattle.markdown_engine.specs.Machine.{source}
-use Rattle.markdown_engine.proofs.ChainSteps.{skipping_on, skipping_place}
+use Rattle.markdown_engine.proofs.ChainSteps.{next_fits, skipping_on}
 use Rattle.markdown_engine.proofs.chains.skip_before_chunks.Goals as goal
 
 pub place_at-requires : goal.place_at-requires
-place_at-requires g c =
-    let i = c.loop-chunk.chunk-index in
-    let chain = c.args.chain.now in
-    let k = get_or chain i 0 in
-    let low : k + 2 ≤ length c.args.events.now = skipping_place c.args.events.now c.loop-chunk.end (drop i chain) (drop (i + 1) chain) k c.loop-chunk.tokenizer c.args.tokenizer.now.point chain c.args.tokenizer.now (drop_more chain i 0 c.loop-chunk-test.true) c.loop-chunk.invariant in
-    omega (arith, low)
+place_at-requires g c = let low = next_fits c.args.events.now c.loop-chunk.end c.args.chain.now c.loop-chunk.chunk-index c.loop-chunk.tokenizer c.args.tokenizer.now c.loop-chunk-test.true c.loop-chunk.invariant in omega (arith, low)
 
 pub overflow_add-chunk : goal.overflow_add-chunk
-overflow_add-chunk g c =
-    let i = c.loop-chunk.chunk-index in
-    let chain = c.args.chain.now in
-    let k = get_or chain i 0 in
-    let low : k + 2 ≤ length c.args.events.now = skipping_place c.args.events.now c.loop-chunk.end (drop i chain) (drop (i + 1) chain) k c.loop-chunk.tokenizer c.args.tokenizer.now.point chain c.args.tokenizer.now (drop_more chain i 0 c.loop-chunk-test.true) c.loop-chunk.invariant in
-    omega (arith, low)
+overflow_add-chunk g c = let low = next_fits c.args.events.now c.loop-chunk.end c.args.chain.now c.loop-chunk.chunk-index c.loop-chunk.tokenizer c.args.tokenizer.now c.loop-chunk-test.true c.loop-chunk.invariant in omega (arith, low)
 
 pub place_at-end-requires : goal.place_at-end-requires
-place_at-end-requires g c =
-    let i = c.loop-chunk.chunk-index in
-    let chain = c.args.chain.now in
-    let k = get_or chain i 0 in
-    let low : k + 2 ≤ length c.args.events.now = skipping_place c.args.events.now c.loop-chunk.end (drop i chain) (drop (i + 1) chain) k c.loop-chunk.tokenizer c.args.tokenizer.now.point chain c.args.tokenizer.now (drop_more chain i 0 c.loop-chunk-test.true) c.loop-chunk.invariant in
-    omega (arith, low)
+place_at-end-requires g c = let low = next_fits c.args.events.now c.loop-chunk.end c.args.chain.now c.loop-chunk.chunk-index c.loop-chunk.tokenizer c.args.tokenizer.now c.loop-chunk-test.true c.loop-chunk.invariant in omega (arith, low)
 
 pub skip_before-requires : goal.skip_before-requires
 skip_before-requires g c =
-    let i = c.loop-chunk.chunk-index in
-    let chain = c.args.chain.now in
-    let k = get_or chain i 0 in
-    let low : k + 2 ≤ length c.args.events.now = skipping_place c.args.events.now c.loop-chunk.end (drop i chain) (drop (i + 1) chain) k c.loop-chunk.tokenizer c.args.tokenizer.now.point chain c.args.tokenizer.now (drop_more chain i 0 c.loop-chunk-test.true) c.loop-chunk.invariant in
+    let low = next_fits c.args.events.now c.loop-chunk.end c.args.chain.now c.loop-chunk.chunk-index c.loop-chunk.tokenizer c.args.tokenizer.now c.loop-chunk-test.true c.loop-chunk.invariant in
+    let k = get_or c.args.chain.now c.loop-chunk.chunk-index 0 in
     let there : (place_at c.args.events.now k).index ≤ length c.args.tokenizer.now.parse_state.now.bytes.now = (c.requires.places k (omega (arith, low))).within in
     let same : c.place_at.result ≡ place_at c.args.events.now k = c.place_at.ensures in
     rw same (rw c.loop-chunk.invariant.parse_state there)

@@ -25,10 +25,10 @@ consume-requires g c =
     let of : Divides step resolve bytes machine events (chains c.copied.result events) (0, 0) (edits_of c.new-map.result) all nothing_found total = subst (λ (z : List Event). Divides step resolve bytes machine z (chains c.copied.result z) (0, 0) (edits_of c.new-map.result) all nothing_found total) c.deref.ensures.value said in
     let asked : Divides step resolve bytes machine events (chains filter events) (0, 0) (edits_of c.new-map.result) all nothing_found total = subst (λ (z : Option Content). Divides step resolve bytes machine events (chains z events) (0, 0) (edits_of c.new-map.result) all nothing_found total) c.copied.ensures of in
     let none : Divides step resolve bytes machine events (chains filter events) (0, 0) [] all nothing_found total = subst (λ (z : List Placed). Divides step resolve bytes machine events (chains filter events) (0, 0) z all nothing_found total) c.new-map.ensures asked in
-    let ordered : IsOrdered 0 all (length events) = divides_ordered step resolve bytes machine events (chains filter events) all total (length events) none c.requires.apart in
+    let ordered : IsOrdered 0 all (length events) = divides_ordered step resolve bytes machine events (chains filter events) all total (length events) none c.requires.readable.apart in
     rw c.args.events.now.ok.0 ordered
 
 pub returns-clause-links : goal.returns-clause-links
 returns-clause-links g c =
     let x = context c.args.parse_state.now in
-    links_lead (g.M.Machine.step x) (g.M.Machine.resolved x) c.args.parse_state.now.bytes.now c.args.machine (option_copied c.args.filter) c.args.events.now.items c.consume.new.events.items (found_in c.in_ok-found.found) c.requires.apart
+    links_lead (g.M.Machine.step x) (g.M.Machine.resolved x) c.args.parse_state.now.bytes.now c.args.machine (option_copied c.args.filter) c.args.events.now.items c.consume.new.events.items (found_in c.in_ok-found.found) c.requires.readable.apart

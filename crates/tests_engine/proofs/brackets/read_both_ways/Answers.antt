@@ -3,7 +3,7 @@ use Rattle.engine_events.specs.declared.event.Event.{Event}
 use Rattle.markdown_engine.specs.Reading.{Config}
 use Rattle.markdown_engine.specs.ReadingLaws.{one_outcome}
 use Rattle.tests_engine.specs.declared.brackets.Brackets.{Brackets}
-use Rattle.tests_engine.specs.Bracketed.{Bracketed}
+use Rattle.tests_engine.specs.Brackets.{Bracketed}
 use Rattle.tests_engine.proofs.brackets.read_both_ways.Goals as goal
 
 same_events : (bytes : List ℕ) (machine : Brackets) (a b : List Event) → Bracketed bytes machine a → Bracketed bytes machine b → a ≡ b

@@ -12,12 +12,13 @@ use Rattle.markdown_engine.specs.Machine.{Around, Begins, Completed, GoesAll, Is
 use Rattle.markdown_engine.specs.Order.{text_start}
 use Rattle.markdown_engine.specs.Reading.{Config, Frame, Outcome, Runs, ends-ok, ends-nok, next, retry, first, second, feed, hand_on, moved}
 use Rattle.markdown_engine.specs.Resolving.{Found, found_in, nothing_found, resolve_each}
-use Rattle.markdown_engine.specs.VirtualText.{Source, Text, place_in, text_to}
+use Rattle.markdown_engine.specs.VirtualText.{Source, Text, place_in, text_to, unskipped}
 use Rattle.markdown_engine.proofs.Push.{around, at_outcome, same_goes_on, unless_refused, whole_run}
 use Rattle.markdown_engine.proofs.Starts.{before}
 use Rattle.tests_engine.specs.declared.wrapped.Wrapped.{Wrapped}
-use Rattle.tests_engine.specs.Bracketed.{whole_source}
-use Rattle.tests_engine.specs.Wrapped.{IsWrapped, MayRun, byte_at, one_found, only_text, reads_wrapped, wrapped_start, wrapped_step, wraps_all}
+use Rattle.tests_engine.specs.EachByte.{at_byte}
+use Rattle.tests_engine.specs.Readings.{text_of}
+use Rattle.tests_engine.specs.Wrapped.{IsWrapped, MayRun, one_found, only_text, over_byte, reads_wrapped, with_text, wrapped_start, wrapped_step, wraps_all}
 use Rattle.tests_engine.specs.WrappedLaws.{registers}
 use Rattle.tests_engine.proofs.wrapped.read_wrapped.Goals as goal
 
@@ -44,11 +45,11 @@ module _ {T A : Type 0} (bytes : List ℕ) (machine : Wrapped) (old start new la
       let there : o.point ≡ text_start = begins_there (source old) old.point o.point o.begins ∙ ap (λ (z : Config Wrapped). z.point) e in
       o.config ∙ (ap (moved o.point) e ∙ ap (λ (z : Point). moved z (fresh text_start machine)) there)
 
-  read_all : config old ≡ fresh text_start machine → old.attempts.items ≡ [] → source old ≡ whole_source bytes → new.end ≡ (length bytes, 0) → Opened (0, 0) old start → Around start new → GoesAll wrapped_step (source start) (length bytes, 0) false wrapped_start start new s
+  read_all : config old ≡ fresh text_start machine → old.attempts.items ≡ [] → source old ≡ unskipped bytes → new.end ≡ (length bytes, 0) → Opened (0, 0) old start → Around start new → GoesAll wrapped_step (source start) (length bytes, 0) false wrapped_start start new s
       → Completed (text_to (source new) new.end) wrapped_step wraps_all true s new last found → IsWrapped bytes machine last.events.items found
   read_all e none from end o a g h =
       let to : ℕ × ℕ = (length bytes, 0) in
-      let same : source start ≡ whole_source bytes = around old start o.same ∙ from in
+      let same : source start ≡ unskipped bytes = around old start o.same ∙ from in
       let after : IsAfter to to = record { index = omega arith; column = λ k. omega arith } in
       let text = text_to (source start) to in
       let left : Outcome (text_to (source start) new.end) wrapped_step new.attempts.items (config new) [] s h.read true = subst (λ (z : Source). Outcome (text_to z new.end) wrapped_step new.attempts.items (config new) [] s h.read true) (around start new a) h.outcome in
@@ -65,13 +66,13 @@ module _ {T A : Type 0} (bytes : List ℕ) (machine : Wrapped) (old start new la
 
 -- the first call registers the resolver, and it stays
 
-as_given : (b : Option ℕ) (c : Config Wrapped) (n : Name) → (byte_at b c n).config.resolvers ≡ c.resolvers
-as_given None c n = refl
-as_given (Some b) c n = refl
+called_at : (b : Option ℕ) (c : Config Wrapped) (n : Name) → MayRun c.resolvers → (at_byte with_text over_byte b c n).config.resolvers ≡ only_text
+called_at None c n h = registers c.resolvers h
+called_at (Some b) c n h = registers c.resolvers h
 
 called_once : (c : Config Wrapped) (n : Name) → MayRun c.resolvers → (wrapped_step c n).config.resolvers ≡ only_text
 unfolding wrapped_step
-called_once c n h = as_given c.current (to_run_last resolvers.Text c) n ∙ registers c.resolvers h
+called_once c n h = called_at c.current c n h
 
 kept_once : (b : Bool) (f : Frame Wrapped) (c : Config Wrapped) → c.resolvers ≡ only_text → (cond b (hand_on f.start c) c).resolvers ≡ only_text
 kept_once true f c h = h
@@ -91,7 +92,7 @@ module _ (text : Text) where
 
 found_one : (bytes : List ℕ) (machine : Wrapped) (events : List Event) (found : Found) → IsWrapped bytes machine events found → found ≡ one_found
 unfolding wraps_all
-found_one bytes machine events found h = h.labels ∙ ap (λ (names : List Resolver). (resolve_each wraps_all names (record h.read { resolvers = [] }) nothing_found).found) (read_once (text_to (whole_source bytes) (length bytes, 0)) h.runs (inl refl))
+found_one bytes machine events found h = h.labels ∙ ap (λ (names : List Resolver). (resolve_each wraps_all names (record h.read { resolvers = [] }) nothing_found).found) (read_once (text_of bytes) h.runs (inl refl))
 
 pub returns-clause-reads : goal.returns-clause-reads
 returns-clause-reads g c =
@@ -100,7 +101,7 @@ returns-clause-reads g c =
     let new = c.push-state.new.self in
     let last = c.flush.new.self in
     let made = c.in_ok-tokenizer.ensures in
-    let from : source old ≡ whole_source bytes = rw (made.parse_state, made.skips) refl in
+    let from : source old ≡ unskipped bytes = rw (made.parse_state, made.skips) refl in
     elim c.push-state.ensures.reads [
       | inl f ↦ absurd (let e : false ≡ true = c.in_ok-found.ensures.failed f in cc)
       | inr p ↦ elim c.push-state.ensures.valid [

@@ -29,7 +29,7 @@ returns g c =
     let well = read_well (g.M.Machine.valid x) (text_to (source old) c.args.to) (g.M.Machine.step x) c.args.state old mid c.finish.result resolving.well (not_refused c.finish.result c.in_default.not-Error) c.finish.ensures.valid c.finish.ensures.reads in
     let at : read_with mid ≡ x = same_read old mid c.finish.ensures.parse_state in
     elim c.if-resolve.branch [
-      | then-resolve+in_ok-resolve_all w ↦ rw (w.self-is, w.found-is) (let said = all_at g.M.Machine.resolved (read_with mid) x (config mid) (config w.resolve_all.new.self) (found_in w.resolve_all.new.found) at w.in_ok-resolve_all.ensures.config w.in_ok-resolve_all.ensures.found in record {
+      | then-resolve+in_ok-resolve_all w ↦ rw (w.self-is, w.found-is) (let said = all_at g.M.Machine.resolved (read_with mid) x (config mid) (config w.resolve_all.new.self) (found_in w.resolve_all.new.found) at w.in_ok-resolve_all.ensures.resolved.config w.in_ok-resolve_all.ensures.resolved.found in record {
         completed = completed_if (text_to (source old) c.args.to) (g.M.Machine.step x) (g.M.Machine.resolved x) c.args.state old w.resolve_all.new.self (found_in w.resolve_all.new.found) true c.args.resolve (sym w.if-resolve.true)
             (completed_all (text_to (source old) c.args.to) (g.M.Machine.step x) (g.M.Machine.resolved x) c.args.state old mid w.resolve_all.new.self (found_in w.resolve_all.new.found) well.1 said.0 said.1);
         done = w.in_ok-resolve_all.ensures.done ∙ c.in_ok-found.ensures.done;

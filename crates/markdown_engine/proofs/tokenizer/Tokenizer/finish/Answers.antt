@@ -18,9 +18,11 @@ returns-clause-total g c =
     let x = read_with old in
     elim c.requires.valid [
       | inl r ↦ inl r
-      | inr h ↦ inr (has_outcome (length old.parse_state.now.bytes.now) (g.M.Machine.valid x) (g.M.Machine.step x) (g.M.Machine.rank x) (g.met.M.Machine.only_adds x) (g.met.M.Machine.keeps x) (g.met.M.Machine.falls x)
-          (text_to (source old) c.args.to) (feeds_to (source old) c.args.to c.requires.within c.requires.column) (config old) old.attempts.items c.args.state h)
+      | inr h ↦ inr (has_outcome (length old.parse_state.now.bytes.now) (g.M.Machine.valid x) (g.M.Machine.step x) (g.M.Machine.rank x) (g.met.M.Machine.lawful x)
+          (text_to (source old) c.args.to) (feeds_to (source old) c.args.to c.requires.to.within c.requires.to.column) (config old) old.attempts.items c.args.state h)
     ]
 
 pub returns-clause-whole : goal.returns-clause-whole
-returns-clause-whole g c = read_whole (read_with c.args.self.now) g.M.Machine.valid g.met.M.Machine.tidy g.met.M.Machine.closes c.read.new.self c.read.result c.read.ensures.valid (c.read.ensures.ends refl)
+returns-clause-whole g c =
+    let x = read_with c.args.self.now in
+    read_whole (length x.bytes) (g.M.Machine.valid x) (g.M.Machine.step x) (g.M.Machine.rank x) (g.met.M.Machine.lawful x) c.read.new.self c.read.result c.read.ensures.valid (c.read.ensures.ends refl)

@@ -5,7 +5,7 @@ use Rattle.markdown_engine.proofs.Push.{around, same_read, flushed_at, joined, s
 use Rattle.markdown_engine.proofs.tokenizer.Tokenizer.in_lines.Goals as goal
 
 pub returns-in-Error-clause-reads : goal.returns-in-Error-clause-reads
-returns-in-Error-clause-reads g c = inl (only_memory (length c.args.self.now.parse_state.now.bytes.now) (g.M.Machine.valid (read_with c.args.self.now)) (g.M.Machine.step (read_with c.args.self.now)) (g.met.M.Machine.keeps (read_with c.args.self.now)) (config c.read-first.new.self) c.read-first.new.self.attempts.items c.read-first.result _ c.in-Error.is c.read-first.ensures.valid)
+returns-in-Error-clause-reads g c = inl (only_memory (length c.args.self.now.parse_state.now.bytes.now) (g.M.Machine.valid (read_with c.args.self.now)) (g.M.Machine.step (read_with c.args.self.now)) (g.met.M.Machine.lawful (read_with c.args.self.now)).keeps (config c.read-first.new.self) c.read-first.new.self.attempts.items c.read-first.result _ c.in-Error.is c.read-first.ensures.valid)
 
 pub returns-clause-reads : goal.returns-clause-reads
 returns-clause-reads g c =

@@ -15,7 +15,7 @@ read-next-requires-clause-valid g c =
     let old = c.args.self.now in
     let start = c.move_to.new.self in
     let valid = unless_failed old.failed c.if-self.false c.requires.valid in
-    let there = opened_valid (g.M.Machine.valid (read_with old)) (g.M.Machine.step (read_with old)) c.args.from old start c.args.state (g.met.M.Machine.keeps (read_with old)) c.requires.moves_on c.move_to.ensures valid in
+    let there = opened_valid (g.M.Machine.valid (read_with old)) (g.M.Machine.step (read_with old)) c.args.from old start c.args.state (g.met.M.Machine.lawful (read_with old)).keeps c.requires.moves_on c.move_to.ensures valid in
     let at : read_with start ≡ read_with old = same_read old start c.move_to.ensures.same.parse_state in
     inr (valid_at g.M.Machine.valid (read_with old) (read_with start) (config start) start.attempts.items c.args.state (let e : read_with old ≡ read_with start = cc in e) there)
 

@@ -13,5 +13,5 @@ returns-clause-total g c =
     let old = c.args.self.now in
     let x = read_with old in
     let size = length old.parse_state.now.bytes.now in
-    has_run size (g.M.Machine.valid x) (g.M.Machine.step x) (g.M.Machine.rank x) (g.met.M.Machine.only_adds x) (g.met.M.Machine.keeps x) (g.met.M.Machine.falls x)
+    has_run size (g.M.Machine.valid x) (g.M.Machine.step x) (g.M.Machine.rank x) (g.met.M.Machine.lawful x)
     (text_to (source old) (size, 0)) (feeds_to (source old) (size, 0) (omega arith) (λ e. refl)) (config old) c.args.state c.requires.valid

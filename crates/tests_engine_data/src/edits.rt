@@ -1,0 +1,120 @@
+use engine_edits::edit::Edit;
+use engine_edits::edit_map::EditMap;
+use engine_edits::relink::{push_gone, push_kept, push_relinked};
+use engine_events::event::Name;
+use engine_events::{Content, Event, Kind, Link, Point};
+use markdown_options::Message;
+use std::alloc::{AllocError, Global};
+use std::test::Fail;
+
+/// A chunk at an index, between two others.
+fn chunk(index: usize, previous: Option<usize>, next: Option<usize>) -> Event {
+    let point = Point {
+        line: 1,
+        column: 1,
+        index,
+        vs: 0,
+    };
+    let link = Link {
+        previous,
+        next,
+        content: Content::Text,
+    };
+    Event::new(Kind::Enter, Name::Data, point, Some(link))
+}
+
+fn chunks(alloc: Global, count: usize) -> Result<Vec<Event>, AllocError> {
+    let mut events = Vec::new(alloc);
+    for index in 0..count {
+        events.push(chunk(index, index.checked_sub(2), index.checked_add(2)))?;
+    }
+    Ok(events)
+}
+
+#[test]
+fn edits_of_one_place_are_one(rt: HostRuntime) -> Result<(), Fail> {
+    let mut events = chunks(rt.alloc(), 6)?;
+    let mut map = EditMap::new(rt.alloc());
+    map.add(1, 2, [chunk(10, None, None)].to_vec(rt.alloc())?)?;
+    map.add(1, 1, [chunk(11, None, None)].to_vec(rt.alloc())?)?;
+    map.add_before(1, 0, [chunk(12, None, None)].to_vec(rt.alloc())?)?;
+    assert!(rt; map.is_ordered(events.len()));
+    map.consume(&mut events)?;
+    let mut places = Vec::new(rt.alloc());
+    for event in &events {
+        places.push(event.point().index)?;
+    }
+    assert_eq!(rt; places.as_slice(), [0, 12, 10, 11, 4, 5].as_slice());
+    Ok(())
+}
+
+/// Removes 1,000 events at even places, from the front or from the back.
+fn odd_ones(alloc: Global, forward: bool) -> Result<Option<Vec<Event>>, Message> {
+    let mut events = chunks(alloc, 2000)?;
+    let mut map = EditMap::new(alloc);
+    for turn in 0..1000usize {
+        let place = if forward { turn } else { 999 - turn };
+        map.add(2 * place, 1, Vec::new(alloc))?;
+    }
+    if !map.is_ordered(events.len()) {
+        return Ok(None);
+    }
+    map.consume(&mut events)?;
+    Ok(Some(events))
+}
+
+#[test]
+fn many_edits_from_both_ends(rt: HostRuntime) -> Result<(), Fail> {
+    for forward in [true, false] {
+        let events = odd_ones(rt.alloc(), forward)?.ok_or("ordered")?;
+        assert_eq!(rt; events.len(), 1000);
+        for (index, event) in events.iter().enumerate() {
+            assert_eq!(rt; event.point().index / 2, index);
+            let link = event.link().ok_or("a link")?;
+            assert_eq!(rt; link.previous, index.checked_sub(1));
+            let next = if index < 999 { Some(index + 1) } else { None };
+            assert_eq!(rt; link.next, next);
+        }
+    }
+    Ok(())
+}
+
+#[test]
+fn an_edit_takes_another(rt: HostRuntime) -> Result<(), Fail> {
+    let mut edit = Edit {
+        remove: 1,
+        add: [chunk(10, None, None)].to_vec(rt.alloc())?,
+    };
+    edit.merge(false, 2, [chunk(11, None, None)].to_vec(rt.alloc())?)?;
+    edit.merge(true, 1, [chunk(12, None, None)].to_vec(rt.alloc())?)?;
+    assert_eq!(rt; edit.remove, 4);
+    assert_eq!(rt; edit.add.len(), 3);
+    for (event, index) in edit.add.iter().zip([12, 10, 11]) {
+        assert_eq!(rt; event.point().index, index);
+    }
+    assert!(rt; edit.ends_within(2, 6));
+    assert!(rt; !edit.ends_within(3, 6));
+    assert!(rt; !edit.ends_within(7, 6));
+    Ok(())
+}
+
+#[test]
+fn links_follow_their_events(rt: HostRuntime) -> Result<(), Fail> {
+    let mut places = Vec::new(rt.alloc());
+    push_kept(&mut places, 3, 2)?;
+    push_gone(&mut places, 1)?;
+    assert_eq!(rt; places.as_slice(), [Some(3), Some(4), None].as_slice());
+    let mut all = Vec::new(rt.alloc());
+    push_relinked(
+        &mut all,
+        &[chunk(0, Some(1), Some(2)), chunk(1, None, Some(3))],
+        &places,
+    )?;
+    let links = [(Some(4), None), (None, None)];
+    assert_eq!(rt; all.len(), 2);
+    for (event, want) in all.iter().zip(links) {
+        let link = event.link().ok_or("a link")?;
+        assert_eq!(rt; (link.previous, link.next), want);
+    }
+    Ok(())
+}

@@ -1,0 +1,19 @@
+//! Tests of the engine on given texts, events and heaps.
+#![tactic(auto)]
+
+#[cfg(test)]
+mod chunks;
+#[cfg(test)]
+mod edits;
+#[cfg(test)]
+mod events;
+#[cfg(test)]
+mod machines;
+#[cfg(test)]
+mod memory;
+#[cfg(test)]
+mod pairs;
+#[cfg(test)]
+mod text;
+#[cfg(test)]
+mod wrapped;

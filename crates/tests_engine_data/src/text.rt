@@ -1,0 +1,152 @@
+use engine_events::event::Name;
+use engine_events::place::START;
+use engine_events::{Event, Kind, Point};
+use engine_text::char::{
+    Kind as CharacterKind, after_index, before_index, classify, classify_opt, format, format_byte,
+    format_byte_opt, format_opt, kind_after_index,
+};
+use engine_text::location::Location;
+use engine_text::skip;
+use engine_text::slice::{Position, Slice};
+use markdown_options::unist;
+use std::alloc::Global;
+use std::test::Fail;
+use tests_engine::tables::Ascii;
+
+#[test]
+fn lines_end_after_cr_lf(rt: HostRuntime) -> Result<(), Fail> {
+    let location = Location::new(rt.alloc(), b"ab\r\nc")?;
+    assert_eq!(rt; location.to_point(3), Some(unist::Point::new(1, 4, 3)));
+    assert_eq!(rt; location.to_point(4), Some(unist::Point::new(2, 1, 4)));
+    assert_eq!(rt; location.to_point(5), Some(unist::Point::new(2, 2, 5)));
+    assert_eq!(rt; location.to_point(6), None);
+    let stops = [(0, 1), (2, 4)];
+    assert_eq!(rt;
+        location.relative_to_point(&stops, 2),
+        Some(unist::Point::new(2, 1, 4))
+    );
+    Ok(())
+}
+
+#[test]
+fn cut_tabs_are_spaces(rt: HostRuntime) -> Result<(), Fail> {
+    let text = "\ta\tb";
+    let start = Point {
+        column: 3,
+        vs: 2,
+        ..START
+    };
+    let end = Point {
+        column: 8,
+        index: 2,
+        vs: 2,
+        ..START
+    };
+    let slice = Slice::from_position(text.as_bytes(), &Position { start, end });
+    assert_eq!(rt; slice.bytes, b"a\t".as_slice());
+    assert_eq!(rt; (slice.before, slice.after), (2, 1));
+    assert_eq!(rt; slice.len(), 5);
+    let cut = Slice {
+        bytes: "a\t".as_bytes(),
+        before: 2,
+        after: 1,
+    };
+    assert_eq!(rt; cut.serialize(rt.alloc())?.as_str(), "  a\t ");
+    Ok(())
+}
+
+#[test]
+fn whole_events_are_skipped(rt: HostRuntime) {
+    let here = START;
+    let events = [
+        Event::new(Kind::Enter, Name::Strong, here, None),
+        Event::new(Kind::Enter, Name::Data, here, None),
+        Event::new(Kind::Exit, Name::Data, here, None),
+        Event::new(Kind::Exit, Name::Strong, here, None),
+        Event::new(Kind::Enter, Name::Data, here, None),
+        Event::new(Kind::Exit, Name::Data, here, None),
+    ];
+    assert_eq!(rt; skip::opt(&events, 0, &[Name::Strong]), 4);
+    assert_eq!(rt; skip::opt(&events, 0, &[Name::Strong, Name::Data]), 6);
+    assert_eq!(rt; skip::opt_back(&events, 5, &[Name::Data]), 3);
+    assert_eq!(rt; skip::opt_back(&events, 5, &[Name::Strong, Name::Data]), 0);
+    assert_eq!(rt; skip::to(&events, 0, &[Name::Data]), 1);
+    let position = Position::from_exit_event(&events, 3);
+    assert_eq!(rt; position.to_indices(), (0, 0));
+}
+
+#[test]
+fn characters_are_shown(rt: HostRuntime) -> Result<(), Fail> {
+    assert_eq!(rt; format(rt.alloc(), 'a')?.as_str(), "`a` (U+0061)");
+    assert_eq!(rt; format(rt.alloc(), '`')?.as_str(), "`` ` `` (U+0060)");
+    assert_eq!(rt; format(rt.alloc(), '\u{1F600}')?.as_str(), "U+1F600");
+    assert_eq!(rt; format_byte_opt(rt.alloc(), None)?.as_str(), "end of file");
+    assert_eq!(rt; before_index("é!".as_bytes(), 2), Some('é'));
+    assert_eq!(rt; after_index("é!".as_bytes(), 2), Some('!'));
+    Ok(())
+}
+
+#[test]
+fn characters_have_kinds(rt: HostRuntime) {
+    assert_eq!(rt; classify('é', &Ascii), CharacterKind::Other);
+    assert_eq!(rt; classify('*', &Ascii), CharacterKind::Punctuation);
+    assert_eq!(rt; classify('\u{A0}', &Ascii), CharacterKind::Whitespace);
+    assert_eq!(rt; classify_opt(Some('a'), &Ascii), CharacterKind::Other);
+    assert_eq!(rt; classify_opt(None, &Ascii), CharacterKind::Whitespace);
+    let text = "é!";
+    assert_eq!(rt;
+        kind_after_index(text.as_bytes(), 2, &Ascii),
+        CharacterKind::Punctuation
+    );
+    assert_eq!(rt;
+        kind_after_index(text.as_bytes(), 3, &Ascii),
+        CharacterKind::Whitespace
+    );
+}
+
+#[test]
+fn bytes_are_shown(rt: HostRuntime) -> Result<(), Fail> {
+    assert_eq!(rt; format_opt(rt.alloc(), Some('é'))?.as_str(), "U+00E9");
+    assert_eq!(rt; format_opt(rt.alloc(), None)?.as_str(), "end of file");
+    assert_eq!(rt; format_byte(rt.alloc(), b'\n')?.as_str(), "U+000A");
+    assert_eq!(rt;
+        format_byte_opt(rt.alloc(), Some(b'<'))?.as_str(),
+        "`<` (U+003C)"
+    );
+    Ok(())
+}
+
+#[test]
+fn places_of_a_part_go_on_from_stops(rt: HostRuntime) {
+    let stops = [(1, 4), (3, 9)];
+    assert_eq!(rt; Location::<Global>::relative_to_absolute(&stops, 0), None);
+    assert_eq!(rt;
+        Location::<Global>::relative_to_absolute(&stops, 2),
+        Some(5)
+    );
+    assert_eq!(rt;
+        Location::<Global>::relative_to_absolute(&stops, 4),
+        Some(10)
+    );
+}
+
+#[test]
+fn events_are_found_backward(rt: HostRuntime) {
+    let events = [
+        Event::new(Kind::Enter, Name::Strong, START, None),
+        Event::new(Kind::Enter, Name::Data, START, None),
+        Event::new(Kind::Exit, Name::Data, START, None),
+        Event::new(Kind::Exit, Name::Strong, START, None),
+    ];
+    assert_eq!(rt; skip::to_back(&events, 3, &[Name::Data]), 2);
+    assert_eq!(rt; skip::to_back(&events, 0, &[Name::Data, Name::Strong]), 0);
+}
+
+#[test]
+fn indices_cut_no_tabs(rt: HostRuntime) {
+    let slice = Slice::from_indices(b"\ta\tb", 1, 3);
+    assert_eq!(rt; slice.bytes, b"a\t".as_slice());
+    assert_eq!(rt; (slice.before, slice.after), (0, 0));
+    let text = "aé";
+    assert_eq!(rt; Slice::from_indices(text.as_bytes(), 0, 3).as_str(), "aé");
+}
