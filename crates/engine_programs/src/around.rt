@@ -1,0 +1,43 @@
+//! An event round the byte at hand.
+ghost use Rattle.std.specs.Prelude.{◌≡◌, [], OnOk, IfErr, None};
+ghost use Rattle.markdown_options.specs.Messages.{IsOutOfMemory};
+ghost use Rattle.markdown_engine.specs.Kept.{kept};
+ghost use Rattle.markdown_engine.specs.Machine.{Became, config, consumed, entered, exited};
+ghost use Rattle.markdown_engine.specs.Order.{IsInnermost, opened, outer};
+
+use markdown_engine::Message;
+use markdown_engine::event::Name;
+use markdown_engine::tokenizer::Tokenizer;
+use std::alloc::Allocator;
+
+/// Adds an event that begins here and ends after the byte, and moves over it.
+pub fn around<M, T, A: Allocator>(
+    tokenizer: &mut Tokenizer<'_, M, T, A>,
+    name: Name,
+) -> Result<(), Message>
+    ensures became { OnOk result (Became (exited name (consumed (entered name None (config tokenizer.old)))) tokenizer.old tokenizer.new) }
+    ensures opened { OnOk result (opened [] tokenizer.new.events.items ≡ opened [] tokenizer.old.events.items) }
+    ensures parse_state { tokenizer.new.parse_state ≡ tokenizer.old.parse_state }
+    ensures skips { tokenizer.new.skips ≡ tokenizer.old.skips }
+    ensures memory { IfErr result (λ message. IsOutOfMemory message) }
+{
+    tokenizer.enter(name)?;
+    tokenizer.consume();
+    tokenizer.exit(name)
+}
+
+/// Ends the innermost event, round which others are open.
+pub fn leave<M, T, A: Allocator>(
+    tokenizer: &mut Tokenizer<'_, M, T, A>,
+    name: Name,
+) -> Result<(), Message>
+    requires { IsInnermost name tokenizer.old.events.items }
+    ensures became { OnOk result (Became (exited name (config tokenizer.old)) tokenizer.old tokenizer.new) }
+    ensures opened { OnOk result (opened [] tokenizer.new.events.items ≡ outer (opened [] tokenizer.old.events.items)) }
+    ensures kept { OnOk result (kept tokenizer.new.tokenize_state ≡ kept tokenizer.old.tokenize_state) }
+    ensures parse_state { tokenizer.new.parse_state ≡ tokenizer.old.parse_state }
+    ensures skips { tokenizer.new.skips ≡ tokenizer.old.skips }
+    ensures memory { IfErr result (λ message. IsOutOfMemory message) }
+{
+    tokenizer.exit(name)
+}

@@ -1,0 +1,4 @@
+//! Programs of states.
+#![tactic(auto)]
+
+pub mod around;
