@@ -15,10 +15,10 @@ ghost use Rattle.definition_block.specs.Tree.{is_some_line};
 ghost use Rattle.block_definitions.specs.Contents.{room, total, begins_label, begins_with_bracket};
 ghost use Rattle.block_definitions.specs.Ends.{EndsAt};
 
+use block_rows::Piece;
 use inline_links::code::next_code;
 use inline_links::definition::definition;
 use inline_links::spaces;
-use block_rows::Piece;
 
 const OPENING_BRACKET: u16 = b'[' as u16;
 

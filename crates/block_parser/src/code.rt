@@ -8,10 +8,10 @@ ghost use Rattle.block_starts.specs.View.{rest_of};
 
 use crate::leaf::OpenLeaf;
 use crate::parser::{NOTHING, Parser, piece};
+use block_rows::{Piece, Row};
 use block_starts::Cursor;
 use block_starts::code_fenced::{Fence, fence_line, is_fence_end};
 use block_starts::code_indented::starts_code_indented;
-use block_rows::{Piece, Row};
 use definition_text::{Beside, Kind};
 use markdown_options::{Constructs, LineEnding};
 use std::alloc::{AllocError, Allocator};

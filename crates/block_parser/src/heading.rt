@@ -4,10 +4,10 @@
 //!     setext ::= paragraph underline, where the underline is in all containers of the paragraph
 
 use crate::parser::Parser;
+use block_rows::{Piece, Row};
 use block_starts::Cursor;
 use block_starts::heading_atx::Atx;
 use block_starts::heading_setext::underline;
-use block_rows::{Piece, Row};
 use definition_text::Kind;
 use markdown_options::{Constructs, LineEnding};
 use std::alloc::{AllocError, Allocator};

@@ -10,10 +10,10 @@ ghost use Rattle.block_starts.specs.HtmlKinds.{number_of, kind_number};
 
 use crate::leaf::OpenLeaf;
 use crate::parser::{Parser, piece};
-use block_starts::Cursor;
-use block_starts::indent::is_small;
-use block_starts::html_flow::{HtmlKind, html_ends, html_kind};
 use block_rows::Row;
+use block_starts::Cursor;
+use block_starts::html_flow::{HtmlKind, html_ends, html_kind};
+use block_starts::indent::is_small;
 use definition_text::Beside;
 use markdown_options::{Constructs, LineEnding};
 use std::alloc::{AllocError, Allocator};

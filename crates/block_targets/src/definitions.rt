@@ -5,9 +5,9 @@ ghost use Rattle.definition_inline.specs.Definition.{Definition, definition_at};
 ghost use Rattle.block_targets.specs.Read.{HasContents, HasDefinitions, alone, read_of};
 
 use crate::contents::DefinitionContents;
-use inline_rows::Linked;
 use inline_labels::LabelTable;
 use inline_links::text::{TextDefinition, definition_of};
+use inline_rows::Linked;
 use std::alloc::{AllocError, Allocator};
 
 /// The definitions of a document.

@@ -1,7 +1,7 @@
 -- A comment's page in an element of its own.
 use Rattle.std.specs.Prelude.{ℕ, List, ◌++◌, codes}
 use Rattle.markdown_options.specs.Defaults.{default_options}
-use Rattle.definition_page.specs.Html.{html}
+use Rattle.markdown_definition.specs.Html.{html}
 use Rattle.markdown_tables.specs.Builtin.{builtin_tables}
 
 abbrev pub article : List ℕ → List ℕ

@@ -364,88 +364,91 @@ module _ (default : List ℕ) (options : Options) (tables : TextTables) (ds : Li
   twice top tight tree.Nil = (λ silent before h out. refl, λ before h out. refl)
   twice top tight (tree.Cons (tree.Paragraph ls) bs) =
       let each : EachSame top tight (tree.Cons (tree.Paragraph ls) bs) = λ silent before out.
-          siblings default m (record { top = top; tight = tight }) before (page.Paragraph (read_text r ls)) (read_blocks r top bs)
-          (old.block_pieces d top tight silent (tree.Paragraph ls)) (old.children_pieces d top tight tight bs)
-          (paragraph_same top tight silent before ls)
-          ((twice top tight bs).0 tight (Some (page.Paragraph (read_text r ls))) refl) out in
+      siblings default m (record { top = top; tight = tight }) before (page.Paragraph (read_text r ls)) (read_blocks r top bs)
+      (old.block_pieces d top tight silent (tree.Paragraph ls)) (old.children_pieces d top tight tight bs)
+      (paragraph_same top tight silent before ls)
+      ((twice top tight bs).0 tight (Some (page.Paragraph (read_text r ls))) refl) out in
       each_twice top tight (tree.Paragraph ls) bs each (λ before h out. each true before out)
   twice top tight (tree.Cons (tree.Heading rank ls) bs) =
       let each : EachSame top tight (tree.Cons (tree.Heading rank ls) bs) = λ silent before out.
-          siblings default m (record { top = top; tight = tight }) before (page.Heading rank (read_text r ls)) (read_blocks r top bs)
-          (old.block_pieces d top tight silent (tree.Heading rank ls)) (old.children_pieces d top tight false bs)
-          (λ o. text_element (heading_name rank) ls (bytes.print default o bytes.Fresh))
-          ((twice top tight bs).0 false (Some (page.Heading rank (read_text r ls))) refl) out in
+      siblings default m (record { top = top; tight = tight }) before (page.Heading rank (read_text r ls)) (read_blocks r top bs)
+      (old.block_pieces d top tight silent (tree.Heading rank ls)) (old.children_pieces d top tight false bs)
+      (λ o. text_element (heading_name rank) ls (bytes.print default o bytes.Fresh))
+      ((twice top tight bs).0 false (Some (page.Heading rank (read_text r ls))) refl) out in
       each_twice top tight (tree.Heading rank ls) bs each (λ before h out. each true before out)
   twice top tight (tree.Cons tree.Break bs) =
       let each : EachSame top tight (tree.Cons tree.Break bs) = λ silent before out.
-          siblings default m (record { top = top; tight = tight }) before (page.Break) (read_blocks r top bs)
-          (old.block_pieces d top tight silent tree.Break) (old.children_pieces d top tight false bs)
-          (λ o. refl)
-          ((twice top tight bs).0 false (Some (page.Break)) refl) out in
+      siblings default m (record { top = top; tight = tight }) before (page.Break) (read_blocks r top bs)
+      (old.block_pieces d top tight silent tree.Break) (old.children_pieces d top tight false bs)
+      (λ o. refl)
+      ((twice top tight bs).0 false (Some (page.Break)) refl) out in
       each_twice top tight tree.Break bs each (λ before h out. each true before out)
   twice top tight (tree.Cons (tree.IndentedCode ls) bs) =
       let each : EachSame top tight (tree.Cons (tree.IndentedCode ls) bs) = λ silent before out.
-          siblings default m (record { top = top; tight = tight }) before (page.IndentedCode ls) (read_blocks r top bs)
-          (old.block_pieces d top tight silent (tree.IndentedCode ls)) (old.children_pieces d top tight false bs)
-          (indented_same (record { top = top; tight = tight }) top tight silent before ls)
-          ((twice top tight bs).0 false (Some (page.IndentedCode ls)) refl) out in
+      siblings default m (record { top = top; tight = tight }) before (page.IndentedCode ls) (read_blocks r top bs)
+      (old.block_pieces d top tight silent (tree.IndentedCode ls)) (old.children_pieces d top tight false bs)
+      (indented_same (record { top = top; tight = tight }) top tight silent before ls)
+      ((twice top tight bs).0 false (Some (page.IndentedCode ls)) refl) out in
       each_twice top tight (tree.IndentedCode ls) bs each (λ before h out. each true before out)
   twice top tight (tree.Cons (tree.FencedCode info is_closed ls) bs) =
       let each : EachSame top tight (tree.Cons (tree.FencedCode info is_closed ls) bs) = λ silent before out.
-          siblings default m (record { top = top; tight = tight }) before (page.FencedCode (info_text r info) is_closed (code_lines top is_closed ls)) (after_code top is_closed (read_blocks r top bs))
-          (old.block_pieces d top tight silent (tree.FencedCode info is_closed ls)) (old.children_pieces d top tight (top && not is_closed) bs)
-          (fence_same top tight silent before info is_closed ls)
-          (after_same top tight is_closed bs (twice top tight bs).0 (twice top tight bs).1 (Some (page.FencedCode (info_text r info) is_closed (code_lines top is_closed ls))) refl) out in
+      siblings default m (record { top = top; tight = tight }) before (page.FencedCode (info_text r info) is_closed (code_lines top is_closed ls)) (after_code top is_closed (read_blocks r top bs))
+      (old.block_pieces d top tight silent (tree.FencedCode info is_closed ls)) (old.children_pieces d top tight (top && not is_closed) bs)
+      (fence_same top tight silent before info is_closed ls)
+      (after_same top tight is_closed bs (twice top tight bs).0 (twice top tight bs).1 (Some (page.FencedCode (info_text r info) is_closed (code_lines top is_closed ls))) refl) out in
       each_twice top tight (tree.FencedCode info is_closed ls) bs each (λ before h out. each true before out)
   twice top tight (tree.Cons (tree.Html ls) bs) =
       let each : EachSame top tight (tree.Cons (tree.Html ls) bs) = λ silent before out.
-          siblings default m (record { top = top; tight = tight }) before (page.Html ls) (read_blocks r top bs)
-          (old.block_pieces d top tight silent (tree.Html ls)) (old.children_pieces d top tight false bs)
-          (λ o. html_printed default options.compile ls (bytes.print default o bytes.Fresh))
-          ((twice top tight bs).0 false (Some (page.Html ls)) refl) out in
+      siblings default m (record { top = top; tight = tight }) before (page.Html ls) (read_blocks r top bs)
+      (old.block_pieces d top tight silent (tree.Html ls)) (old.children_pieces d top tight false bs)
+      (λ o. html_printed default options.compile ls (bytes.print default o bytes.Fresh))
+      ((twice top tight bs).0 false (Some (page.Html ls)) refl) out in
       each_twice top tight (tree.Html ls) bs each (λ before h out. each true before out)
   twice top tight (tree.Cons (tree.Definition label destination title) bs) =
       let each : EachSame top tight (tree.Cons (tree.Definition label destination title) bs) = λ silent before out.
-          siblings default m (record { top = top; tight = tight }) before (page.Definition) (read_blocks r top bs)
-          (old.block_pieces d top tight silent (tree.Definition label destination title)) (old.children_pieces d top tight true bs)
-          (λ o. refl)
-          ((twice top tight bs).0 true (Some (page.Definition)) refl) out in
+      siblings default m (record { top = top; tight = tight }) before (page.Definition) (read_blocks r top bs)
+      (old.block_pieces d top tight silent (tree.Definition label destination title)) (old.children_pieces d top tight true bs)
+      (λ o. refl)
+      ((twice top tight bs).0 true (Some (page.Definition)) refl) out in
       each_twice top tight (tree.Definition label destination title) bs each (λ before h out. each true before out)
   twice top tight (tree.Cons (tree.Holds Quote kids) bs) =
       let each : EachSame top tight (tree.Cons (tree.Holds Quote kids) bs) = λ silent before out.
-          siblings default m (record { top = top; tight = tight }) before (page.Quote (read_blocks r false kids)) (read_blocks r top bs)
-          (old.block_pieces d top tight silent (tree.Holds Quote kids)) (old.children_pieces d top tight false bs)
-          (quote_same top tight silent before kids ((twice false false kids).0 false None refl))
-          ((twice top tight bs).0 false (Some (page.Quote (read_blocks r false kids))) refl) out in
+      siblings default m (record { top = top; tight = tight }) before (page.Quote (read_blocks r false kids)) (read_blocks r top bs)
+      (old.block_pieces d top tight silent (tree.Holds Quote kids)) (old.children_pieces d top tight false bs)
+      (quote_same top tight silent before kids ((twice false false kids).0 false None refl))
+      ((twice top tight bs).0 false (Some (page.Quote (read_blocks r false kids))) refl) out in
       each_twice top tight (tree.Holds Quote kids) bs each (λ before h out. each true before out)
   twice top tight (tree.Cons (tree.Holds (Item item) kids) bs) =
       let each : EachSame top tight (tree.Cons (tree.Holds (Item item) kids) bs) = λ silent before out.
-          siblings default m (record { top = top; tight = tight }) before (page.Item (read_blocks r false kids)) (read_blocks r top bs)
-          (old.block_pieces d top tight silent (tree.Holds (Item item) kids)) (old.children_pieces d top tight false bs)
-          (item_same top tight silent before item kids ((twice false tight kids).0 false None refl))
-          ((twice top tight bs).0 false (Some (page.Item (read_blocks r false kids))) refl) out in
+      siblings default m (record { top = top; tight = tight }) before (page.Item (read_blocks r false kids)) (read_blocks r top bs)
+      (old.block_pieces d top tight silent (tree.Holds (Item item) kids)) (old.children_pieces d top tight false bs)
+      (item_same top tight silent before item kids ((twice false tight kids).0 false None refl))
+      ((twice top tight bs).0 false (Some (page.Item (read_blocks r false kids))) refl) out in
       each_twice top tight (tree.Holds (Item item) kids) bs each (λ before h out. each true before out)
   twice top tight (tree.Cons (tree.Items items) bs) =
       let each : EachSame top tight (tree.Cons (tree.Items items) bs) = λ silent before out.
-          siblings default m (record { top = top; tight = tight }) before (page.ItemList (list_number items) (is_loose items) (read_blocks r false items)) (read_blocks r top bs)
-          (old.block_pieces d top tight silent (tree.Items items)) (old.children_pieces d top tight false bs)
-          (list_same top tight silent before items ((twice false (not (is_loose items)) items).0 false None refl))
-          ((twice top tight bs).0 false (Some (page.ItemList (list_number items) (is_loose items) (read_blocks r false items))) refl) out in
+      siblings default m (record { top = top; tight = tight }) before (page.ItemList (list_number items) (is_loose items) (read_blocks r false items)) (read_blocks r top bs)
+      (old.block_pieces d top tight silent (tree.Items items)) (old.children_pieces d top tight false bs)
+      (list_same top tight silent before items ((twice false (not (is_loose items)) items).0 false None refl))
+      ((twice top tight bs).0 false (Some (page.ItemList (list_number items) (is_loose items) (read_blocks r false items))) refl) out in
       each_twice top tight (tree.Items items) bs each (λ before h out. each true before out)
-  twice top tight (tree.Cons (tree.Ending None) bs) =
-      (λ silent before h out. (twice top tight bs).0 silent before h out ∙ no_ending default silent (old.children_pieces d top tight silent bs) out,
-      (twice top tight bs).1)
-  twice top tight (tree.Cons (tree.Ending (Some ending)) bs) =
-      (λ silent before h out.
-          siblings default m (record { top = top; tight = tight }) before (page.Ending ending) (read_blocks r top bs)
-          (old.block_pieces d top tight silent (tree.Ending (Some ending))) (old.children_pieces d top tight false bs)
-          (λ o. ap (λ t. fold (print default) o (cond t [] (Says (Words (ending_bytes ending)) ∷ []))) h ∙ ending_same default ending silent o)
-          ((twice top tight bs).0 false (Some (page.Ending ending)) refl) out,
-      (twice top tight bs).0 false)
+  twice top tight (tree.Cons (tree.Ending None) bs) = (
+    λ silent before h out. (twice top tight bs).0 silent before h out ∙ no_ending default silent (old.children_pieces d top tight silent bs) out,
+    (twice top tight bs).1,
+  )
+  twice top tight (tree.Cons (tree.Ending (Some ending)) bs) = (
+    λ silent before h out.
+        siblings default m (record { top = top; tight = tight }) before (page.Ending ending) (read_blocks r top bs)
+        (old.block_pieces d top tight silent (tree.Ending (Some ending))) (old.children_pieces d top tight false bs)
+        (λ o. ap (λ t. fold (print default) o (cond t [] (Says (Words (ending_bytes ending)) ∷ []))) h ∙ ending_same default ending silent o)
+        ((twice top tight bs).0 false (Some (page.Ending ending)) refl) out,
+    (twice top tight bs).0 false,
+  )
   twice top tight (tree.Cons (tree.Blank None) bs) = twice top tight bs
-  twice top tight (tree.Cons (tree.Blank (Some ending)) bs) =
-      (λ silent before h out. (twice top tight bs).0 false (Some (page.Blank ending)) refl out,
-      λ before h out. (twice top tight bs).0 false (Some (page.Blank ending)) refl out)
+  twice top tight (tree.Cons (tree.Blank (Some ending)) bs) = (
+    λ silent before h out. (twice top tight bs).0 false (Some (page.Blank ending)) refl out,
+    λ before h out. (twice top tight bs).0 false (Some (page.Blank ending)) refl out,
+  )
 
   -- the children of a document
   pub document_same : (bs : tree.Blocks) (out : List ℕ)

@@ -13,10 +13,10 @@ ghost use Rattle.definition_page.specs.GfmTagfilter.{begins_with_filtered_name, 
 ghost use Rattle.html_escape.specs.Tools.{filtered_if};
 
 use crate::replaced::{Replacement, push_replaced};
-use text_bytes::{is_one_of, without_slash};
 use markdown_options::Message;
 use markdown_options::constants::GFM_HTML_TAGFILTER_NAMES;
 use std::alloc::{AllocError, Allocator};
+use text_bytes::{is_one_of, without_slash};
 
 /// The `<` of filtered tags is replaced.
 #[derive(Clone, Copy)]

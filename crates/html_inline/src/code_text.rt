@@ -9,10 +9,10 @@ ghost use Rattle.definition_text.specs.Content.{content_codes};
 ghost use Rattle.definition_text.specs.Encode.{encode};
 ghost use Rattle.html_inline.specs.CodeBytes.{is_in_line, spaced};
 
+use html_escape::push_encoded;
 use inline_leaves::cut::{cut_after, text_before};
 use inline_leaves::space::ending_at;
 use std::alloc::{AllocError, Allocator};
-use html_escape::push_encoded;
 
 /// Prints the text of a code span. `spaces` is used for its text with spaces for line endings.
 pub(crate) fn push_code<A: Allocator>(

@@ -2,8 +2,8 @@
 ghost use Rattle.std.specs.Prelude.{◌≡◌, ◌++◌, OnOk, string_bytes};
 ghost use Rattle.html_inline.specs.Forms.{formed};
 
-use std::alloc::{AllocError, Allocator};
 use html_escape::{push_encoded, push_raw};
+use std::alloc::{AllocError, Allocator};
 
 /// How a text is printed.
 #[derive(Clone, Copy)]

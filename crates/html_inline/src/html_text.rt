@@ -9,11 +9,11 @@ ghost use Rattle.html_bytes.specs.InlineHtml.{html_text_bytes};
 ghost use Rattle.html_inline.specs.HtmlBytes.{first_bytes, PrintsEnding};
 
 use crate::code_text::line_size;
+use html_escape::push_html;
 use inline_leaves::cut::{cut_after, text_before};
 use inline_leaves::space::{ending_at, white_size};
 use markdown_options::CompileOptions;
 use std::alloc::{AllocError, Allocator};
-use html_escape::push_html;
 
 /// Prints raw HTML in a text (CommonMark 6.6).
 pub(crate) fn push_html_text<A: Allocator>(

@@ -13,10 +13,10 @@ use crate::form::Form;
 use crate::printing::Printing;
 use crate::string::{push_formed_string, push_string};
 use crate::url::{push_image_url, push_link_url};
+use html_escape::push_encoded;
 use inline_rows::{LinkTarget, Linked};
 use markdown_options::Tables;
 use std::alloc::{AllocError, Allocator};
-use html_escape::push_encoded;
 
 /// Where a link or an image leads. A place past the last definition leads nowhere.
 pub(crate) fn linked_at<'a>(definitions: &'a [Linked<'a>], target: LinkTarget<'a>) -> Linked<'a>

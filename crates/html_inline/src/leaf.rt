@@ -16,10 +16,10 @@ use crate::html_text::push_html_text;
 use crate::number::push_number;
 use crate::printing::Printing;
 use crate::url::push_link_url;
+use html_escape::push_encoded;
 use inline_leaves::LeafPart;
 use markdown_options::{CompileOptions, Tables};
 use std::alloc::{AllocError, Allocator};
-use html_escape::push_encoded;
 
 /// Prints what a construct says in the description of an image (CommonMark 6.4). `room` is used
 /// for the text of a code span.

@@ -4,8 +4,8 @@
 pub mod code_text;
 pub mod form;
 pub mod html_text;
-pub mod leaf;
 pub mod label_end;
+pub mod leaf;
 pub mod number;
 pub mod printing;
 pub mod rows;

@@ -17,16 +17,16 @@ ghost use Rattle.inline_rows.specs.declared.row.InlineRow.TheVariants.{Exit};
 ghost use Rattle.html_inline.specs.Opens.{image_linked, opened_view, place_linked, printed_of};
 ghost use Rattle.html_inline.specs.Printed.{is_described, parts_printed, row_printed, span_end, span_start};
 
-use crate::leaf::{push_description, push_leaf};
 use crate::label_end::{linked_at, push_image_end, push_image_start, push_link_start};
+use crate::leaf::{push_description, push_leaf};
 use crate::printing::{Printing, Scratch};
 use crate::stack::{OpenPart, is_described};
-use inline_runs::Span;
+use html_escape::push_encoded;
 use inline_leaves::LeafPart;
 use inline_rows::{InlineRow, LinkTarget, Linked};
+use inline_runs::Span;
 use markdown_options::Tables;
 use std::alloc::{AllocError, Allocator};
-use html_escape::push_encoded;
 
 /// Prints the rows of a content: where these are the rows of some inline structure, its HTML.
 pub fn push_rows<A: Allocator, T: Tables>(

@@ -14,10 +14,10 @@ ghost use Rattle.html_inline.specs.Kept.{is_ink, kept_size, text_of};
 
 use crate::form::{Form, push_formed};
 use crate::number::push_number;
-use inline_leaves::cut::{cut_after, text_before};
 use inline_leaves::character_escape::escape_at;
-use inline_leaves::hard_break::line_end_at;
 use inline_leaves::character_reference::reference_at;
+use inline_leaves::cut::{cut_after, text_before};
+use inline_leaves::hard_break::line_end_at;
 use inline_leaves::space::{ending_at, white_size};
 use inline_leaves::{Leaf, LeafPart};
 use inline_links::part::from;

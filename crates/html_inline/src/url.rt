@@ -2,10 +2,10 @@
 ghost use Rattle.std.specs.Prelude.{◌≡◌, ◌++◌, OnOk, string_bytes};
 ghost use Rattle.html_bytes.specs.Meaning.{image_url, link_url};
 
+use html_escape::{push_sanitized, push_sanitized_with_protocols};
 use markdown_options::CompileOptions;
 use markdown_options::constants::{SAFE_PROTOCOL_HREF, SAFE_PROTOCOL_SRC};
 use std::alloc::{AllocError, Allocator};
-use html_escape::{push_sanitized, push_sanitized_with_protocols};
 
 /// Prints the URL of a link, only with the protocols that are permitted there, unless all are.
 pub(crate) fn push_link_url<A: Allocator>(

@@ -16,11 +16,11 @@ ghost use Rattle.definition_page.specs.TextTables.{text_tables};
 ghost use Rattle.html_page.specs.Printed.{laid};
 
 use crate::page::Page;
-use html_text::Texts;
 use block_rows::Piece;
+use html_escape::push_encoded;
+use html_text::Texts;
 use markdown_options::{LineEnding, Tables};
 use std::alloc::{AllocError, Allocator};
-use html_escape::push_encoded;
 
 impl<A: Allocator + Clone> Page<A> {
     /// Prints indented code (CommonMark 4.4).

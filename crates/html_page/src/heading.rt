@@ -12,8 +12,8 @@ ghost use Rattle.html_page.specs.Printable.{AreHeadingLines};
 ghost use Rattle.html_page.specs.Printed.{laid};
 
 use crate::page::Page;
-use html_text::Texts;
 use block_rows::Piece;
+use html_text::Texts;
 use markdown_options::Tables;
 use std::alloc::{AllocError, Allocator};
 

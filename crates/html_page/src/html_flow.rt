@@ -13,9 +13,9 @@ ghost use Rattle.html_page.specs.Printed.{laid};
 
 use crate::page::Page;
 use block_rows::Piece;
+use html_escape::push_html;
 use markdown_options::CompileOptions;
 use std::alloc::{AllocError, Allocator};
-use html_escape::push_html;
 
 impl<A: Allocator + Clone> Page<A> {
     /// Prints an HTML block (CommonMark 4.6).

@@ -18,8 +18,8 @@ ghost use Rattle.html_page.specs.Printable.{IsPrintableRow};
 ghost use Rattle.html_page.specs.Printed.{laid};
 
 use crate::level::Level;
-use html_text::{TextBuffers, Texts};
 use block_rows::{Piece, Row};
+use html_text::{TextBuffers, Texts};
 use markdown_options::{LineEnding, Tables};
 use std::alloc::{AllocError, Allocator};
 

@@ -16,8 +16,8 @@ ghost use Rattle.html_page.specs.Printed.{ends_blank_rows, is_blank_row, printed
 use crate::level::{Kind, Level};
 use crate::loose::{Place, places};
 use crate::page::Page;
-use html_text::{TextBuffers, Texts};
 use block_rows::{Piece, Row};
+use html_text::{TextBuffers, Texts};
 use markdown_options::{LineEnding, Tables};
 use std::alloc::{AllocError, Allocator};
 

@@ -2,8 +2,8 @@
 ghost use Rattle.std.specs.Prelude.{◌≡◌, [], ℕ, Bool, IfOk, string_bytes};
 ghost use Rattle.inline_content.specs.Buffers.{buffer_view};
 
-use inline_content::ContentBuffer;
 use html_inline::Scratch;
+use inline_content::ContentBuffer;
 use std::alloc::{AllocError, Allocator};
 
 /// Buffers that are used again for each text.

@@ -13,12 +13,12 @@ ghost use Rattle.definition_page.specs.TextTables.{text_tables};
 ghost use Rattle.html_text.specs.Texts.{HasDefinitions};
 
 use crate::buffers::TextBuffers;
-use inline_content::{Content, whole_content};
-use html_inline::{Printing, Scratch, push_encoded_string, push_rows};
-use inline_rows::Linked;
-use inline_parser::inline_rows;
-use inline_labels::LabelTable;
 use block_rows::Piece;
+use html_inline::{Printing, Scratch, push_encoded_string, push_rows};
+use inline_content::{Content, whole_content};
+use inline_labels::LabelTable;
+use inline_parser::inline_rows;
+use inline_rows::Linked;
 use markdown_options::{Options, Tables};
 use std::alloc::{AllocError, Allocator};
 

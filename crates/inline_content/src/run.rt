@@ -18,8 +18,8 @@ ghost use Rattle.inline_content.specs.Fronts.{StartsRun};
 ghost use Rattle.inline_content.specs.View.{line_left, kind_between, view_at};
 
 use crate::content::Content;
-use inline_runs::{Run, run_between};
 use definition_text::Kind;
+use inline_runs::{Run, run_between};
 use markdown_options::{Constructs, Tables};
 
 impl<'a> Content<'a> {

@@ -17,9 +17,9 @@ ghost use Rattle.inline_labels.specs.Table.{HasLabels};
 ghost use Rattle.inline_label_ends.specs.Ends.{IsAfterEnd, IsEnded, IsReference};
 
 use crate::text::is_label_text;
-use inline_rows::{LinkTarget, Linked};
 use inline_labels::LabelTable;
 use inline_links::text::{label_of, resource_of};
+use inline_rows::{LinkTarget, Linked};
 use std::alloc::{AllocError, Allocator};
 
 /// What a label end forms, and the content after it.

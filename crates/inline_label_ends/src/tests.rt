@@ -1,6 +1,6 @@
 use crate::{LabelEnd, label_end};
-use inline_rows::LinkTarget;
 use inline_labels::LabelTable;
+use inline_rows::LinkTarget;
 use std::test::Fail;
 
 /// The destination, or none; the place of the definition, or 9; and what follows.

@@ -18,8 +18,8 @@ ghost use Rattle.inline_leaves.specs.HtmlText.{line_feed, is_end, tag_after, ope
 use crate::byte_class::begins_with_letter;
 use crate::cut::{cut_after, text_before};
 use crate::leaf::{Leaf, LeafPart};
-use inline_tags::tags::{Place, next};
 use inline_links::part::from;
+use inline_tags::tags::{Place, next};
 use markdown_options::Constructs;
 
 /// Raw HTML (CommonMark 6.6).

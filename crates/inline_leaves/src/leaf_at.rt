@@ -6,11 +6,11 @@ ghost use Rattle.inline_leaves.specs.Leaves.{found_leaf, IsAfter};
 ghost use Rattle.inline_leaves.specs.Scanned.{leaf_in};
 
 use crate::autolink::autolink_at;
-use crate::code_text::code_text_at;
 use crate::character_escape::escape_at;
-use crate::leaf::Leaf;
-use crate::hard_break::{escaped_break_at, line_end_at, line_spaces_at};
 use crate::character_reference::reference_at;
+use crate::code_text::code_text_at;
+use crate::hard_break::{escaped_break_at, line_end_at, line_spaces_at};
+use crate::leaf::Leaf;
 use crate::searches::Searches;
 use markdown_options::{Constructs, Tables};
 use std::alloc::{AllocError, Allocator};

@@ -4,14 +4,14 @@
 pub mod autolink;
 pub mod backticks;
 pub mod byte_class;
+pub mod character_escape;
+pub mod character_reference;
 pub mod code_text;
 pub mod cut;
-pub mod character_escape;
+pub mod hard_break;
 pub mod html_text;
 pub mod leaf;
 pub mod leaf_at;
-pub mod hard_break;
-pub mod character_reference;
 pub mod searches;
 pub mod space;
 #[cfg(test)]

@@ -21,9 +21,9 @@ ghost use Rattle.inline_parser.specs.declared.label.OpenLabel.{OpenLabel as Seen
 ghost use Rattle.inline_parser.specs.Shows.{Shows, IsSound, OpensAt, opened, formed_last, unformed_last};
 
 use crate::label::{LabelStart, OpenLabel};
-use inline_runs::{Pairing, Run};
 use inline_leaves::LeafPart;
 use inline_rows::{InlineRow, LinkTarget};
+use inline_runs::{Pairing, Run};
 use inline_spans::tell_apart;
 use std::alloc::{AllocError, Allocator};
 

@@ -33,16 +33,16 @@ ghost use Rattle.inline_parser.specs.declared.label.OpenLabel.{OpenLabel as Seen
 use crate::label::{LabelStart, OpenLabel};
 use crate::plain::text_size;
 use crate::reading::Reading;
-use inline_runs::Run;
 use inline_content::Content;
+use inline_label_ends::{LabelEnd, label_end};
+use inline_labels::LabelTable;
 use inline_leaves::Leaf;
 use inline_leaves::cut::{cut_after, text_before};
 use inline_leaves::leaf_at::leaf_at;
 use inline_leaves::searches::Searches;
 use inline_leaves::space::white_size;
 use inline_rows::InlineRow;
-use inline_label_ends::{LabelEnd, label_end};
-use inline_labels::LabelTable;
+use inline_runs::Run;
 use markdown_options::{Constructs, Tables};
 use std::alloc::{AllocError, Allocator};
 

@@ -1,6 +1,6 @@
 //! A row of inline structure.
-use inline_runs::Span;
 use inline_leaves::LeafPart;
+use inline_runs::Span;
 
 /// Where a link or an image leads, as it is written (CommonMark 6.3).
 #[derive(Clone, Copy)]

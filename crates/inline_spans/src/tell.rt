@@ -13,8 +13,8 @@ ghost use Rattle.inline_rows.specs.declared.row.InlineRow.TheVariants.{EnterSpan
 ghost use Rattle.inline_spans.specs.Container.{AreBytes, IsContainer, AreWithin, AreTold};
 ghost use Rattle.inline_spans.specs.Told.{told_rows, rows_needed};
 
-use inline_runs::{Pair, Pairing, Run, RunSpans, pair_runs};
 use inline_rows::InlineRow;
+use inline_runs::{Pair, Pairing, Run, RunSpans, pair_runs};
 use std::alloc::{AllocError, Allocator};
 
 /// Tells the runs of a container apart: which of their bytes end and start spans. The slot of a run

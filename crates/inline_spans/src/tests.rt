@@ -1,7 +1,7 @@
 use crate::tell_apart;
-use inline_runs::{Pairing, Span, run_between};
-use inline_rows::InlineRow;
 use definition_text::Kind;
+use inline_rows::InlineRow;
+use inline_runs::{Pairing, Span, run_between};
 use std::test::Fail;
 
 /// Each row as a mark: the start of a span `(` or `[`, the end of one `)`, or its text.

@@ -8,8 +8,8 @@ use Rattle.std.proofs.KnownBytes.{Appends-kept, Appends-trans, Consumes-trans, C
 use Rattle.std.proofs.lemmas.List.{length-append}
 use Rattle.std.proofs.Math.Seq.{take-add}
 use Rattle.markdown_options.specs.declared.configuration.Options.{Options}
-use Rattle.definition_page.specs.Html.{html}
-use Rattle.definition_page.specs.TextTables.{TextTables}
+use Rattle.markdown_definition.specs.Html.{html}
+use Rattle.markdown_definition.specs.TextTables.{TextTables}
 use Rattle.markdown.specs.Transfer.{AppendsAllOrNothing, AppendsBeginning, RefusesPast, TellsMore}
 
 -- the next write goes on where the last one ended

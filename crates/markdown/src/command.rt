@@ -4,7 +4,7 @@ ghost use Rattle.std.specs.Str.{IsUtf8};
 ghost use Rattle.std.specs.Io.KnownBytes.{Appends, Keeps};
 ghost use Rattle.markdown.specs.Plain.{options_of, plain_options, dangerous_options};
 ghost use Rattle.markdown_options.specs.Built.{is_built};
-ghost use Rattle.definition_page.specs.Html.{html};
+ghost use Rattle.markdown_definition.specs.Html.{html};
 ghost use Rattle.markdown_tables.specs.Builtin.{builtin_tables};
 ghost use Rattle.markdown.specs.Transfer.{AppendsBeginning, AppendsAllOrNothing, RefusesPast, RefusesUtf8, TellsMore};
 ghost use Rattle.markdown.specs.Faults.{is_write_error, read_failed, size_failed, utf8_failed};
@@ -14,8 +14,8 @@ ghost use Rattle.markdown.specs.Words.{is_command, is_plain, is_dangerous};
 use crate::convert::SIZE_MAX;
 use crate::transfer::{RunError, run};
 use crate::watched::Watched;
-use markdown_tables::Builtin;
 use markdown_options::{CompileOptions, Constructs, Options, ParseOptions};
+use markdown_tables::Builtin;
 use std::alloc::Global;
 use std::io::{Read, Write};
 

@@ -3,20 +3,20 @@ ghost use Rattle.std.specs.Prelude.{◌≡◌, ◌/◌, ◌≤◌, ◌↔◌, Is
 ghost use Rattle.markdown_options.specs.Built.{is_built};
 ghost use Rattle.markdown_options.specs.Messages.{IsOutOfMemory};
 ghost use Rattle.markdown_options.specs.Defaults.{default_options};
-ghost use Rattle.definition_page.specs.Html.{html};
+ghost use Rattle.markdown_definition.specs.Html.{html};
 ghost use Rattle.html_bytes.specs.Html.{marked_html, default_ending};
 ghost use Rattle.markdown_tables.specs.Builtin.{builtin_tables};
-ghost use Rattle.definition_page.specs.TextTables.{text_tables};
+ghost use Rattle.markdown_definition.specs.TextTables.{text_tables};
 
 use block_parser::block_rows;
-use markdown_tables::Builtin;
-use html_text::Texts;
 use block_targets::{definition_contents, document_definitions};
 use definition_text::Kind;
+use html_page::print_rows;
+use html_text::Texts;
 use markdown_options::{LineEnding, Message, Options, Tables};
+use markdown_tables::Builtin;
 use std::alloc::{AllocError, Allocator};
 use text_lines::{Lines, without_mark};
-use html_page::print_rows;
 
 /// The longest text that is read, in bytes.
 pub const SIZE_MAX: usize = usize::MAX / 8;

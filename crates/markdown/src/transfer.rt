@@ -3,8 +3,8 @@ ghost use Rattle.std.specs.Prelude.{◌≡◌, ◌≤◌, ◌<◌, ◌+◌, ◌-
 ghost use Rattle.std.specs.Io.{appended_bytes, StartsWith};
 ghost use Rattle.std.specs.Io.KnownBytes.{Appends, Consumes, IsAtEnd, Keeps};
 ghost use Rattle.markdown_options.specs.Built.{is_built};
-ghost use Rattle.definition_page.specs.Html.{html};
-ghost use Rattle.definition_page.specs.TextTables.{text_tables};
+ghost use Rattle.markdown_definition.specs.Html.{html};
+ghost use Rattle.markdown_definition.specs.TextTables.{text_tables};
 ghost use Rattle.markdown.specs.Watched.{device, has_failed, has_ended};
 ghost use Rattle.markdown.specs.Faults.{is_read_error, is_write_error, is_size_error, is_utf8_error, read_failed, write_failed, size_failed, utf8_failed, reads_all, gave_none};
 ghost use Rattle.markdown.specs.Transfer.{AppendsBeginning, RefusesPast, RefusesUtf8};

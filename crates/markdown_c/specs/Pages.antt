@@ -1,6 +1,6 @@
 -- What a call writes.
 use Rattle.std.specs.Prelude.{ℕ, List, length, drop, ◌++◌, ◌≡◌, IfSome}
-use Rattle.definition_page.specs.Html.{html}
+use Rattle.markdown_definition.specs.Html.{html}
 use Rattle.markdown_tables.specs.Builtin.{builtin_tables}
 use Rattle.markdown_c.specs.Flags.{options_of}
 

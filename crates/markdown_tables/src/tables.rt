@@ -5,8 +5,8 @@ ghost use Rattle.markdown_tables.specs.Punctuation.{builtin_punctuation};
 ghost use Rattle.markdown_tables.specs.PunctuationLaws.{ascii_punctuation, ascii_alphanumeric};
 
 use crate::punctuation::is_unicode_punctuation;
-use markdown_options::Tables;
 use inline_references::builtin_reference;
+use markdown_options::Tables;
 
 /// The names of HTML 4 and 44 more of HTML 5, and Unicode punctuation.
 #[derive(Clone, Copy, Debug)]

@@ -34,7 +34,6 @@ module _ {M : Type 0} where
   calls : (c d : Config M) (s : State) → IsFront c.events d.events → d.map ≡ c.map → d.resolvers ≡ c.resolvers → Consumes s c d → IsCall c (plain d s)
   calls c d s h m r k = record { adds = h; fewer = omega arith; leaves = (m, r); consumes = (k, tt) }
 
-
   items_call : (b : Option ℕ) (c : Config M) → c.current ≡ b → IsCall c (items b c)
   unfolding items
   items_call None c e = calls c c states.Ok (same_front c.events) refl refl (inl (same_place c))

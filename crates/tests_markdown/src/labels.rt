@@ -3,8 +3,8 @@
 
 use block_parser::block_rows;
 use block_targets::{definition_contents, document_definitions};
-use markdown::Constructs;
 use definition_text::Kind;
+use markdown::Constructs;
 use std::alloc::AllocError;
 
 const LABELS: [(&str, &str, Option<usize>); 16] = [

@@ -2,7 +2,7 @@ use Rattle.std.proofs.Common.{IfSome, subst, sym, ◌∙◌}
 use Rattle.std.specs.Io.KnownBytes.{Appends}
 use Rattle.std.specs.Prelude.{map, string_bytes}
 use Rattle.markdown_options.specs.declared.configuration.Options.{Options}
-use Rattle.definition_page.specs.Html.{html}
+use Rattle.markdown_definition.specs.Html.{html}
 use Rattle.markdown_tables.specs.Builtin.{builtin_tables}
 use Rattle.markdown.specs.Plain.{options_of}
 use Rattle.markdown.specs.Transfer.{AppendsBeginning}

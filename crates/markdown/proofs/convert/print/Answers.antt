@@ -13,7 +13,7 @@ use Rattle.block_rows.specs.Rows.{Shown, piece_lines, shown}
 use Rattle.std.specs.Prelude.{map}
 use Rattle.inline_rows.specs.View.{linked_view}
 use Rattle.inline_rows.specs.declared.row.Linked.{Linked}
-use Rattle.definition_page.specs.TextTables.{text_tables}
+use Rattle.markdown_definition.specs.TextTables.{text_tables}
 use Rattle.html_text.specs.Texts.{HasDefinitions}
 use Rattle.html_page.specs.Printable.{ArePrintable}
 use Rattle.html_page.proofs.RowsOf.{printable_rows_of}

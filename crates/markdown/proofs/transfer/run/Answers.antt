@@ -1,7 +1,7 @@
 use Rattle.std.proofs.Common.{◌∙◌, ap}
 use Rattle.std.proofs.lemmas.Result.{on_ok_weaker}
-use Rattle.definition_page.specs.Html.{html}
-use Rattle.definition_page.specs.TextTables.{text_tables}
+use Rattle.markdown_definition.specs.Html.{html}
+use Rattle.markdown_definition.specs.TextTables.{text_tables}
 use Rattle.markdown.specs.Faults.{is_write_error}
 use Rattle.markdown.proofs.Transfers.{begins_of_text, if_err_from, page_of_text}
 use Rattle.markdown.proofs.transfer.run.Goals as goal
