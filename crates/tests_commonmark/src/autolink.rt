@@ -1,0 +1,66 @@
+//! The examples of CommonMark 0.31.2, 594 to 612: Autolinks (6.5).
+use crate::examples::examples;
+use markdown::RunError;
+
+const EXAMPLES: [(&str, &str); 19] = [
+    (
+        "<http://foo.bar.baz>\n",
+        "<p><a href=\"http://foo.bar.baz\">http://foo.bar.baz</a></p>\n",
+    ),
+    (
+        "<http://foo.bar.baz/test?q=hello&id=22&boolean>\n",
+        "<p><a href=\"http://foo.bar.baz/test?q=hello&amp;id=22&amp;boolean\">http://foo.bar.baz/test?q=hello&amp;id=22&amp;boolean</a></p>\n",
+    ),
+    (
+        "<irc://foo.bar:2233/baz>\n",
+        "<p><a href=\"irc://foo.bar:2233/baz\">irc://foo.bar:2233/baz</a></p>\n",
+    ),
+    (
+        "<MAILTO:FOO@BAR.BAZ>\n",
+        "<p><a href=\"MAILTO:FOO@BAR.BAZ\">MAILTO:FOO@BAR.BAZ</a></p>\n",
+    ),
+    ("<a+b+c:d>\n", "<p><a href=\"a+b+c:d\">a+b+c:d</a></p>\n"),
+    (
+        "<made-up-scheme://foo,bar>\n",
+        "<p><a href=\"made-up-scheme://foo,bar\">made-up-scheme://foo,bar</a></p>\n",
+    ),
+    (
+        "<http://../>\n",
+        "<p><a href=\"http://../\">http://../</a></p>\n",
+    ),
+    (
+        "<localhost:5001/foo>\n",
+        "<p><a href=\"localhost:5001/foo\">localhost:5001/foo</a></p>\n",
+    ),
+    (
+        "<http://foo.bar/baz bim>\n",
+        "<p>&lt;http://foo.bar/baz bim&gt;</p>\n",
+    ),
+    (
+        "<http://example.com/\\[\\>\n",
+        "<p><a href=\"http://example.com/%5C%5B%5C\">http://example.com/\\[\\</a></p>\n",
+    ),
+    (
+        "<foo@bar.example.com>\n",
+        "<p><a href=\"mailto:foo@bar.example.com\">foo@bar.example.com</a></p>\n",
+    ),
+    (
+        "<foo+special@Bar.baz-bar0.com>\n",
+        "<p><a href=\"mailto:foo+special@Bar.baz-bar0.com\">foo+special@Bar.baz-bar0.com</a></p>\n",
+    ),
+    (
+        "<foo\\+@bar.example.com>\n",
+        "<p>&lt;foo+@bar.example.com&gt;</p>\n",
+    ),
+    ("<>\n", "<p>&lt;&gt;</p>\n"),
+    ("< http://foo.bar >\n", "<p>&lt; http://foo.bar &gt;</p>\n"),
+    ("<m:abc>\n", "<p>&lt;m:abc&gt;</p>\n"),
+    ("<foo.bar.baz>\n", "<p>&lt;foo.bar.baz&gt;</p>\n"),
+    ("http://example.com\n", "<p>http://example.com</p>\n"),
+    ("foo@bar.example.com\n", "<p>foo@bar.example.com</p>\n"),
+];
+
+#[test]
+fn examples_594_to_612(rt: HostRuntime) -> Result<(), RunError> {
+    examples(&rt, 594, &EXAMPLES)
+}

@@ -1,0 +1,105 @@
+//! The examples of CommonMark 0.31.2, 228 to 252: Block quotes (5.1).
+use crate::examples::examples;
+use markdown::RunError;
+
+const EXAMPLES: [(&str, &str); 25] = [
+    (
+        "> # Foo\n> bar\n> baz\n",
+        "<blockquote>\n<h1>Foo</h1>\n<p>bar\nbaz</p>\n</blockquote>\n",
+    ),
+    (
+        "># Foo\n>bar\n> baz\n",
+        "<blockquote>\n<h1>Foo</h1>\n<p>bar\nbaz</p>\n</blockquote>\n",
+    ),
+    (
+        "   > # Foo\n   > bar\n > baz\n",
+        "<blockquote>\n<h1>Foo</h1>\n<p>bar\nbaz</p>\n</blockquote>\n",
+    ),
+    (
+        "    > # Foo\n    > bar\n    > baz\n",
+        "<pre><code>&gt; # Foo\n&gt; bar\n&gt; baz\n</code></pre>\n",
+    ),
+    (
+        "> # Foo\n> bar\nbaz\n",
+        "<blockquote>\n<h1>Foo</h1>\n<p>bar\nbaz</p>\n</blockquote>\n",
+    ),
+    (
+        "> bar\nbaz\n> foo\n",
+        "<blockquote>\n<p>bar\nbaz\nfoo</p>\n</blockquote>\n",
+    ),
+    (
+        "> foo\n---\n",
+        "<blockquote>\n<p>foo</p>\n</blockquote>\n<hr />\n",
+    ),
+    (
+        "> - foo\n- bar\n",
+        "<blockquote>\n<ul>\n<li>foo</li>\n</ul>\n</blockquote>\n<ul>\n<li>bar</li>\n</ul>\n",
+    ),
+    (
+        ">     foo\n    bar\n",
+        "<blockquote>\n<pre><code>foo\n</code></pre>\n</blockquote>\n<pre><code>bar\n</code></pre>\n",
+    ),
+    (
+        "> ```\nfoo\n```\n",
+        "<blockquote>\n<pre><code></code></pre>\n</blockquote>\n<p>foo</p>\n<pre><code></code></pre>\n",
+    ),
+    (
+        "> foo\n    - bar\n",
+        "<blockquote>\n<p>foo\n- bar</p>\n</blockquote>\n",
+    ),
+    (">\n", "<blockquote>\n</blockquote>\n"),
+    (">\n>  \n> \n", "<blockquote>\n</blockquote>\n"),
+    (
+        ">\n> foo\n>  \n",
+        "<blockquote>\n<p>foo</p>\n</blockquote>\n",
+    ),
+    (
+        "> foo\n\n> bar\n",
+        "<blockquote>\n<p>foo</p>\n</blockquote>\n<blockquote>\n<p>bar</p>\n</blockquote>\n",
+    ),
+    (
+        "> foo\n> bar\n",
+        "<blockquote>\n<p>foo\nbar</p>\n</blockquote>\n",
+    ),
+    (
+        "> foo\n>\n> bar\n",
+        "<blockquote>\n<p>foo</p>\n<p>bar</p>\n</blockquote>\n",
+    ),
+    (
+        "foo\n> bar\n",
+        "<p>foo</p>\n<blockquote>\n<p>bar</p>\n</blockquote>\n",
+    ),
+    (
+        "> aaa\n***\n> bbb\n",
+        "<blockquote>\n<p>aaa</p>\n</blockquote>\n<hr />\n<blockquote>\n<p>bbb</p>\n</blockquote>\n",
+    ),
+    (
+        "> bar\nbaz\n",
+        "<blockquote>\n<p>bar\nbaz</p>\n</blockquote>\n",
+    ),
+    (
+        "> bar\n\nbaz\n",
+        "<blockquote>\n<p>bar</p>\n</blockquote>\n<p>baz</p>\n",
+    ),
+    (
+        "> bar\n>\nbaz\n",
+        "<blockquote>\n<p>bar</p>\n</blockquote>\n<p>baz</p>\n",
+    ),
+    (
+        "> > > foo\nbar\n",
+        "<blockquote>\n<blockquote>\n<blockquote>\n<p>foo\nbar</p>\n</blockquote>\n</blockquote>\n</blockquote>\n",
+    ),
+    (
+        ">>> foo\n> bar\n>>baz\n",
+        "<blockquote>\n<blockquote>\n<blockquote>\n<p>foo\nbar\nbaz</p>\n</blockquote>\n</blockquote>\n</blockquote>\n",
+    ),
+    (
+        ">     code\n\n>    not code\n",
+        "<blockquote>\n<pre><code>code\n</code></pre>\n</blockquote>\n<blockquote>\n<p>not code</p>\n</blockquote>\n",
+    ),
+];
+
+#[test]
+fn examples_228_to_252(rt: HostRuntime) -> Result<(), RunError> {
+    examples(&rt, 228, &EXAMPLES)
+}

@@ -1,0 +1,58 @@
+//! The examples of CommonMark 0.31.2, 25 to 41: Entity and numeric character references (2.5).
+use crate::examples::examples;
+use markdown::RunError;
+
+const EXAMPLES: [(&str, &str); 17] = [
+    (
+        "&nbsp; &amp; &copy; &AElig; &Dcaron;\n&frac34; &HilbertSpace; &DifferentialD;\n&ClockwiseContourIntegral; &ngE;\n",
+        "<p>\u{a0} &amp; © Æ Ď\n¾ ℋ ⅆ\n∲ ≧̸</p>\n",
+    ),
+    ("&#35; &#1234; &#992; &#0;\n", "<p># Ӓ Ϡ �</p>\n"),
+    ("&#X22; &#XD06; &#xcab;\n", "<p>&quot; ആ ಫ</p>\n"),
+    (
+        "&nbsp &x; &#; &#x;\n&#87654321;\n&#abcdef0;\n&ThisIsNotDefined; &hi?;\n",
+        "<p>&amp;nbsp &amp;x; &amp;#; &amp;#x;\n&amp;#87654321;\n&amp;#abcdef0;\n&amp;ThisIsNotDefined; &amp;hi?;</p>\n",
+    ),
+    ("&copy\n", "<p>&amp;copy</p>\n"),
+    ("&MadeUpEntity;\n", "<p>&amp;MadeUpEntity;</p>\n"),
+    (
+        "<a href=\"&ouml;&ouml;.html\">\n",
+        "<a href=\"&ouml;&ouml;.html\">\n",
+    ),
+    (
+        "[foo](/f&ouml;&ouml; \"f&ouml;&ouml;\")\n",
+        "<p><a href=\"/f%C3%B6%C3%B6\" title=\"föö\">foo</a></p>\n",
+    ),
+    (
+        "[foo]\n\n[foo]: /f&ouml;&ouml; \"f&ouml;&ouml;\"\n",
+        "<p><a href=\"/f%C3%B6%C3%B6\" title=\"föö\">foo</a></p>\n",
+    ),
+    (
+        "``` f&ouml;&ouml;\nfoo\n```\n",
+        "<pre><code class=\"language-föö\">foo\n</code></pre>\n",
+    ),
+    (
+        "`f&ouml;&ouml;`\n",
+        "<p><code>f&amp;ouml;&amp;ouml;</code></p>\n",
+    ),
+    (
+        "    f&ouml;f&ouml;\n",
+        "<pre><code>f&amp;ouml;f&amp;ouml;\n</code></pre>\n",
+    ),
+    ("&#42;foo&#42;\n*foo*\n", "<p>*foo*\n<em>foo</em></p>\n"),
+    (
+        "&#42; foo\n\n* foo\n",
+        "<p>* foo</p>\n<ul>\n<li>foo</li>\n</ul>\n",
+    ),
+    ("foo&#10;&#10;bar\n", "<p>foo\n\nbar</p>\n"),
+    ("&#9;foo\n", "<p>\tfoo</p>\n"),
+    (
+        "[a](url &quot;tit&quot;)\n",
+        "<p>[a](url &quot;tit&quot;)</p>\n",
+    ),
+];
+
+#[test]
+fn examples_25_to_41(rt: HostRuntime) -> Result<(), RunError> {
+    examples(&rt, 25, &EXAMPLES)
+}

@@ -1,0 +1,104 @@
+//! The examples of CommonMark 0.31.2, 192 to 218: Link reference definitions (4.7).
+use crate::examples::examples;
+use markdown::RunError;
+
+const EXAMPLES: [(&str, &str); 27] = [
+    (
+        "[foo]: /url \"title\"\n\n[foo]\n",
+        "<p><a href=\"/url\" title=\"title\">foo</a></p>\n",
+    ),
+    (
+        "   [foo]: \n      /url  \n           'the title'  \n\n[foo]\n",
+        "<p><a href=\"/url\" title=\"the title\">foo</a></p>\n",
+    ),
+    (
+        "[Foo*bar\\]]:my_(url) 'title (with parens)'\n\n[Foo*bar\\]]\n",
+        "<p><a href=\"my_(url)\" title=\"title (with parens)\">Foo*bar]</a></p>\n",
+    ),
+    (
+        "[Foo bar]:\n<my url>\n'title'\n\n[Foo bar]\n",
+        "<p><a href=\"my%20url\" title=\"title\">Foo bar</a></p>\n",
+    ),
+    (
+        "[foo]: /url '\ntitle\nline1\nline2\n'\n\n[foo]\n",
+        "<p><a href=\"/url\" title=\"\ntitle\nline1\nline2\n\">foo</a></p>\n",
+    ),
+    (
+        "[foo]: /url 'title\n\nwith blank line'\n\n[foo]\n",
+        "<p>[foo]: /url 'title</p>\n<p>with blank line'</p>\n<p>[foo]</p>\n",
+    ),
+    (
+        "[foo]:\n/url\n\n[foo]\n",
+        "<p><a href=\"/url\">foo</a></p>\n",
+    ),
+    ("[foo]:\n\n[foo]\n", "<p>[foo]:</p>\n<p>[foo]</p>\n"),
+    ("[foo]: <>\n\n[foo]\n", "<p><a href=\"\">foo</a></p>\n"),
+    (
+        "[foo]: <bar>(baz)\n\n[foo]\n",
+        "<p>[foo]: <bar>(baz)</p>\n<p>[foo]</p>\n",
+    ),
+    (
+        "[foo]: /url\\bar\\*baz \"foo\\\"bar\\baz\"\n\n[foo]\n",
+        "<p><a href=\"/url%5Cbar*baz\" title=\"foo&quot;bar\\baz\">foo</a></p>\n",
+    ),
+    ("[foo]\n\n[foo]: url\n", "<p><a href=\"url\">foo</a></p>\n"),
+    (
+        "[foo]\n\n[foo]: first\n[foo]: second\n",
+        "<p><a href=\"first\">foo</a></p>\n",
+    ),
+    (
+        "[FOO]: /url\n\n[Foo]\n",
+        "<p><a href=\"/url\">Foo</a></p>\n",
+    ),
+    (
+        "[ΑΓΩ]: /φου\n\n[αγω]\n",
+        "<p><a href=\"/%CF%86%CE%BF%CF%85\">αγω</a></p>\n",
+    ),
+    ("[foo]: /url\n", ""),
+    ("[\nfoo\n]: /url\nbar\n", "<p>bar</p>\n"),
+    (
+        "[foo]: /url \"title\" ok\n",
+        "<p>[foo]: /url &quot;title&quot; ok</p>\n",
+    ),
+    (
+        "[foo]: /url\n\"title\" ok\n",
+        "<p>&quot;title&quot; ok</p>\n",
+    ),
+    (
+        "    [foo]: /url \"title\"\n\n[foo]\n",
+        "<pre><code>[foo]: /url &quot;title&quot;\n</code></pre>\n<p>[foo]</p>\n",
+    ),
+    (
+        "```\n[foo]: /url\n```\n\n[foo]\n",
+        "<pre><code>[foo]: /url\n</code></pre>\n<p>[foo]</p>\n",
+    ),
+    (
+        "Foo\n[bar]: /baz\n\n[bar]\n",
+        "<p>Foo\n[bar]: /baz</p>\n<p>[bar]</p>\n",
+    ),
+    (
+        "# [Foo]\n[foo]: /url\n> bar\n",
+        "<h1><a href=\"/url\">Foo</a></h1>\n<blockquote>\n<p>bar</p>\n</blockquote>\n",
+    ),
+    (
+        "[foo]: /url\nbar\n===\n[foo]\n",
+        "<h1>bar</h1>\n<p><a href=\"/url\">foo</a></p>\n",
+    ),
+    (
+        "[foo]: /url\n===\n[foo]\n",
+        "<p>===\n<a href=\"/url\">foo</a></p>\n",
+    ),
+    (
+        "[foo]: /foo-url \"foo\"\n[bar]: /bar-url\n  \"bar\"\n[baz]: /baz-url\n\n[foo],\n[bar],\n[baz]\n",
+        "<p><a href=\"/foo-url\" title=\"foo\">foo</a>,\n<a href=\"/bar-url\" title=\"bar\">bar</a>,\n<a href=\"/baz-url\">baz</a></p>\n",
+    ),
+    (
+        "[foo]\n\n> [foo]: /url\n",
+        "<p><a href=\"/url\">foo</a></p>\n<blockquote>\n</blockquote>\n",
+    ),
+];
+
+#[test]
+fn examples_192_to_218(rt: HostRuntime) -> Result<(), RunError> {
+    examples(&rt, 192, &EXAMPLES)
+}

@@ -1,0 +1,42 @@
+//! Examples by number, compared with the page.
+ghost use Rattle.std.specs.Prelude.{◌≡◌, true};
+ghost use Rattle.markdown_options.specs.Built.{is_built};
+
+use markdown::{Builtin, CompileOptions, Options, ParseOptions, RunError, Watched, run};
+use std::process::Abort;
+
+/// The standard prints HTML of the text, and any URL, as they are.
+fn options() -> Options
+    ensures { is_built result.parse.constructs ≡ true }
+{
+    Options {
+        parse: ParseOptions::default(),
+        compile: CompileOptions {
+            allow_dangerous_html: true,
+            allow_dangerous_protocol: true,
+            ..CompileOptions::default()
+        },
+    }
+}
+
+/// Prints each text, the first of which is the example of this number, and compares.
+pub(crate) fn examples(
+    rt: &(impl AllocGlobal + Abort),
+    first: usize,
+    rows: &[(&str, &str)],
+) -> Result<(), RunError> {
+    let options = options();
+    for (place, (text, want)) in rows.iter().enumerate() {
+        let mut reader = Watched::new(text.as_bytes());
+        let mut writer = Watched::new(Vec::new(rt.alloc()));
+        run(rt.alloc(), &mut reader, &mut writer, &options, &Builtin)?;
+        let out = writer.into_inner();
+        assert_eq!(rt;
+            out.as_slice(),
+            want.as_bytes(),
+            "example {}",
+            first.saturating_add(place)
+        );
+    }
+    Ok(())
+}

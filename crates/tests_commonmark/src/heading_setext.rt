@@ -1,0 +1,80 @@
+//! The examples of CommonMark 0.31.2, 80 to 106: Setext headings (4.3).
+use crate::examples::examples;
+use markdown::RunError;
+
+const EXAMPLES: [(&str, &str); 27] = [
+    (
+        "Foo *bar*\n=========\n\nFoo *bar*\n---------\n",
+        "<h1>Foo <em>bar</em></h1>\n<h2>Foo <em>bar</em></h2>\n",
+    ),
+    ("Foo *bar\nbaz*\n====\n", "<h1>Foo <em>bar\nbaz</em></h1>\n"),
+    (
+        "  Foo *bar\nbaz*\t\n====\n",
+        "<h1>Foo <em>bar\nbaz</em></h1>\n",
+    ),
+    (
+        "Foo\n-------------------------\n\nFoo\n=\n",
+        "<h2>Foo</h2>\n<h1>Foo</h1>\n",
+    ),
+    (
+        "   Foo\n---\n\n  Foo\n-----\n\n  Foo\n  ===\n",
+        "<h2>Foo</h2>\n<h2>Foo</h2>\n<h1>Foo</h1>\n",
+    ),
+    (
+        "    Foo\n    ---\n\n    Foo\n---\n",
+        "<pre><code>Foo\n---\n\nFoo\n</code></pre>\n<hr />\n",
+    ),
+    ("Foo\n   ----      \n", "<h2>Foo</h2>\n"),
+    ("Foo\n    ---\n", "<p>Foo\n---</p>\n"),
+    (
+        "Foo\n= =\n\nFoo\n--- -\n",
+        "<p>Foo\n= =</p>\n<p>Foo</p>\n<hr />\n",
+    ),
+    ("Foo  \n-----\n", "<h2>Foo</h2>\n"),
+    ("Foo\\\n----\n", "<h2>Foo\\</h2>\n"),
+    (
+        "`Foo\n----\n`\n\n<a title=\"a lot\n---\nof dashes\"/>\n",
+        "<h2>`Foo</h2>\n<p>`</p>\n<h2>&lt;a title=&quot;a lot</h2>\n<p>of dashes&quot;/&gt;</p>\n",
+    ),
+    (
+        "> Foo\n---\n",
+        "<blockquote>\n<p>Foo</p>\n</blockquote>\n<hr />\n",
+    ),
+    (
+        "> foo\nbar\n===\n",
+        "<blockquote>\n<p>foo\nbar\n===</p>\n</blockquote>\n",
+    ),
+    ("- Foo\n---\n", "<ul>\n<li>Foo</li>\n</ul>\n<hr />\n"),
+    ("Foo\nBar\n---\n", "<h2>Foo\nBar</h2>\n"),
+    (
+        "---\nFoo\n---\nBar\n---\nBaz\n",
+        "<hr />\n<h2>Foo</h2>\n<h2>Bar</h2>\n<p>Baz</p>\n",
+    ),
+    ("\n====\n", "<p>====</p>\n"),
+    ("---\n---\n", "<hr />\n<hr />\n"),
+    ("- foo\n-----\n", "<ul>\n<li>foo</li>\n</ul>\n<hr />\n"),
+    ("    foo\n---\n", "<pre><code>foo\n</code></pre>\n<hr />\n"),
+    (
+        "> foo\n-----\n",
+        "<blockquote>\n<p>foo</p>\n</blockquote>\n<hr />\n",
+    ),
+    ("\\> foo\n------\n", "<h2>&gt; foo</h2>\n"),
+    (
+        "Foo\n\nbar\n---\nbaz\n",
+        "<p>Foo</p>\n<h2>bar</h2>\n<p>baz</p>\n",
+    ),
+    (
+        "Foo\nbar\n\n---\n\nbaz\n",
+        "<p>Foo\nbar</p>\n<hr />\n<p>baz</p>\n",
+    ),
+    (
+        "Foo\nbar\n* * *\nbaz\n",
+        "<p>Foo\nbar</p>\n<hr />\n<p>baz</p>\n",
+    ),
+    ("Foo\nbar\n\\---\nbaz\n", "<p>Foo\nbar\n---\nbaz</p>\n"),
+];
+
+#[test]
+fn examples_80_to_106(rt: HostRuntime) -> Result<(), RunError> {
+    examples(&rt, 80, &EXAMPLES)
+}

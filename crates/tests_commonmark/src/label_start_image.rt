@@ -1,0 +1,93 @@
+//! The examples of CommonMark 0.31.2, 572 to 593: Images (6.4).
+use crate::examples::examples;
+use markdown::RunError;
+
+const EXAMPLES: [(&str, &str); 22] = [
+    (
+        "![foo](/url \"title\")\n",
+        "<p><img src=\"/url\" alt=\"foo\" title=\"title\" /></p>\n",
+    ),
+    (
+        "![foo *bar*]\n\n[foo *bar*]: train.jpg \"train & tracks\"\n",
+        "<p><img src=\"train.jpg\" alt=\"foo bar\" title=\"train &amp; tracks\" /></p>\n",
+    ),
+    (
+        "![foo ![bar](/url)](/url2)\n",
+        "<p><img src=\"/url2\" alt=\"foo bar\" /></p>\n",
+    ),
+    (
+        "![foo [bar](/url)](/url2)\n",
+        "<p><img src=\"/url2\" alt=\"foo bar\" /></p>\n",
+    ),
+    (
+        "![foo *bar*][]\n\n[foo *bar*]: train.jpg \"train & tracks\"\n",
+        "<p><img src=\"train.jpg\" alt=\"foo bar\" title=\"train &amp; tracks\" /></p>\n",
+    ),
+    (
+        "![foo *bar*][foobar]\n\n[FOOBAR]: train.jpg \"train & tracks\"\n",
+        "<p><img src=\"train.jpg\" alt=\"foo bar\" title=\"train &amp; tracks\" /></p>\n",
+    ),
+    (
+        "![foo](train.jpg)\n",
+        "<p><img src=\"train.jpg\" alt=\"foo\" /></p>\n",
+    ),
+    (
+        "My ![foo bar](/path/to/train.jpg  \"title\"   )\n",
+        "<p>My <img src=\"/path/to/train.jpg\" alt=\"foo bar\" title=\"title\" /></p>\n",
+    ),
+    (
+        "![foo](<url>)\n",
+        "<p><img src=\"url\" alt=\"foo\" /></p>\n",
+    ),
+    ("![](/url)\n", "<p><img src=\"/url\" alt=\"\" /></p>\n"),
+    (
+        "![foo][bar]\n\n[bar]: /url\n",
+        "<p><img src=\"/url\" alt=\"foo\" /></p>\n",
+    ),
+    (
+        "![foo][bar]\n\n[BAR]: /url\n",
+        "<p><img src=\"/url\" alt=\"foo\" /></p>\n",
+    ),
+    (
+        "![foo][]\n\n[foo]: /url \"title\"\n",
+        "<p><img src=\"/url\" alt=\"foo\" title=\"title\" /></p>\n",
+    ),
+    (
+        "![*foo* bar][]\n\n[*foo* bar]: /url \"title\"\n",
+        "<p><img src=\"/url\" alt=\"foo bar\" title=\"title\" /></p>\n",
+    ),
+    (
+        "![Foo][]\n\n[foo]: /url \"title\"\n",
+        "<p><img src=\"/url\" alt=\"Foo\" title=\"title\" /></p>\n",
+    ),
+    (
+        "![foo] \n[]\n\n[foo]: /url \"title\"\n",
+        "<p><img src=\"/url\" alt=\"foo\" title=\"title\" />\n[]</p>\n",
+    ),
+    (
+        "![foo]\n\n[foo]: /url \"title\"\n",
+        "<p><img src=\"/url\" alt=\"foo\" title=\"title\" /></p>\n",
+    ),
+    (
+        "![*foo* bar]\n\n[*foo* bar]: /url \"title\"\n",
+        "<p><img src=\"/url\" alt=\"foo bar\" title=\"title\" /></p>\n",
+    ),
+    (
+        "![[foo]]\n\n[[foo]]: /url \"title\"\n",
+        "<p>![[foo]]</p>\n<p>[[foo]]: /url &quot;title&quot;</p>\n",
+    ),
+    (
+        "![Foo]\n\n[foo]: /url \"title\"\n",
+        "<p><img src=\"/url\" alt=\"Foo\" title=\"title\" /></p>\n",
+    ),
+    ("!\\[foo]\n\n[foo]: /url \"title\"\n", "<p>![foo]</p>\n"),
+    (
+        "\\![foo]\n\n[foo]: /url \"title\"\n",
+        "<p>!<a href=\"/url\" title=\"title\">foo</a></p>\n",
+    ),
+];
+
+#[test]
+fn examples_572_to_593(rt: HostRuntime) -> Result<(), RunError> {
+    examples(&rt, 572, &EXAMPLES)
+}

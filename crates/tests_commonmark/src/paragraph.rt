@@ -1,0 +1,28 @@
+//! The examples of CommonMark 0.31.2, 219 to 226: Paragraphs (4.8).
+use crate::examples::examples;
+use markdown::RunError;
+
+const EXAMPLES: [(&str, &str); 8] = [
+    ("aaa\n\nbbb\n", "<p>aaa</p>\n<p>bbb</p>\n"),
+    (
+        "aaa\nbbb\n\nccc\nddd\n",
+        "<p>aaa\nbbb</p>\n<p>ccc\nddd</p>\n",
+    ),
+    ("aaa\n\n\nbbb\n", "<p>aaa</p>\n<p>bbb</p>\n"),
+    ("  aaa\n bbb\n", "<p>aaa\nbbb</p>\n"),
+    (
+        "aaa\n             bbb\n                                       ccc\n",
+        "<p>aaa\nbbb\nccc</p>\n",
+    ),
+    ("   aaa\nbbb\n", "<p>aaa\nbbb</p>\n"),
+    (
+        "    aaa\nbbb\n",
+        "<pre><code>aaa\n</code></pre>\n<p>bbb</p>\n",
+    ),
+    ("aaa     \nbbb     \n", "<p>aaa<br />\nbbb</p>\n"),
+];
+
+#[test]
+fn examples_219_to_226(rt: HostRuntime) -> Result<(), RunError> {
+    examples(&rt, 219, &EXAMPLES)
+}

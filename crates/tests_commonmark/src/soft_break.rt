@@ -1,0 +1,13 @@
+//! The examples of CommonMark 0.31.2, 648 to 649: Soft line breaks (6.8).
+use crate::examples::examples;
+use markdown::RunError;
+
+const EXAMPLES: [(&str, &str); 2] = [
+    ("foo\nbaz\n", "<p>foo\nbaz</p>\n"),
+    ("foo \n baz\n", "<p>foo\nbaz</p>\n"),
+];
+
+#[test]
+fn examples_648_to_649(rt: HostRuntime) -> Result<(), RunError> {
+    examples(&rt, 648, &EXAMPLES)
+}

@@ -1,0 +1,14 @@
+//! The examples of CommonMark 0.31.2, 650 to 652: Textual content (6.9).
+use crate::examples::examples;
+use markdown::RunError;
+
+const EXAMPLES: [(&str, &str); 3] = [
+    ("hello $.;'there\n", "<p>hello $.;'there</p>\n"),
+    ("Foo χρῆν\n", "<p>Foo χρῆν</p>\n"),
+    ("Multiple     spaces\n", "<p>Multiple     spaces</p>\n"),
+];
+
+#[test]
+fn examples_650_to_652(rt: HostRuntime) -> Result<(), RunError> {
+    examples(&rt, 650, &EXAMPLES)
+}
