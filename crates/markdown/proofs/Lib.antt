@@ -1,2 +1,3 @@
+pub mod Early
 pub mod Transfers
 pub mod Pages

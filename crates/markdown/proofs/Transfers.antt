@@ -1,16 +1,16 @@
 -- What several reads and writes did together.
-use Rattle.std.proofs.Common.{◌≡◌, ℕ, ◌+◌, ◌-◌, ◌<◌, ◌≤◌, List, [], Option, None, Some, IfSome, length, take, drop, refl, sym, ap, ◌∙◌, subst, arith, Bool, true, false, eqb, ltb, ◌||◌, ◌&&◌, inl, inr}
-use Rattle.std.proofs.lemmas.Bool.{or_from, and_left, ne_eqb, cases_lt, lt-ltb, le-ltb, ltb-false}
-use Rattle.std.specs.Prelude.{Result, Ok, Err, IfErr, OnOk}
+use Rattle.std.proofs.Common.{◌≡◌, ℕ, ◌+◌, ◌-◌, ◌<◌, ◌≤◌, List, Option, None, Some, IfSome, length, take, drop, refl, sym, ap, ◌∙◌, subst, arith, Bool, true, false, eqb, ltb, ◌||◌, ◌&&◌, inl, inr}
+use Rattle.std.proofs.lemmas.Bool.{or_from, and_left, ne_eqb, cases_lt, lt-ltb, le-ltb}
+use Rattle.std.specs.Prelude.{Result, Ok, Err, IfErr}
 use Rattle.std.specs.Io.{StartsWith, appended_bytes}
-use Rattle.std.specs.Io.KnownBytes.{Appends, Consumes, IsAtEnd, Keeps}
-use Rattle.std.proofs.KnownBytes.{Appends-kept, Appends-trans, Consumes-trans, Consumes-whole, starts_with_rest}
+use Rattle.std.specs.Io.KnownBytes.{Appends, Consumes, IsAtEnd}
+use Rattle.std.proofs.KnownBytes.{Appends-trans, Consumes-trans, Consumes-whole, starts_with_rest}
 use Rattle.std.proofs.lemmas.List.{length-append}
 use Rattle.std.proofs.Math.Seq.{take-add}
 use Rattle.markdown_options.specs.declared.configuration.Options.{Options}
 use Rattle.markdown_definition.specs.Html.{html}
 use Rattle.markdown_definition.specs.TextTables.{TextTables}
-use Rattle.markdown.specs.Transfer.{AppendsAllOrNothing, AppendsBeginning, RefusesPast, TellsMore}
+use Rattle.markdown.specs.Transfer.{AppendsBeginning, RefusesPast}
 
 -- the next write goes on where the last one ended
 pub Appends-more : (a b c : Option (List ℕ)) (bytes : List ℕ) (at n : ℕ) → Appends a b (take at bytes) → Appends b c (take n (drop at bytes)) → Appends a c (take (at + n) bytes)
@@ -43,26 +43,6 @@ RefusesPast-after (Some x) (Some y) (Some z) bytes most len refused same fits to
     let sizes = ap length took ∙ length-append bytes y in
     more ∙ same_order _ _ _ _ (λ below. omega (arith, sizes)) (λ below. omega (arith, sizes))
 
--- a read took so many bytes, which are refused if they are more than the most
-pub RefusesPast-taken : (a b : Option (List ℕ)) (bytes : List ℕ) (most n : ℕ) (refused : Bool) → n ≡ length bytes → Consumes a b bytes → refused ≡ ltb most n → RefusesPast most a b refused
-RefusesPast-taken None b bytes most n refused same took is = tt
-RefusesPast-taken (Some x) None bytes most n refused same took is = absurd took
-RefusesPast-taken (Some x) (Some y) bytes most n refused same took is =
-    let sizes = ap length took ∙ length-append bytes y in
-    is ∙ same_order _ _ _ _ (λ below. omega (arith, sizes)) (λ below. omega (arith, sizes))
-
--- nothing was read, and nothing is refused
-pub RefusesPast-kept : (a b : Option (List ℕ)) (most : ℕ) → Keeps a b → RefusesPast most a b false
-RefusesPast-kept None b most kept = tt
-RefusesPast-kept (Some x) None most kept = absurd kept
-RefusesPast-kept (Some x) (Some y) most kept = RefusesPast-taken (Some x) (Some y) [] most 0 false refl (sym kept) (sym (le-ltb most 0 (omega arith)))
-
--- where nothing is refused, no more was read
-pub not_more : (a b : Option (List ℕ)) (most : ℕ) → RefusesPast most a b false → TellsMore most a b → ⊥
-not_more None b most none more = absurd more
-not_more (Some x) None most none more = absurd more
-not_more (Some x) (Some y) most none more = let within = ltb-false (most + length y) (length x) (sym none) in omega (arith, within, more)
-
 -- a write that took some bytes is no failure
 pub still_working : (old new some : Bool) (n : ℕ) → new ≡ (old || ((eqb n 0) && some)) → old ≡ false → (n ≡ 0 → ⊥) → new ≡ false
 still_working old new some n e was took = e ∙ or_from old (eqb n 0 && some) was (and_left (eqb n 0) some (ne_eqb n 0 took))
@@ -85,31 +65,7 @@ begins_of_text None old new bytes page tables options read made wrote = tt
 begins_of_text (Some x) old new bytes page tables options read made wrote =
     subst (AppendsBeginning old new) (made ∙ ap (λ t. html tables t options) read) wrote
 
--- ---- a run and a flush
-
--- nothing was written
-pub nothing_kept : (known a b : Option (List ℕ)) (tables : TextTables) (options : Options) → Keeps a b → IfSome known (λ text. AppendsAllOrNothing a b (html tables text options))
-nothing_kept None a b tables options kept = tt
-nothing_kept (Some x) a b tables options kept = inr kept
-
--- all was written before a flush
-pub written_kept : (known a b c : Option (List ℕ)) (tables : TextTables) (options : Options) → IfSome known (λ text. Appends a b (html tables text options)) → Keeps b c
-    → IfSome known (λ text. Appends a c (html tables text options))
-written_kept None a b c tables options wrote kept = tt
-written_kept (Some x) a b c tables options wrote kept = Appends-kept a b c (html tables x options) wrote kept
-
--- so all was written after it
-pub all_kept : (known a b c : Option (List ℕ)) (tables : TextTables) (options : Options) → IfSome known (λ text. Appends a b (html tables text options)) → Keeps b c
-    → IfSome known (λ text. AppendsAllOrNothing a c (html tables text options))
-all_kept None a b c tables options wrote kept = tt
-all_kept (Some x) a b c tables options wrote kept = inl (Appends-kept a b c (html tables x options) wrote kept)
-
 -- what holds holds of an error that passes a test
 pub if_err_from : {T E P : Type 0} (test : E → Bool) (r : Result T E) → P → IfErr r (λ e. test e ≡ true → P)
 if_err_from test (Ok x) p = tt
 if_err_from test (Err e) p = λ _. p
-
--- what holds holds of an answer
-pub on_ok_from : {T E P : Type 0} (r : Result T E) → P → OnOk r P
-on_ok_from (Ok x) p = p
-on_ok_from (Err e) p = tt

@@ -2,5 +2,6 @@ pub mod Watched
 pub mod Faults
 pub mod Writes
 pub mod Transfer
-pub mod Words
-pub mod Plain
+pub mod Tables
+pub mod Endings
+pub mod Statuses

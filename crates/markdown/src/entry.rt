@@ -1,16 +1,16 @@
 //! The program, on the words that it was started with.
 ghost use Rattle.std.specs.Prelude.{◌≡◌, ◌≤◌};
-ghost use Rattle.markdown.specs.Words.{unread_status};
+ghost use Rattle.markdown.specs.Statuses.{unread_status};
 
-use crate::command::{STATUS_FAULT, STATUS_WORDS, program};
+use crate::command::program;
 use crate::watched::Watched;
 use std::env;
 use std::io::{self, ErrorKind, Read, Write};
-use std::rt::Env;
+use std::rt::{Env, Files};
 
 /// Runs [`program`] on the words of the command line, and answers its status.
 pub fn start<R: Read + Drop, W: Write + Drop, F: Write>(
-    rt: &(impl Env + AllocGlobal),
+    rt: &(impl Env + Files + AllocGlobal),
     reader: R,
     writer: W,
     faults: &mut F,
@@ -41,8 +41,8 @@ fn refuse_words<F: Write>(faults: &mut F, kind: ErrorKind) -> u8
     ensures { result ≡ unread_status kind }
 {
     let (status, line): (u8, &[u8]) = match kind {
-        ErrorKind::OutOfMemory => (STATUS_FAULT, b"markdown: out of memory\n"),
-        _ => (STATUS_WORDS, b"markdown: wrong command line\n"),
+        ErrorKind::OutOfMemory => (1, b"markdown: out of memory\n"),
+        _ => (2, b"markdown: wrong command line\n"),
     };
     let _ = faults.write_all(line);
     status

@@ -1,18 +1,52 @@
 //! Markdown to safe HTML.
+//!
+//! The calls and their types stand here by name; the modules have the names of the Rust crate's
+//! files.
 #![tactic(auto)]
 
 mod command;
 mod convert;
 mod entry;
+mod fault;
 mod transfer;
 mod watched;
 
+pub use markdown_tables::{Builtin, Rows, RowsError};
 pub use command::program;
 pub use convert::{fits, to_html, to_html_with_options, to_html_with_tables};
 pub use entry::start;
 pub use markdown_options::{
-    CompileOptions, Constructs, LineEnding, Message, Options, ParseOptions, Tables,
+    CompileOptions, Constructs, LineEnding, LineEndingError, Message, Options, ParseOptions, Place,
+    Tables,
 };
-pub use markdown_tables::Builtin;
+pub use markdown_options::{configuration, constants as constant, line_ending, message, unist};
+pub use markdown_settings::{Settings, SettingsError, settings};
 pub use transfer::{RunError, run};
 pub use watched::Watched;
+
+/// Character references (CommonMark 2.5).
+pub mod character_reference {
+    pub use inline_references::decode::decode;
+    pub use inline_references::parse::parse;
+    pub use inline_references::{decode_named, decode_numeric, value_max, value_test};
+}
+
+/// Text as HTML.
+pub mod encode {
+    pub use html_escape::encode::encode;
+}
+
+/// Raw HTML without the elements that are taken out (GFM 6.11).
+pub mod gfm_tagfilter {
+    pub use html_escape::gfm_tagfilter;
+}
+
+/// Labels as they are matched (CommonMark 6.3).
+pub mod normalize_identifier {
+    pub use inline_labels::normalize_identifier;
+}
+
+/// URLs as attributes.
+pub mod sanitize_uri {
+    pub use html_escape::url::{sanitize, sanitize_with_protocols};
+}

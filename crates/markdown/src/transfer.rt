@@ -187,7 +187,7 @@ fn read_chunk<A: Allocator, R: Read>(
 }
 
 /// Writes all of these bytes.
-fn write_all<W: Write>(writer: &mut Watched<W>, bytes: &[u8]) -> Result<(), RunError>
+pub(crate) fn write_all<W: Write>(writer: &mut Watched<W>, bytes: &[u8]) -> Result<(), RunError>
     requires { has_failed writer.old ≡ false }
     ensures ok { OnOk result (Appends (W.contents (device writer.old)) (W.contents (device writer.new)) bytes.now) }
     ensures beginning { AppendsBeginning (W.contents (device writer.old)) (W.contents (device writer.new)) bytes.now }

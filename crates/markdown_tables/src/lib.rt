@@ -1,11 +1,17 @@
-//! The tables that are built in: named character references (CommonMark 2.5) and Unicode
-//! punctuation (CommonMark 2.1).
+//! Named character references (CommonMark 2.5) and Unicode punctuation (CommonMark 2.1): the
+//! tables that are built in, and rows of a caller's.
 #![tactic(auto)]
 
+mod name_texts;
 pub mod punctuation;
+mod row;
+pub mod rows;
+pub mod rows_error;
 pub mod tables;
 #[cfg(test)]
 mod tests;
 
 pub use punctuation::is_unicode_punctuation;
+pub use rows::Rows;
+pub use rows_error::RowsError;
 pub use tables::Builtin;

@@ -3,7 +3,7 @@ ghost use Rattle.std.specs.Prelude.{◌≡◌, true};
 ghost use Rattle.markdown_options.specs.Built.{is_built};
 
 use markdown::{
-    CompileOptions, Constructs, Options, ParseOptions, RunError, Watched, run_with_options,
+    Builtin, CompileOptions, Constructs, Options, ParseOptions, RunError, Watched, run,
 };
 use std::process::Abort;
 
@@ -42,7 +42,7 @@ pub(crate) fn prints(
     for (text, want) in rows {
         let mut reader = Watched::new(text.as_bytes());
         let mut writer = Watched::new(Vec::new(rt.alloc()));
-        run_with_options(rt.alloc(), &mut reader, &mut writer, options)?;
+        run(rt.alloc(), &mut reader, &mut writer, options, &Builtin)?;
         let out = writer.into_inner();
         assert_eq!(rt; out.as_slice(), want.as_bytes(), "at {text:?}");
     }

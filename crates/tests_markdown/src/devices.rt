@@ -3,12 +3,14 @@ use crate::compare::plain;
 use markdown::{Builtin, RunError, Watched, run};
 use std::io::{self, Read, Write};
 
-/// A device that moves at most so many bytes a call. After some calls it fails to read, and takes nothing.
+/// A device that moves at most so many bytes a call. After some calls it fails to read, and takes
+/// nothing. A stuck one can't be flushed.
 #[derive(Drop)]
 pub(crate) struct Short<D> {
     device: D,
     most: usize,
     calls: usize,
+    stuck: bool,
 }
 
 impl<D> Short<D> {
@@ -17,6 +19,16 @@ impl<D> Short<D> {
             device,
             most,
             calls,
+            stuck: false,
+        }
+    }
+
+    pub(crate) fn stuck(device: D, most: usize, calls: usize) -> Short<D> {
+        Short {
+            device,
+            most,
+            calls,
+            stuck: true,
         }
     }
 
@@ -48,6 +60,9 @@ impl<D: Write> Write for Short<D> {
     }
 
     fn flush(&mut self) -> io::Result<()> {
+        if self.stuck {
+            return Err(io::Error::from(io::ErrorKind::BrokenPipe));
+        }
         self.device.flush()
     }
 }
@@ -62,8 +77,8 @@ fn moves_few_bytes_a_call(rt: HostRuntime) -> Result<(), RunError> {
         let mut reader = Watched::new(Short::new(TEXT, most, 100));
         let mut writer = Watched::new(Short::new(Vec::new(rt.alloc()), most, 100));
         run(rt.alloc(), &mut reader, &mut writer, &plain(), &Builtin)?;
-        assert!(rt; !reader.failed());
-        assert!(rt; !writer.failed());
+        assert!(rt; !reader.failed() && reader.ended());
+        assert!(rt; !writer.failed() && !writer.ended());
         let out = writer.into_inner().into_inner();
         assert_eq!(rt; out.as_slice(), PAGE, "at {most}");
     }
@@ -77,7 +92,7 @@ fn answers_failed_reads(rt: HostRuntime) {
         let mut writer = Watched::new(Vec::new(rt.alloc()));
         let result = run(rt.alloc(), &mut reader, &mut writer, &plain(), &Builtin);
         assert!(rt; matches!(result, Err(RunError::Read(_))), "at {calls}");
-        assert!(rt; reader.failed(), "at {calls}");
+        assert!(rt; reader.failed() && !reader.ended(), "at {calls}");
         assert!(rt; writer.into_inner().is_empty(), "at {calls}");
     }
 }

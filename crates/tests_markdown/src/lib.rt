@@ -14,6 +14,8 @@ mod memory;
 #[cfg(test)]
 mod programs;
 #[cfg(test)]
+mod references;
+#[cfg(test)]
 mod rows;
 #[cfg(test)]
 mod tables;

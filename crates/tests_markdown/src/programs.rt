@@ -1,106 +1,207 @@
 //! What the program answers, prints and complains of.
 use crate::devices::Short;
 use markdown::{Watched, program};
-use std::io;
 use std::process::Abort;
+use std::rt::Files;
+use std::{fs, io};
 
-/// Runs the program on a word and a text.
-fn answers(
-    rt: &(impl AllocGlobal + Abort),
-    word: &str,
-    text: &[u8],
+/// Words, input, and what the program answers, prints and complains of.
+#[derive(Clone, Copy)]
+struct Run<'a> {
+    words: &'a [&'a str],
+    input: &'a [u8],
     status: u8,
-    want: &str,
-    fault: &str,
-) -> io::Result<()> {
-    let mut words = Vec::new(rt.alloc());
-    words.push(String::from_str(rt.alloc(), word)?)?;
-    let mut reader = Watched::new(text);
+    output: &'a str,
+    fault: &'a str,
+}
+
+/// The words as the program gets them.
+fn owned(rt: &impl AllocGlobal, words: &[&str]) -> io::Result<Vec<String>> {
+    let mut owned = Vec::new(rt.alloc());
+    for word in words {
+        owned.push(String::from_str(rt.alloc(), word)?)?;
+    }
+    Ok(owned)
+}
+
+/// Compares a run of the program with what is wanted.
+fn compare(rt: &(impl Files + AllocGlobal + Abort), run: &Run<'_>) -> io::Result<()> {
+    let words = owned(rt, run.words)?;
+    let mut reader = Watched::new(run.input);
     let mut writer = Watched::new(Vec::new(rt.alloc()));
     let mut faults = Vec::new(rt.alloc());
-    let answer = program(rt, &words, &mut reader, &mut writer, &mut faults);
-    assert_eq!(rt; answer, status, "at {word}");
-    assert_eq!(rt;
-        writer.into_inner().as_slice(),
-        want.as_bytes(),
-        "at {word}"
-    );
-    assert_eq!(rt; faults.as_slice(), fault.as_bytes(), "at {word}");
+    let status = program(rt, &words, &mut reader, &mut writer, &mut faults);
+    let at = run.words;
+    assert_eq!(rt; status, run.status, "at {at:?}");
+    let output = writer.into_inner();
+    assert_eq!(rt; output.as_slice(), run.output.as_bytes(), "at {at:?}");
+    assert_eq!(rt; faults.as_slice(), run.fault.as_bytes(), "at {at:?}");
     Ok(())
 }
 
-#[test]
-fn prints_a_page(rt: HostRuntime) -> io::Result<()> {
-    let want = "<p># a &amp; b</p>\n<p>c</p>";
-    answers(&rt, "--plain", b"# a & b\n\nc", 0, want, "")
+/// Compares a page that the program prints.
+fn prints(
+    rt: &(impl Files + AllocGlobal + Abort),
+    words: &[&str],
+    input: &[u8],
+    output: &str,
+) -> io::Result<()> {
+    let run = Run {
+        words,
+        input,
+        status: 0,
+        output,
+        fault: "",
+    };
+    compare(rt, &run)
+}
+
+/// Compares a complaint of the program, which prints nothing else.
+fn complains(
+    rt: &(impl Files + AllocGlobal + Abort),
+    words: &[&str],
+    input: &[u8],
+    status: u8,
+    fault: &str,
+) -> io::Result<()> {
+    let run = Run {
+        words,
+        input,
+        status,
+        output: "",
+        fault,
+    };
+    compare(rt, &run)
 }
 
 #[test]
-fn prints_what_is_dangerous(rt: HostRuntime) -> io::Result<()> {
-    let text = b"<b>[a](javascript:b)</b>";
-    let want = "<p><b><a href=\"javascript:b\">a</a></b></p>";
-    answers(&rt, "--dangerous", text, 0, want, "")
+fn prints_pages(rt: HostRuntime) -> io::Result<()> {
+    let text = b"# *a* <b>\n\n[c](javascript:d)";
+    let safe = "<h1><em>a</em> &lt;b&gt;</h1>\n<p><a href=\"\">c</a></p>";
+    prints(&rt, &[], text, safe)?;
+    let dangerous = "<h1><em>a</em> <b></h1>\n<p><a href=\"javascript:d\">c</a></p>";
+    prints(&rt, &["--dangerous"], text, dangerous)?;
+    let plain = "<p># *a* &lt;b&gt;</p>\n<p>[c](javascript:d)</p>";
+    prints(&rt, &["--plain"], text, plain)?;
+    prints(&rt, &["--plain", "--dangerous"], text, plain)
 }
 
 #[test]
 fn refuses_bytes(rt: HostRuntime) -> io::Result<()> {
-    let fault = "markdown: input is not UTF-8\n";
-    answers(&rt, "--plain", b"\xFF", 1, "", fault)
+    complains(&rt, &[], b"a\xFF", 1, "markdown: input is not UTF-8\n")
 }
 
 #[test]
 fn refuses_words(rt: HostRuntime) -> io::Result<()> {
     let fault = "markdown: wrong command line\n";
-    answers(&rt, "--x", b"a", 2, "", fault)?;
-    answers(&rt, "", b"a", 2, "", fault)?;
-    answers(&rt, "--plain ", b"a", 2, "", fault)
+    complains(&rt, &["--x"], b"a", 2, fault)?;
+    complains(&rt, &[""], b"a", 2, fault)?;
+    complains(&rt, &["page.md"], b"a", 2, fault)?;
+    complains(&rt, &["--plain "], b"a", 2, fault)?;
+    complains(&rt, &["--plain=true"], b"a", 2, fault)?;
+    complains(&rt, &["--plain", "--plain"], b"a", 2, fault)?;
+    complains(&rt, &["--references"], b"a", 2, fault)?;
+    complains(&rt, &["--gfm"], b"a", 2, fault)
 }
 
 #[test]
-fn refuses_two_words(rt: HostRuntime) -> io::Result<()> {
-    let mut words = Vec::new(rt.alloc());
-    for _ in 0..2 {
-        words.push(String::from_str(rt.alloc(), "--plain")?)?;
-    }
-    let mut reader = Watched::new(&b"a"[..]);
-    let mut writer = Watched::new(Vec::new(rt.alloc()));
-    let mut faults = Vec::new(rt.alloc());
-    let answer = program(&rt, &words, &mut reader, &mut writer, &mut faults);
-    assert_eq!(rt; answer, 2);
-    assert!(rt; writer.into_inner().is_empty());
-    Ok(())
+fn prints_help(rt: HostRuntime) -> io::Result<()> {
+    prints(&rt, &["--version"], b"\xFF", "markdown 0.1.0\n")?;
+    prints(&rt, &["--help"], b"\xFF", HELP)?;
+    prints(&rt, &["--plain", "-h"], b"\xFF", HELP)
+}
+
+const HELP: &str = "\
+Converts Markdown on standard input to HTML on standard output.
+
+Usage: markdown [OPTIONS]
+
+Options:
+      --dangerous          Print HTML of the text as it is, and let links and images have any protocol
+      --plain              Read paragraphs alone: every construct is off
+      --references <PATH>  Read names of characters from a file, with a line NAME=HEX or NAME=HEX+HEX for each
+  -h, --help               Print help
+  -V, --version            Print version
+
+Examples:
+  markdown < page.md > page.html
+  markdown --references names.txt < page.md > page.html
+";
+
+#[test]
+fn reads_references(rt: HostRuntime) -> io::Result<()> {
+    let path = "references_read";
+    fs::write(&rt, path, "amp=41\n\nzz=1F600+FE0F\r\n")?;
+    let text = "&amp;&zz;&lt;&yy;".as_bytes();
+    prints(
+        &rt,
+        &["--references", path],
+        text,
+        "<p>A😀\u{FE0F}&lt;&amp;yy;</p>",
+    )?;
+    let written = "<p>&amp;amp;&amp;zz;&amp;lt;&amp;yy;</p>";
+    prints(
+        &rt,
+        &["--references=references_read", "--plain"],
+        text,
+        written,
+    )?;
+    fs::remove_file(&rt, path)
 }
 
 #[test]
-fn reads_default_constructs_without_words(rt: HostRuntime) {
-    let mut reader = Watched::new(&b"# *a* <b>\n***\n```\nb\n```\n"[..]);
-    let mut writer = Watched::new(Vec::new(rt.alloc()));
-    let mut faults = Vec::new(rt.alloc());
-    let answer = program(&rt, &[], &mut reader, &mut writer, &mut faults);
-    assert_eq!(rt; answer, 0);
-    let want = b"<h1><em>a</em> &lt;b&gt;</h1>\n<hr />\n<pre><code>b\n</code></pre>\n";
-    assert_eq!(rt; writer.into_inner().as_slice(), want.as_slice());
+fn refuses_references(rt: HostRuntime) -> io::Result<()> {
+    let path = "references_refused";
+    let words = ["--references", path];
+    complains(&rt, &words, b"a", 1, "markdown: cannot read references\n")?;
+    fs::write(&rt, path, "a=41\n\nb=\n")?;
+    complains(&rt, &words, b"a", 1, "markdown: references line 3\n")?;
+    fs::write(&rt, path, "a=41\ra=42\r")?;
+    complains(&rt, &words, b"a", 1, "markdown: references line 2\n")?;
+    fs::write(&rt, path, b"a=41\n\xFF")?;
+    complains(&rt, &words, b"a", 1, "markdown: cannot read references\n")?;
+    fs::remove_file(&rt, path)
 }
 
 #[test]
 fn complains_of_devices(rt: HostRuntime) -> io::Result<()> {
-    let mut words = Vec::new(rt.alloc());
-    words.push(String::from_str(rt.alloc(), "--plain")?)?;
     let mut faults = Vec::new(rt.alloc());
     let mut reader = Watched::new(Short::new(&b"abc"[..], 1, 2));
     let mut writer = Watched::new(Vec::new(rt.alloc()));
-    let answer = program(&rt, &words, &mut reader, &mut writer, &mut faults);
-    assert_eq!(rt; answer, 1);
+    let status = program(&rt, &[], &mut reader, &mut writer, &mut faults);
+    assert_eq!(rt; status, 1);
     assert!(rt; writer.into_inner().is_empty());
     let mut reader = Watched::new(&b"abc"[..]);
     let mut writer = Watched::new(Short::new(Vec::new(rt.alloc()), 1, 2));
-    let answer = program(&rt, &words, &mut reader, &mut writer, &mut faults);
-    assert_eq!(rt; answer, 1);
-    assert_eq!(rt;
-        faults.as_slice(),
-        b"markdown: cannot read\nmarkdown: cannot write\n".as_slice()
-    );
+    let status = program(&rt, &[], &mut reader, &mut writer, &mut faults);
+    assert_eq!(rt; status, 1);
+    let want = b"markdown: cannot read\nmarkdown: cannot write\n";
+    assert_eq!(rt; faults.as_slice(), want.as_slice());
     Ok(())
+}
+
+#[test]
+fn complains_where_help_cannot_be_written(rt: HostRuntime) -> io::Result<()> {
+    let words = owned(&rt, &["--help"])?;
+    let mut faults = Vec::new(rt.alloc());
+    let mut reader = Watched::new(&b"abc"[..]);
+    let mut writer = Watched::new(Short::new(Vec::new(rt.alloc()), 1, 2));
+    let status = program(&rt, &words, &mut reader, &mut writer, &mut faults);
+    assert_eq!(rt; status, 1);
+    assert_eq!(rt; faults.as_slice(), b"markdown: cannot write\n".as_slice());
+    Ok(())
+}
+
+#[test]
+fn complains_of_what_is_not_flushed(rt: HostRuntime) {
+    let mut faults = Vec::new(rt.alloc());
+    let mut reader = Watched::new(&b"a"[..]);
+    let mut writer = Watched::new(Short::stuck(Vec::new(rt.alloc()), 1, 20));
+    let status = program(&rt, &[], &mut reader, &mut writer, &mut faults);
+    assert_eq!(rt; status, 1);
+    let output = writer.into_inner().into_inner();
+    assert_eq!(rt; output.as_slice(), b"<p>a</p>".as_slice());
+    assert_eq!(rt; faults.as_slice(), b"markdown: cannot write\n".as_slice());
 }
 
 #[test]
@@ -108,6 +209,6 @@ fn keeps_the_status_where_a_fault_cannot_be_printed(rt: HostRuntime) {
     let mut faults = Short::new(Vec::new(rt.alloc()), 1, 0);
     let mut reader = Watched::new(&b"\xFF"[..]);
     let mut writer = Watched::new(Vec::new(rt.alloc()));
-    let answer = program(&rt, &[], &mut reader, &mut writer, &mut faults);
-    assert_eq!(rt; answer, 1);
+    let status = program(&rt, &[], &mut reader, &mut writer, &mut faults);
+    assert_eq!(rt; status, 1);
 }

@@ -3,7 +3,7 @@ ghost use Rattle.std.specs.Prelude.{◌≡◌, true};
 ghost use Rattle.markdown_options.specs.Built.{is_built};
 
 use crate::compare::{plain, prints};
-use markdown::{Message, Options, RunError, Watched, run_with_options};
+use markdown::{Builtin, Message, Options, RunError, Watched, run};
 
 /// Texts and their HTML, with every construct off.
 const PLAIN: [(&str, &str); 20] = [
@@ -149,7 +149,7 @@ fn prints_endings_of_options(rt: HostRuntime) -> Result<(), RunError> {
     options.compile.default_line_ending = markdown::LineEnding::CarriageReturnLineFeed;
     let mut reader = Watched::new(&b"a"[..]);
     let mut writer = Watched::new(Vec::new(rt.alloc()));
-    run_with_options(rt.alloc(), &mut reader, &mut writer, &options)?;
+    run(rt.alloc(), &mut reader, &mut writer, &options, &Builtin)?;
     let out = writer.into_inner();
     assert_eq!(rt; out.as_slice(), b"<p>a</p>".as_slice());
     Ok(())
@@ -159,7 +159,7 @@ fn prints_endings_of_options(rt: HostRuntime) -> Result<(), RunError> {
 fn refuses_other_bytes(rt: HostRuntime) {
     let mut reader = Watched::new(&b"a\xFF"[..]);
     let mut writer = Watched::new(Vec::new(rt.alloc()));
-    let result = run_with_options(rt.alloc(), &mut reader, &mut writer, &plain());
+    let result = run(rt.alloc(), &mut reader, &mut writer, &plain(), &Builtin);
     assert!(rt; matches!(result, Err(RunError::Utf8)));
     assert!(rt; writer.into_inner().is_empty());
 }

@@ -1,45 +1,29 @@
-use Rattle.std.proofs.Common.{IfSome, subst, sym, ◌∙◌}
-use Rattle.std.specs.Io.KnownBytes.{Appends}
-use Rattle.std.specs.Prelude.{map, string_bytes}
-use Rattle.markdown_options.specs.declared.configuration.Options.{Options}
-use Rattle.markdown_definition.specs.Html.{html}
+use Rattle.std.proofs.Common.{List, Option, ap, refl, subst, sym, ℕ}
+use Rattle.std.specs.Prelude.{is_ok, string_bytes}
+use Rattle.std.specs.Option.{option_map}
+use Rattle.std.proofs.lemmas.Result.{err_from_is_err_and}
+use Rattle.markdown_definition.specs.TextTables.{text_tables}
 use Rattle.markdown_tables.specs.Builtin.{builtin_tables}
-use Rattle.markdown.specs.Plain.{options_of}
-use Rattle.markdown.specs.Transfer.{AppendsBeginning}
-use Rattle.markdown.specs.Watched.{device}
-use Rattle.markdown.proofs.Transfers.{all_kept, nothing_kept, on_ok_from, written_kept}
+use Rattle.markdown_tables.specs.Punctuation.{builtin_punctuation}
+use Rattle.markdown_tables.specs.Rows.{names_of}
+use Rattle.markdown.specs.Endings.{EndsBy}
+use Rattle.markdown.proofs.Early.{early}
 use Rattle.markdown.proofs.command.page.Goals as goal
 
-pub returns-in_err-run-clause-beginning : goal.returns-in_err-run-clause-beginning
-returns-in_err-run-clause-beginning g c failed =
-    let known = g.R.Read.remaining (device c.args.reader.now) in
-    let old = g.W.Write.contents (device c.args.writer.now) in
-    let new = g.W.Write.contents (device c.run.new.writer) in
-    let k = c.in_err-run.ensures in
-    subst (λ (o : Options). IfSome known (λ text. AppendsBeginning old new (html builtin_tables text o))) c.options_of-options.ensures.options
-    (k.beginning (sym k.write ∙ failed))
+pub returns-in_err-rows-in-Some-clause-page : goal.returns-in_err-rows-in-Some-clause-page
+returns-in_err-rows-in-Some-clause-page g c =
+    let settings = c.args.settings.now in
+    let p = err_from_is_err_and c.from_residual.result c.from_residual.ensures.1 in
+    rw (p.1) (early (option_map string_bytes settings.references) settings.options g.R.Read.remaining g.W.Write.contents c.args.reader.now c.args.writer.now c.requires.reader c.requires.writer)
 
-pub returns-in_err-run-clause-fault : goal.returns-in_err-run-clause-fault
-returns-in_err-run-clause-fault g c working =
-    let k = c.in_err-run.ensures in
-    nothing_kept _ _ _ builtin_tables (options_of (map string_bytes c.args.words.now)) (k.nothing (sym k.write ∙ working))
+pub returns-in-None-clause-page : goal.returns-in-None-clause-page
+returns-in-None-clause-page g c =
+    subst (λ (path : Option (List ℕ)). EndsBy path c.args.settings.now.options g.R.Read.remaining g.W.Write.contents c.args.reader.now c.print.new.reader c.args.writer.now c.print.new.writer (is_ok c.print.result))
+    (sym (ap (option_map string_bytes) c.in-None.is)) (builtin_tables, refl, c.print.ensures.page)
 
-pub returns-clause-fault : goal.returns-clause-fault
-returns-clause-fault g c working =
-    let known = g.R.Read.remaining (device c.args.reader.now) in
-    let old = g.W.Write.contents (device c.args.writer.now) in
-    let mid = g.W.Write.contents (device c.run.new.writer) in
-    let new = g.W.Write.contents (device c.flush.new.self) in
-    let o = options_of (map string_bytes c.args.words.now) in
-    let wrote = subst (λ (x : Options). IfSome known (λ text. Appends old mid (html builtin_tables text x))) c.options_of-options.ensures.options c.in_ok-run.ensures.ok in
-    all_kept known old mid new builtin_tables o wrote c.flush.ensures.bytes
-
-pub returns-clause-ok : goal.returns-clause-ok
-returns-clause-ok g c =
-    let known = g.R.Read.remaining (device c.args.reader.now) in
-    let old = g.W.Write.contents (device c.args.writer.now) in
-    let mid = g.W.Write.contents (device c.run.new.writer) in
-    let new = g.W.Write.contents (device c.flush.new.self) in
-    let o = options_of (map string_bytes c.args.words.now) in
-    let wrote = subst (λ (x : Options). IfSome known (λ text. Appends old mid (html builtin_tables text x))) c.options_of-options.ensures.options c.in_ok-run.ensures.ok in
-    on_ok_from c.map_err.result (written_kept known old mid new builtin_tables o wrote c.flush.ensures.bytes)
+pub returns-in_ok-rows-in-Some-clause-page : goal.returns-in_ok-rows-in-Some-clause-page
+returns-in_ok-rows-in-Some-clause-page g c =
+    let file = c.in_ok-rows-in-Some.ensures.rows in
+    subst (λ (path : Option (List ℕ)). EndsBy path c.args.settings.now.options g.R.Read.remaining g.W.Write.contents c.args.reader.now c.print-in-Some.new.reader c.args.writer.now c.print-in-Some.new.writer (is_ok c.print-in-Some.result))
+    (sym (ap (option_map string_bytes) c.in-Some.is))
+    (text_tables (names_of c.in_ok-rows-in-Some.rows) builtin_punctuation, (file.0, record { faultless = file.1; names = file.2; punctuation = refl }), c.print-in-Some.ensures.page)

@@ -1,0 +1,49 @@
+-- Conversions that end before anything was read.
+use Rattle.std.proofs.Common.{◌≡◌, ℕ, Bool, true, false, not, ◌&&◌, List, [], Option, None, Some, IfSome, refl, inr, arith}
+use Rattle.std.proofs.KnownBytes.{Keeps-refl}
+use Rattle.markdown_options.specs.declared.configuration.Options.{Options}
+use Rattle.markdown_definition.specs.Html.{html}
+use Rattle.markdown_tables.specs.Builtin.{builtin_tables}
+use Rattle.markdown.specs.declared.convert.TheConstants.{SIZE_MAX}
+use Rattle.markdown.specs.declared.watched.Watched.{Watched}
+use Rattle.markdown.specs.Endings.{Ends, EndsBy}
+use Rattle.markdown.specs.Tables.{AreTables}
+use Rattle.markdown.specs.Transfer.{AppendsAllOrNothing, TellsMore}
+use Rattle.markdown.specs.Watched.{device, has_ended, has_failed}
+
+nothing_told : (a : Option (List ℕ)) (most : ℕ) → TellsMore most a a → ⊥
+nothing_told None most more = absurd more
+nothing_told (Some x) most more = omega (arith, more)
+
+no_end : (ended : Bool) → (not ended && ended) ≡ true → ⊥
+no_end true h = cc
+no_end false h = cc
+
+working : (failed : Bool) → failed ≡ false → failed ≡ true → ⊥
+working failed is isnt = cc
+
+kept : (known a : Option (List ℕ)) (page : List ℕ → List ℕ) → IfSome known (λ text. AppendsAllOrNothing a a (page text))
+kept None a page = tt
+kept (Some x) a page = inr (Keeps-refl a)
+
+-- nothing was read or written, and nothing failed
+ends_early : {D E : Type 0} (remaining : D → Option (List ℕ)) (contents : E → Option (List ℕ)) (reader : Watched D) (writer : Watched E) (page : List ℕ → List ℕ)
+    → has_failed reader ≡ false → has_failed writer ≡ false → Ends remaining contents reader reader writer writer false page
+ends_early remaining contents reader writer page reads writes = record {
+  whole = λ h. cc;
+  read = λ h. absurd (working (has_failed reader) reads h);
+  size = λ h. absurd (nothing_told (remaining (device reader)) SIZE_MAX h);
+  utf8 = λ h. absurd (no_end (has_ended reader) h);
+  write = λ h. absurd (working (has_failed writer) writes h);
+  fault = λ h k. kept (remaining (device reader)) (contents (device writer)) page;
+}
+
+-- every path has tables, as those of an empty file
+some_tables : (path : Option (List ℕ)) → AreTables path builtin_tables
+some_tables None = refl
+some_tables (Some path) = ([], record { faultless = refl; names = λ name. refl; punctuation = refl })
+
+pub early : {D E : Type 0} (path : Option (List ℕ)) (options : Options) (remaining : D → Option (List ℕ)) (contents : E → Option (List ℕ)) (reader : Watched D) (writer : Watched E)
+    → has_failed reader ≡ false → has_failed writer ≡ false → EndsBy path options remaining contents reader reader writer writer false
+early path options remaining contents reader writer reads writes =
+    (builtin_tables, some_tables path, ends_early remaining contents reader writer (λ text. html builtin_tables text options) reads writes)

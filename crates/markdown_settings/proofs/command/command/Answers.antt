@@ -1,0 +1,20 @@
+use Rattle.std.proofs.Common.{rules, ap, ap₂, true, ◌≡◌, ◌∙◌}
+use Rattle.clap.specs.Words.{App, app_of, with_rule}
+use Rattle.clap.specs.Simple.{app_of_fields, on_top}
+use Rattle.markdown_settings.specs.Command.{bare}
+use Rattle.markdown_settings.proofs.command.command.Goals as goal
+
+abbrev nameless : App → App
+nameless a = on_top (λ s. record s { no_binary_name = true }) a
+
+abbrev versioned : App → App
+versioned a = on_top (λ s. record s { has_version = true }) a
+
+pub returns : goal.returns
+returns c =
+    let named = ap app_of_fields c.about.ensures ∙ ap app_of_fields c.no_binary_name.ensures ∙ ap nameless c.new.ensures.app in
+    let bare_is : app_of c.after_help.result ≡ bare = ap app_of_fields c.after_help.ensures ∙ ap app_of_fields c.version.ensures ∙ ap versioned named in
+    c.in_ok-command.ensures.shape (search rules)
+    ∙ ap₂ with_rule (c.in_ok-arg-2.ensures.shape (search rules)
+    ∙ ap₂ with_rule (c.in_ok-arg.ensures.shape (search rules)
+    ∙ ap₂ with_rule bare_is c.dangerous.ensures.rule) c.plain.ensures.rule) c.references.ensures.rule

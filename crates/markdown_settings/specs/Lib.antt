@@ -1,0 +1,3 @@
+pub mod Command
+pub mod Flags
+pub mod Settings

@@ -1,0 +1,49 @@
+-- What the words of the command line ask for.
+use Rattle.std.specs.Prelude.{◌≡◌, ⊤, Bool, true, false, List, Option, codes}
+use Rattle.clap.specs.Words.{Kinds, IsAmong, Row, Text, fault_of, first_of, matches_of, takes}
+use Rattle.clap.specs.declared.error.kind.ErrorKind.{ErrorKind}
+use Rattle.clap.specs.declared.error.kind.ErrorKind.TheVariants.{DisplayHelp, DisplayVersion}
+use Rattle.markdown_options.specs.declared.configuration.Options.{Options}
+use Rattle.markdown_settings.specs.declared.settings_error.SettingsError.{SettingsError}
+use Rattle.markdown_settings.specs.declared.settings_error.SettingsError.TheVariants.{Help, Words, Memory}
+use Rattle.markdown_settings.specs.Command.{markdown_command}
+use Rattle.markdown_settings.specs.Flags.{flag_options, is_true_text}
+
+-- the matches of the command for the words
+unfoldable pub rows_of_words : List Text → List Row
+rows_of_words = matches_of markdown_command
+
+-- what the command finds wrong with them; asking for help or for the version is a fault of its own kind
+unfoldable pub faults_of : List Text → Kinds
+faults_of = fault_of markdown_command
+
+-- the command takes the words
+unfoldable pub takes_words : List Text → Bool
+takes_words = takes markdown_command
+
+-- a flag is set in the matches
+abbrev pub is_set : Text → List Text → Bool
+is_set name words = is_true_text (first_of name (rows_of_words words))
+
+abbrev pub options_of : List Text → Options
+options_of words = flag_options (is_set (codes "dangerous") words) (is_set (codes "plain") words)
+
+-- the value of `--references`
+abbrev pub path_of : List Text → Option Text
+path_of words = first_of (codes "references") (rows_of_words words)
+
+-- the help or the version is asked for
+abbrev pub is_request : ErrorKind → Bool
+is_request DisplayHelp = true
+is_request DisplayVersion = true
+is_request kind = false
+
+-- one of the faults is such a request, or one is none
+abbrev pub HasFault : Kinds → Bool → Type 0
+HasFault faults request = (kind : ErrorKind) × IsAmong kind faults × (is_request kind ≡ request)
+
+-- why words with these faults are refused
+abbrev pub Refuses : Kinds → SettingsError → Type 0
+Refuses faults (Help text) = HasFault faults true
+Refuses faults Words = HasFault faults false
+Refuses faults Memory = ⊤

@@ -1,0 +1,92 @@
+//! Reading the words of the command line.
+ghost use Rattle.std.specs.Prelude.{◌≡◌, IfOk, IfErr, OnOk, [], true, codes, map, option_map, string_bytes};
+ghost use Rattle.clap.specs.Words.{first_value, found_of, kind_of, Kinds, IsAmong};
+ghost use Rattle.markdown_options.specs.Built.{is_built};
+ghost use Rattle.markdown_settings.specs.Flags.{flag_options, is_true_text};
+ghost use Rattle.markdown_settings.specs.Settings.{faults_of, options_of, path_of, takes_words, HasFault, Refuses};
+
+use crate::command::command;
+use crate::flags::{Settings, flag_options};
+use crate::settings_error::SettingsError;
+use clap::error::ErrorKind;
+use clap::{ArgMatches, Error};
+use std::alloc::{AllocError, Global};
+
+/// What the words of the command line, without the program's name, ask for.
+///
+/// `--dangerous` prints HTML of the text and allows every protocol, `--plain` turns all constructs
+/// off, and `--references` is followed by the path of a file.
+pub fn settings(alloc: Global, words: &[String]) -> Result<Settings, SettingsError>
+    // The options and the path are those of the command's matches for the words.
+    ensures options { IfOk result (λ s. s.options ≡ options_of (map string_bytes words.now)) }
+    ensures references { IfOk result (λ s. option_map string_bytes s.references ≡ path_of (map string_bytes words.now)) }
+    ensures built { IfOk result (λ s. is_built s.options.parse.constructs ≡ true) }
+
+    // The words are refused only where the command finds a fault in them.
+    ensures faultless { OnOk result (faults_of (map string_bytes words.now) ≡ []) }
+    ensures refused { IfErr result (λ e. Refuses (faults_of (map string_bytes words.now)) e) }
+    ensures taken { takes_words (map string_bytes words.now) ≡ true → IfErr result (λ e. e ≡ SettingsError.Memory) }
+{
+    let command = command(alloc)?;
+    match command.try_get_matches_from(words) {
+        Ok(matches) => found(alloc, &matches),
+        Err(error) => Err(refusal(alloc, &error)),
+    }
+}
+
+/// The settings of the command's matches.
+fn found(alloc: Global, matches: &ArgMatches<'_>) -> Result<Settings, SettingsError>
+    ensures options { IfOk result (λ s. s.options ≡ flag_options (is_true_text (first_value (found_of matches.now) (codes "dangerous"))) (is_true_text (first_value (found_of matches.now) (codes "plain")))) }
+    ensures references { IfOk result (λ s. option_map string_bytes s.references ≡ first_value (found_of matches.now) (codes "references")) }
+    ensures built { IfOk result (λ s. is_built s.options.parse.constructs ≡ true) }
+    ensures memory { IfErr result (λ e. e ≡ SettingsError.Memory) }
+{
+    let references = path(alloc, matches)?;
+    let options = flag_options(is_set(matches, "dangerous"), is_set(matches, "plain"));
+    Ok(Settings {
+        options,
+        references,
+    })
+}
+
+/// Whether a flag is set.
+fn is_set(matches: &ArgMatches<'_>, id: &str) -> bool
+    ensures { result ≡ is_true_text (first_value (found_of matches.now) id.now) }
+{
+    match matches.get_str(id) {
+        Some(text) => text == "true",
+        None => false,
+    }
+}
+
+/// The path of the references.
+fn path(alloc: Global, matches: &ArgMatches<'_>) -> Result<Option<String>, AllocError>
+    ensures { IfOk result (λ path. option_map string_bytes path ≡ first_value (found_of matches.now) (codes "references")) }
+{
+    match matches.get_str("references") {
+        Some(path) => Ok(Some(String::from_str(alloc, path)?)),
+        None => Ok(None),
+    }
+}
+
+/// Why the words are refused, by the command's error.
+fn refusal(alloc: Global, error: &Error) -> SettingsError
+    ensures memory { kind_of error.now ≡ ErrorKind.OutOfMemory → result ≡ SettingsError.Memory }
+    ensures refused { (faults : Kinds) → IsAmong (kind_of error.now) faults → Refuses faults result }
+{
+    match error.kind() {
+        ErrorKind::OutOfMemory => SettingsError::Memory,
+        ErrorKind::DisplayHelp | ErrorKind::DisplayVersion => request(alloc, error),
+        _ => SettingsError::Words,
+    }
+}
+
+/// The text that was asked for.
+fn request(alloc: Global, error: &Error) -> SettingsError
+    ensures { (faults : Kinds) → HasFault faults true → Refuses faults result }
+{
+    match error.to_string(alloc) {
+        Ok(text) => SettingsError::Help(text),
+        Err(_) => SettingsError::Memory,
+    }
+}

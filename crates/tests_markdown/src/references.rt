@@ -1,0 +1,67 @@
+//! Rows of names, read from a text.
+use markdown::{Options, Rows, RowsError, Tables, fits, to_html_with_tables};
+use std::test::Fail;
+
+#[test]
+fn reads_rows(rt: HostRuntime) -> Result<(), Fail> {
+    let text = "amp=41\n\n \t\nb=42\r\n0=1F600+fe0f\rZ9=10FFFF";
+    let rows = Rows::read(rt.alloc(), text)?;
+    for (name, want) in [
+        ("amp", Some("A")),
+        ("b", Some("B")),
+        ("0", Some("😀\u{FE0F}")),
+        ("Z9", Some("\u{10FFFF}")),
+        ("lt", Some("<")),
+        ("AMP", Some("&")),
+        ("z9", None),
+        ("", None),
+    ] {
+        assert_eq!(rt; rows.reference(name), want, "at {name}");
+    }
+    assert!(rt; rows.is_punctuation('€') && !rows.is_punctuation('a'));
+    Ok(())
+}
+
+#[test]
+fn answers_the_first_fault(rt: HostRuntime) {
+    for (text, want) in [
+        ("a", RowsError::Syntax(1)),
+        ("a=41\n\nb=g", RowsError::Syntax(3)),
+        ("a=41\r\na=42", RowsError::Repeated(2)),
+        ("a=41\rb=42\r\r\na=42\nx", RowsError::Repeated(4)),
+        ("x\na=41\na=42", RowsError::Syntax(1)),
+        ("\na=0000041", RowsError::Syntax(2)),
+        ("a=D800", RowsError::Syntax(1)),
+        ("a=41+DFFF", RowsError::Syntax(1)),
+        ("a=110000", RowsError::Syntax(1)),
+        ("a=41+", RowsError::Syntax(1)),
+        ("a=+41", RowsError::Syntax(1)),
+        ("a=41+42+43", RowsError::Syntax(1)),
+        (" a=41", RowsError::Syntax(1)),
+        ("a=41 ", RowsError::Syntax(1)),
+        ("a b=41", RowsError::Syntax(1)),
+        ("é=41", RowsError::Syntax(1)),
+        ("=41", RowsError::Syntax(1)),
+        ("aaaaaaaaaabbbbbbbbbbccccccccccdd=41", RowsError::Syntax(1)),
+    ] {
+        match Rows::read(rt.alloc(), text) {
+            Ok(_) => panic!(rt; "at {text:?}"),
+            Err(fault) => assert_eq!(rt; fault, want, "at {text:?}"),
+        }
+    }
+}
+
+#[test]
+fn prints_by_rows(rt: HostRuntime) -> Result<(), Fail> {
+    let rows = Rows::read(rt.alloc(), "q=22\namp=3C")?;
+    let text = "[a](b \"&q;\") &amp;&lt;";
+    assert!(rt; fits(text));
+    match to_html_with_tables(rt.alloc(), text, &Options::default(), &rows) {
+        Ok(page) => {
+            let want = "<p><a href=\"b\" title=\"&quot;\">a</a> &lt;&lt;</p>";
+            assert_eq!(rt; page.as_str(), want);
+        }
+        Err(_) => panic!(rt; "there was memory"),
+    }
+    Ok(())
+}
