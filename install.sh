@@ -6,11 +6,13 @@
 #     ./install.sh --library [FOLDER]
 #
 # It says which crates are proved so far. As many are proved side by side as there are processors, with 2 GB each;
-# $JOBS sets another number. What is proved stays in the crates' out/ folders, so a second run takes seconds.
+# $JOBS sets another number. What is proved stays in the crates' out/ folders, so that a second run is short.
 set -eu
+crate=markdown_program what=program folder=$HOME/.local/bin
+[ "${1:-}" = --library ] && { crate=markdown_c what=library folder=$HOME/.local; shift; }
+folder=${1:-$folder}
+case $folder in /*) ;; *) folder=$PWD/$folder ;; esac
 cd "$(dirname "$0")"
-crate=markdown_program
-[ "${1:-}" = --library ] && { crate=markdown_c; shift; }
 log=$(mktemp)
 trap 'rm -f "$log"' EXIT
 
@@ -36,7 +38,7 @@ jobs() {
     ' /proc/meminfo
 }
 
-# Prints the crates as they are proved.
+# Names the crates as they are proved.
 show_progress() {
     done=0
     while read -r mark name rest; do
@@ -47,29 +49,29 @@ show_progress() {
     done
 }
 
+# Runs a command, whose output is shown only if it fails.
+quietly() { "$@" > "$log" 2>&1 || { cat "$log" >&2; exit 1; }; }
+
+install_program() {
+    quietly rt run -- --plain < stdin
+    mkdir -p "$folder"
+    cp out/markdown_program "$folder/markdown"
+    echo "built crates/markdown_program/out/markdown_program, installed as $folder/markdown" >&2
+}
+
+install_library() {
+    quietly rt lib
+    mkdir -p "$folder/lib" "$folder/include"
+    cp ../../include/markdown.h "$folder/include/markdown.h"
+    printf 'create out/libmarkdown.a\naddlib out/libmarkdown_c.a\naddlib %s/c/liblibc_c.a\nsave\nend\n' "$(dirname "$(rt doc)")" | ar -M
+    mv out/libmarkdown.a "$folder/lib/libmarkdown.a"
+    ${CC:-cc} -shared -o "$folder/lib/libmarkdown.so" -Wl,--whole-archive "$folder/lib/libmarkdown.a" -Wl,--no-whole-archive
+    echo "built crates/markdown_c/out/libmarkdown_c.a, installed below $folder as lib/libmarkdown.a, lib/libmarkdown.so and include/markdown.h" >&2
+}
+
 crates=$(count_crates "$crate")
 echo "proving $crates crates" >&2
 cd "crates/$crate"
-mkfifo "$log.pipe"
-trap 'rm -f "$log" "$log.pipe"' EXIT
-show_progress "$crates" < "$log.pipe" &
-if ! rt all check --jobs "${JOBS:-$(jobs)}" 2>&1 | tee "$log" > "$log.pipe"; then :; fi
-wait
+rt all check --jobs "${JOBS:-$(jobs)}" 2>&1 | tee "$log" | show_progress "$crates"
 tail -n 1 "$log" | grep -q "^$crates of $crates crates ok$" || { cat "$log" >&2; exit 1; }
-
-if [ "$crate" = markdown_program ]; then
-    rt run -- --plain < stdin > "$log" 2>&1 || { cat "$log" >&2; exit 1; }
-    folder=${1:-$HOME/.local/bin}
-    mkdir -p "$folder"
-    cp out/markdown_program "$folder/markdown"
-    echo "built crates/$crate/out/$crate, installed as $folder/markdown" >&2
-else
-    rt lib > "$log" 2>&1 || { cat "$log" >&2; exit 1; }
-    folder=${1:-$HOME/.local}
-    allocator=$(dirname "$(rt doc)")/c/liblibc_c.a
-    mkdir -p "$folder/lib" "$folder/include"
-    cp ../../include/markdown.h "$folder/include/markdown.h"
-    printf 'create %s/lib/libmarkdown.a\naddlib out/libmarkdown_c.a\naddlib %s\nsave\nend\n' "$folder" "$allocator" | ar -M
-    ${CC:-cc} -shared -o "$folder/lib/libmarkdown.so" -Wl,--whole-archive "$folder/lib/libmarkdown.a" -Wl,--no-whole-archive
-    echo "built crates/$crate/out/lib$crate.a, installed as $folder/lib/libmarkdown.a, libmarkdown.so and include/markdown.h" >&2
-fi
+"install_$what"

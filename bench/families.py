@@ -1,16 +1,17 @@
 #!/usr/bin/env python3
-"""Times a program on families of texts at sizes n, 2n and 4n, beside cmark and others that the system has in the same run.
+"""Times a program on families of texts at sizes n, 2n and 4n, beside md4c, pulldown-cmark and cmark where they are on the
+PATH. They run in turn, and the least processor time counts.
 
     families.py PROGRAM [N]
 
-Growth is the time at 4n by that at n: at most about 4 where time is linear. Of the others the time at 4n is
-printed, and the growth of their own times.
+Growth is the time at 4n by that at n: at most about 4 where time is linear. Of the others the time at 4n is printed, and
+the growth of their own times.
 """
 import shutil
-import subprocess
 import sys
 import tempfile
-import time
+
+from timing import least
 
 ROUNDS = 7
 
@@ -33,6 +34,8 @@ FAMILIES = {
     "long list": lambda n: "- a\n" * n,
     "loose list": lambda n: "- a\n\n" * n,
     "blank lines in a deep list": lambda n: deep_list(200) + "\n" * n + "b\n",
+    # as many open items as half the blank lines: each blank line goes through all of them
+    "blank lines in a list as deep": lambda n: "- " * (n // 100) + "a\n" + "\n" * (n // 50) + "b\n",
     "one long paragraph": lambda n: "lorem ipsum dolor sit amet\n" * n,
     "indented code": lambda n: "    a\n\n" * n,
     "unclosed fence": lambda n: "```\n" + "x\n" * n,
@@ -84,38 +87,30 @@ FAMILIES = {
 }
 
 
-def seconds(command, path):
-    best = float("inf")
-    for _ in range(ROUNDS):
-        with open(path, "rb") as text:
-            start = time.perf_counter()
-            subprocess.run(command, stdin=text, stdout=subprocess.DEVNULL, check=True)
-            best = min(best, time.perf_counter() - start)
-    return best
-
-
 def times(text, n, commands, path):
     """For each command the seconds at n, 2n and 4n."""
-    rows = [[] for _ in commands]
+    rows = {name: [] for name in commands}
     for k in (1, 2, 4):
         with open(path, "w") as out:
             out.write(text(n * k))
-        for row, command in zip(rows, commands):
-            row.append(seconds([command], path))
+        for name, seconds in least(commands, path, ROUNDS).items():
+            rows[name].append(seconds)
     return rows
 
 
 def main():
     n = int(sys.argv[2]) if len(sys.argv) > 2 else 100000
-    others = ["cmark"] + [name for name in ("md2html", "pulldown-cmark") if shutil.which(name)]
-    heads = "".join(" %14s %6s" % (name, "growth") for name in others)
-    print("%-30s %26s %6s%s" % ("family", "n, 2n, 4n (ms)", "growth", heads))
+    others = [name for name in ("md4c", "pulldown-cmark", "cmark") if shutil.which(name)]
+    commands = {"": [sys.argv[1]], **{name: [name] for name in others}}
+    print("| Family | n, 2n, 4n (ms) | Growth |" + "".join(" %s | |" % name for name in others))
+    print("|---|---|---|" + "---|---|" * len(others))
     with tempfile.TemporaryDirectory() as folder:
         for name, text in FAMILIES.items():
-            own, *rest = times(text, n, [sys.argv[1]] + others, folder + "/text")
-            shown = " ".join("%8.1f" % (t * 1000) for t in own)
-            beside = "".join(" %14.1f %6.1f" % (t[2] * 1000, t[2] / t[0]) for t in rest)
-            print("%-30s %26s %6.1f%s" % (name, shown, own[2] / own[0], beside), flush=True)
+            rows = times(text, n, commands, folder + "/text")
+            own = rows.pop("")
+            shown = ", ".join("%.1f" % (t * 1000) for t in own)
+            beside = "".join(" %.1f | %.1f |" % (t[2] * 1000, t[2] / t[0]) for t in rows.values())
+            print("| %s | %s | %.1f |%s" % (name, shown, own[2] / own[0], beside), flush=True)
 
 
 main()

@@ -27,4 +27,5 @@ def main():
         left -= len(paragraph)
 
 
-main()
+if __name__ == "__main__":
+    main()

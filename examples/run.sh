@@ -23,6 +23,7 @@ converts() { "$@" < "$page/stdin" | cmp - "$page/stdout"; }
 refuses() { ! printf 'a\377' | "$@" > "$scratch/out" 2>&1 && ! [ "$(head -c 1 "$scratch/out")" = '<' ]; }
 compile() { ${CC:-cc} -std=c11 -O2 -Wall -Wextra -I"$scratch/include" -L"$scratch/lib" "$@" -l:libmarkdown.a; }
 
+command -v "${CC:-cc}" > /dev/null || { echo "0 passed, 0 failed: there is no C compiler"; exit; }
 "$here/../install.sh" --library "$scratch" 2> "$scratch/log" || { cat "$scratch/log" >&2; exit 1; }
 
 check "C" compile -o "$scratch/convert" "$here/c/convert.c"
