@@ -1,6 +1,7 @@
 //! Chunks joined to chains.
 ghost use Rattle.std.specs.Prelude.{◌≡◌, ◌≤◌, ◌<◌, ◌-◌, length};
-ghost use Rattle.engine_chunks.specs.Joins.{updated, with_next, with_previous, joined};
+ghost use Rattle.engine_events.specs.Events.{link_of, previous_of};
+ghost use Rattle.engine_chunks.specs.Joins.{all_joined, joined, updated, with_next, with_previous};
 
 use engine_events::{Event, Link};
 
@@ -21,6 +22,30 @@ pub fn link_to(events: &mut [Event], previous: usize, next: usize)
 {
     join_next(events, previous, next);
     join_previous(events, next, previous);
+}
+
+/// Joins the chunks of all chains: each that others name as the one before them gets the last of
+/// these as the next.
+///
+/// States add events and change none, so a chunk that they add names only the one before it, and an
+/// attempt that fails leaves no link to what is gone. A resolver joins the chunks at the end.
+pub fn link_all(events: &mut [Event])
+    ensures { events.new ≡ all_joined events.old }
+{
+    for index in 0..events.len() {
+        if let Some(previous) = previous_chunk(&events[index]) {
+            if previous < events.len() {
+                join_next(events, previous, index);
+            }
+        }
+    }
+}
+
+/// The chunk that an event names as the one before it.
+fn previous_chunk(event: &Event) -> Option<usize>
+    ensures { result ≡ previous_of (link_of event.now) }
+{
+    event.link()?.previous
 }
 
 /// Gives the chunk at an index another one after it.

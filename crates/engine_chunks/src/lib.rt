@@ -6,4 +6,4 @@ pub mod divide;
 mod join;
 
 pub use divide::divide_events;
-pub use join::{link, link_to};
+pub use join::{link, link_all, link_to};

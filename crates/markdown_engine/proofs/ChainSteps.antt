@@ -11,10 +11,10 @@ use Rattle.engine_edits.specs.Edits.{Placed}
 use Rattle.engine_chunks.specs.Chunks.{chunks}
 use Rattle.engine_chunks.specs.Parts.{counts, divided}
 use Rattle.markdown_engine.specs.declared.tokenizer.Tokenizer.{Tokenizer}
-use Rattle.markdown_engine.specs.Chains.{Chain, chain_content, chains_from, with_chain, chunks_of, AreApart, IsPlace, ArePlaces, place_at, after_chunk, with_chunks, end_of, chain_text, first_state, Divides, ReadsChain, MayBegin, is_empty}
+use Rattle.markdown_engine.specs.Chains.{Chain, chain_content, chains, chains_from, with_chain, chunks_of, AreApart, IsPlace, ArePlaces, place_at, after_chunk, with_chunks, end_of, chain_text, first_state, Divides, ReadsChain, MayBegin, is_empty}
 use Rattle.markdown_engine.proofs.ChainLaws.{apart_room}
 use Rattle.markdown_engine.specs.Laws.{HoldsAt}
-use Rattle.markdown_engine.specs.Machine.{config, fresh, source, Completed}
+use Rattle.markdown_engine.specs.Machine.{config, shown, fresh, source, Completed}
 use Rattle.markdown_engine.specs.Reading.{Config, Outcome, Steps}
 use Rattle.markdown_engine.specs.Resolving.{Found, Resolves, found_both, nothing_found}
 use Rattle.markdown_engine.specs.VirtualText.{Source, Text, text_to, unskipped}
@@ -116,32 +116,41 @@ module _ {M : Type 0} (valid : HoldsAt M) (step : Steps M) (resolve : Resolves M
       never true = refl
       never false = refl
 
-module _ {M T A : Type 0} (step : Steps M) (resolve : Resolves M) (bytes : List ℕ) (machine : M) (events : List Event) (first : ℕ) (content : Content) where
+module _ {M V T A : Type 0} (view : M → V) (step : Steps V) (resolve : Resolves V) (bytes : List ℕ) (machine : V) (events : List Event) (first : ℕ) (content : Content) where
   -- what was read of a chain's text by a tokenizer that skips before its chunks
-  read_of : (start mid new : Tokenizer M T A) (chain : List ℕ) (end : Point) (given : State) (found : Found) → chain ≡ chunks events first → config start ≡ fresh (place_at events first) machine → source start ≡ unskipped bytes
-      → start.attempts.items ≡ [] → source mid ≡ with_chunks events start.point chain (source start) → end ≡ end_of events start.point chain → config mid ≡ config start → mid.attempts.items ≡ start.attempts.items
-      → given ≡ states.Next (first_state content) → Completed (text_to (source mid) (end.index, end.vs)) step resolve true given mid new found → ReadsChain step resolve bytes machine events (first, content) new.events.items found
+  read_of : (start mid new : Tokenizer M T A) (chain : List ℕ) (end : Point) (given : State) (found : Found) → chain ≡ chunks events first → shown view start ≡ fresh (place_at events first) machine → source start ≡ unskipped bytes
+      → start.attempts.items ≡ [] → source mid ≡ with_chunks events start.point chain (source start) → end ≡ end_of events start.point chain → shown view mid ≡ shown view start → mid.attempts.items ≡ start.attempts.items
+      → given ≡ states.Next (first_state content) → Completed view (text_to (source mid) (end.index, end.vs)) step resolve true given mid new found → ReadsChain step resolve bytes machine events (first, content) new.events.items found
   read_of start mid new chain end given found ek ec eb ea es ee em et eg h =
       let place = place_at events first in
       let ks = chunks events first in
       let last = end_of events place ks in
       let whole : Source = with_chunks events place ks (unskipped bytes) in
-      let point : start.point ≡ place = ap (λ (z : Config M). z.point) ec in
+      let point : start.point ≡ place = ap (λ (z : Config V). z.point) ec in
       let from : source mid ≡ whole = es ∙ (ap (λ (z : Point). with_chunks events z chain (source start)) point ∙ (ap (λ (z : List ℕ). with_chunks events place z (source start)) ek ∙ ap (λ (z : Source). with_chunks events place ks z) eb)) in
       let to : end ≡ last = ee ∙ (ap (λ (z : Point). end_of events z chain) point ∙ ap (λ (z : List ℕ). end_of events place z) ek) in
       let text : text_to (source mid) (end.index, end.vs) ≡ chain_text bytes events first = ap (λ (z : Source). text_to z (end.index, end.vs)) from ∙ ap (λ (z : Point). text_to whole (z.index, z.vs)) to in
-      let f : Outcome (chain_text bytes events first) step mid.attempts.items (config mid) [] given h.read true = subst (λ (z : Text). Outcome z step mid.attempts.items (config mid) [] given h.read true) text h.outcome in
-      let g = at_outcome (chain_text bytes events first) step mid.attempts.items [] (config mid) (fresh place machine) given (states.Next (first_state content)) h.read true (et ∙ ea) (em ∙ ec) eg f in
+      let f : Outcome (chain_text bytes events first) step mid.attempts.items (shown view mid) [] given h.read true = subst (λ (z : Text). Outcome z step mid.attempts.items (shown view mid) [] given h.read true) text h.outcome in
+      let g = at_outcome (chain_text bytes events first) step mid.attempts.items [] (shown view mid) (fresh place machine) given (states.Next (first_state content)) h.read true (et ∙ ea) (em ∙ ec) eg f in
       record {
         read = h.read;
         runs = whole_run (chain_text bytes events first) step (fresh place machine) (states.Next (first_state content)) h.read true g;
-        added = ap (λ (z : Config M). z.events) h.config;
+        added = ap (λ (z : Config V). z.events) h.config;
         labels = h.labels;
       }
 
-  pub chain_read : (start mid new : Tokenizer M T A) (chain : List ℕ) (end : Point) (given : State) (found : Found) → chain ≡ chunks events first → config start ≡ fresh (place_at events first) machine → start.parse_state.now.bytes.now ≡ bytes → start.skips.entries ≡ []
-      → start.attempts.items ≡ [] → source mid ≡ with_chunks events start.point chain (source start) → end ≡ end_of events start.point chain → config mid ≡ config start → mid.attempts.items ≡ start.attempts.items
-      → given ≡ states.Next (first_state content) → Completed (text_to (source mid) (end.index, end.vs)) step resolve true given mid new found → ReadsChain step resolve bytes machine events (first, content) new.events.items found
+  pub chain_read : (start mid new : Tokenizer M T A) (chain : List ℕ) (end : Point) (given : State) (found : Found) → chain ≡ chunks events first → shown view start ≡ fresh (place_at events first) machine → start.parse_state.now.bytes.now ≡ bytes → start.skips.entries ≡ []
+      → start.attempts.items ≡ [] → source mid ≡ with_chunks events start.point chain (source start) → end ≡ end_of events start.point chain → shown view mid ≡ shown view start → mid.attempts.items ≡ start.attempts.items
+      → given ≡ states.Next (first_state content) → Completed view (text_to (source mid) (end.index, end.vs)) step resolve true given mid new found → ReadsChain step resolve bytes machine events (first, content) new.events.items found
   chain_read start mid new chain end given found ek ec eb eq ea es ee em et eg h =
       let f = λ (b : List ℕ) (s : List (ℕ × Point)). let z : Source = record { bytes = b; skips = s } in z in
       read_of start mid new chain end given found ek ec (ap (λ (z : List ℕ). f z start.skips.entries) eb ∙ ap (λ (z : List (ℕ × Point)). f bytes z) eq) ea es ee em et eg h
+
+module _ {M : Type 0} (step : Steps M) (resolve : Resolves M) (bytes : List ℕ) (machine : M) where
+  -- the same events, filter and edits by other names
+  pub divides_as : (given events : List Event) (asked filter : Option Content) (edits all : List Placed) (total : Found) → given ≡ events → asked ≡ filter → edits ≡ []
+      → Divides step resolve bytes machine given (chains asked given) (0, 0) edits all nothing_found total → Divides step resolve bytes machine events (chains filter events) (0, 0) [] all nothing_found total
+  divides_as given events asked filter edits all total e f n d =
+      subst (λ (z : List Placed). Divides step resolve bytes machine events (chains filter events) (0, 0) z all nothing_found total) n
+      (subst (λ (z : Option Content). Divides step resolve bytes machine events (chains z events) (0, 0) edits all nothing_found total) f
+      (subst (λ (z : List Event). Divides step resolve bytes machine z (chains asked z) (0, 0) edits all nothing_found total) e d))

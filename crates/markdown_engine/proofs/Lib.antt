@@ -9,3 +9,6 @@ pub mod ResolverLaws
 pub mod ChainLaws
 pub mod ChainSteps
 pub mod Total
+pub mod Evaluation
+pub mod Turns
+pub mod Computing

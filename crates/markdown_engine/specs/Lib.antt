@@ -16,3 +16,4 @@ pub mod ResolvingLaws
 pub mod Descent
 pub mod DescentLaws
 pub mod Standing
+pub mod Evaluation

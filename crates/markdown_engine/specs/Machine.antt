@@ -14,7 +14,7 @@ use Rattle.engine_edits.specs.Edits.{edits_of}
 use Rattle.markdown_engine.specs.Kept.{kept, nothing_kept}
 use Rattle.markdown_engine.specs.Context.{Context, context}
 use Rattle.markdown_engine.specs.Resolving.{Found, Resolved, Resolves, finished, found_in}
-use Rattle.markdown_engine.specs.Reading.{Config, Effect, Frame, Steps, Outcome, Runs, ended, mark, moved}
+use Rattle.markdown_engine.specs.Reading.{Config, Effect, Frame, Steps, Outcome, Runs, ended, mark, moved, seen_as}
 use Rattle.engine_events.specs.declared.resolve.Name.{Name as Resolver}
 use Rattle.markdown_engine.specs.Resolvers.{with_first, with_last}
 use Rattle.markdown_engine.specs.VirtualText.{Source, Text, Walks, is_before, is_feed, place_in, text_to}
@@ -25,6 +25,10 @@ use Rattle.markdown_engine.specs.Order.{Reaches}
 module _ {M T A : Type 0} where
   abbrev pub config : Tokenizer M T A → Config M
   config t = record { events = t.events.items; point = t.point; next = t.next; line_start = t.line_start; previous = t.previous; current = t.current; tokenize_state = kept t.tokenize_state; map = edits_of t.map; resolvers = t.resolvers.items; interrupt = t.interrupt; lazy = t.lazy; concrete = t.concrete; pierce = t.pierce; machine = t.machine }
+
+  -- the same, with what is seen of the machine
+  abbrev pub shown : {V : Type 0} → (M → V) → Tokenizer M T A → Config V
+  shown view t = seen_as view (config t)
 
   -- what it reads from
   abbrev pub source : Tokenizer M T A → Source
@@ -60,31 +64,10 @@ pub record GoesOn (s : Source) (to : ℕ × ℕ) (end : Bool) (more : Source) (l
   pub ends : end ≡ true → (more ≡ s) × (limit ≡ to)
 
 module _ {M T A : Type 0} where
-  -- a call did what the step says
-  pub record Did (e : Effect M) (old new : Tokenizer M T A) (s : State) : Type 0 where
-    pub config : config new ≡ e.config
-    pub attempts : new.attempts.items ≡ old.attempts.items ++ map mark e.pushed
-    pub state : s ≡ e.state
-
   -- what is read from stayed
   pub record Around (old new : Tokenizer M T A) : Type 0 where
     pub parse_state : new.parse_state.now ≡ old.parse_state.now
     pub skips : new.skips.entries ≡ old.skips.entries
-
-  -- or memory was wanted
-  abbrev pub Answers : Effect M → Tokenizer M T A → Tokenizer M T A → State → Type 0
-  Answers e old new s = Around old new × (Refused s ⊎ Did e old new s)
-
-  -- what `push` leaves: reading a text from what is left is reading it from what was there
-  pub record Goes (text : Text) (step : Steps M) (state : State) (old new : Tokenizer M T A) (s : State) : Type 0 where
-    pub back : (d : Config M) (w : Bool) → Outcome text step new.attempts.items (config new) [] s d w → Outcome text step old.attempts.items (config old) [] state d w
-
-  -- however the text goes on after the range
-  abbrev pub GoesAll : Steps M → Source → ℕ × ℕ → Bool → State → Tokenizer M T A → Tokenizer M T A → State → Type 0
-  GoesAll step s to end given old new state = (more : Source) (limit : ℕ × ℕ) → GoesOn s to end more limit → Goes (text_to more limit) step given old new state
-
-  abbrev pub Pushed : Steps M → ℕ × ℕ → Bool → State → Tokenizer M T A → Tokenizer M T A → State → Type 0
-  Pushed step to end given old new state = Around old new × (Refused state ⊎ GoesAll step (source old) to end given old new state)
 
   pub record Opened (from : ℕ × ℕ) (old new : Tokenizer M T A) : Type 0 where
     pub point : Point
@@ -95,48 +78,10 @@ module _ {M T A : Type 0} where
     pub attempts : new.attempts.items ≡ old.attempts.items
     pub same : Around old new
 
-  -- a range was read from its start
-  abbrev pub PushedFrom : Steps M → ℕ × ℕ → ℕ × ℕ → State → Tokenizer M T A → Tokenizer M T A → State → Type 0
-  PushedFrom step from to given old new state = (start : Tokenizer M T A) × Opened from old start × Pushed step to false given start new state
-
   -- nothing waits any more
   pub record Ended (t : Tokenizer M T A) (s : State) : Type 0 where
     pub attempts : t.attempts.items ≡ []
     pub state : (s ≡ states.Ok) ⊎ (s ≡ states.Nok)
-
-  -- reading ended, and this is what it comes to
-  pub record Flushed (text : Text) (step : Steps M) (given : State) (old new : Tokenizer M T A) (s : State) : Type 0 where
-    pub well : Bool
-    pub state : s ≡ ended well
-    pub outcome : Outcome text step old.attempts.items (config old) [] given (config new) well
-
-  -- the same, and reading went well; then resolvers ran if that was asked for, and found this
-  pub record Completed (text : Text) (step : Steps M) (resolve : Resolves M) (all : Bool) (given : State) (old new : Tokenizer M T A) (found : Found) : Type 0 where
-    pub read : Config M
-    pub outcome : Outcome text step old.attempts.items (config old) [] given read true
-    pub config : config new ≡ (finished resolve all read).config
-    pub labels : found ≡ (finished resolve all read).found
-
-  -- the same, with what the tokenizer reads with
-  abbrev pub Completes : (Context T → Steps M) → (Context T → Resolves M) → ℕ × ℕ → Bool → State → Tokenizer M T A → Tokenizer M T A → Found → Type 0
-  Completes step resolve to all given old new found = Completed (text_to (source old) to) (step (read_with old)) (resolve (read_with old)) all given old new found
-
-  -- resolvers left this, and found this
-  pub record IsResolved (r : Resolved M) (new : Tokenizer M T A) (given : Subresult A) : Type 0 where
-    pub config : config new ≡ r.config
-    pub found : found_in given ≡ r.found
-
-  -- the text read at once
-  pub record ReadWhole (from : Source) (step : Steps M) (given : State) (old new : Tokenizer M T A) (s : State) : Type 0 where
-    pub well : Bool
-    pub state : s ≡ ended well
-    pub runs : Runs (text_to from (length from.bytes, 0)) step (config old) [] given (config new) well
-
-  -- what the loop of `push` keeps
-  pub record Turn (valid : HoldsAt M) (step : Steps M) (to : ℕ × ℕ) (end : Bool) (first : Tokenizer M T A) (given : State) (t : Tokenizer M T A) (s : State) : Type 0 where
-    pub same : Around first t
-    pub holds : Refused s ⊎ valid (config t) t.attempts.items s
-    pub reads : Refused s ⊎ GoesAll step (source first) to end given first t s
 
   -- neither the text nor what is skipped was touched
   pub record SameText (old new : Tokenizer M T A) : Type 0 where
@@ -162,6 +107,70 @@ module _ {M T A : Type 0} where
   Reached to t (states.Retry n) = ⊥
   Reached to t states.Ok = t.attempts.items ≡ []
   Reached to t states.Nok = t.attempts.items ≡ []
+
+module _ {M V T A : Type 0} (view : M → V) where
+  -- a call did what the step says
+  pub record Did (e : Effect V) (old new : Tokenizer M T A) (s : State) : Type 0 where
+    pub config : shown view new ≡ e.config
+    pub attempts : new.attempts.items ≡ old.attempts.items ++ map mark e.pushed
+    pub state : s ≡ e.state
+
+  -- or memory was wanted
+  abbrev pub Shows : Effect V → Tokenizer M T A → Tokenizer M T A → State → Type 0
+  Shows e old new s = Around old new × (Refused s ⊎ Did e old new s)
+
+  -- what `push` leaves: reading a text from what is left is reading it from what was there
+  pub record Goes (text : Text) (step : Steps V) (state : State) (old new : Tokenizer M T A) (s : State) : Type 0 where
+    pub back : (d : Config V) (w : Bool) → Outcome text step new.attempts.items (shown view new) [] s d w → Outcome text step old.attempts.items (shown view old) [] state d w
+
+  -- however the text goes on after the range
+  abbrev pub GoesAll : Steps V → Source → ℕ × ℕ → Bool → State → Tokenizer M T A → Tokenizer M T A → State → Type 0
+  GoesAll step s to end given old new state = (more : Source) (limit : ℕ × ℕ) → GoesOn s to end more limit → Goes (text_to more limit) step given old new state
+
+  abbrev pub Pushed : Steps V → ℕ × ℕ → Bool → State → Tokenizer M T A → Tokenizer M T A → State → Type 0
+  Pushed step to end given old new state = Around old new × (Refused state ⊎ GoesAll step (source old) to end given old new state)
+
+  -- a range was read from its start
+  abbrev pub PushedFrom : Steps V → ℕ × ℕ → ℕ × ℕ → State → Tokenizer M T A → Tokenizer M T A → State → Type 0
+  PushedFrom step from to given old new state = (start : Tokenizer M T A) × Opened from old start × Pushed step to false given start new state
+
+  -- reading ended, and this is what it comes to
+  pub record Flushed (text : Text) (step : Steps V) (given : State) (old new : Tokenizer M T A) (s : State) : Type 0 where
+    pub well : Bool
+    pub state : s ≡ ended well
+    pub outcome : Outcome text step old.attempts.items (shown view old) [] given (shown view new) well
+
+  -- the same, and reading went well; then resolvers ran if that was asked for, and found this
+  pub record Completed (text : Text) (step : Steps V) (resolve : Resolves V) (all : Bool) (given : State) (old new : Tokenizer M T A) (found : Found) : Type 0 where
+    pub read : Config V
+    pub outcome : Outcome text step old.attempts.items (shown view old) [] given read true
+    pub config : shown view new ≡ (finished resolve all read).config
+    pub labels : found ≡ (finished resolve all read).found
+
+  -- the same, with what the tokenizer reads with
+  abbrev pub Completes : (Context T → Steps V) → (Context T → Resolves V) → ℕ × ℕ → Bool → State → Tokenizer M T A → Tokenizer M T A → Found → Type 0
+  Completes step resolve to all given old new found = Completed (text_to (source old) to) (step (read_with old)) (resolve (read_with old)) all given old new found
+
+  -- resolvers left this, and found this
+  pub record IsResolved (r : Resolved V) (new : Tokenizer M T A) (given : Subresult A) : Type 0 where
+    pub config : shown view new ≡ r.config
+    pub found : found_in given ≡ r.found
+
+  -- the text read at once
+  pub record ReadWhole (from : Source) (step : Steps V) (given : State) (old new : Tokenizer M T A) (s : State) : Type 0 where
+    pub well : Bool
+    pub state : s ≡ ended well
+    pub runs : Runs (text_to from (length from.bytes, 0)) step (shown view old) [] given (shown view new) well
+
+  -- what the loop of `push` keeps
+  pub record Turn (valid : HoldsAt V) (step : Steps V) (to : ℕ × ℕ) (end : Bool) (first : Tokenizer M T A) (given : State) (t : Tokenizer M T A) (s : State) : Type 0 where
+    pub same : Around first t
+    pub holds : Refused s ⊎ valid (shown view t) t.attempts.items s
+    pub reads : Refused s ⊎ GoesAll step (source first) to end given first t s
+
+-- of a state that works on any machine: all of the machine is seen
+abbrev pub Answers : {M T A : Type 0} → Effect M → Tokenizer M T A → Tokenizer M T A → State → Type 0
+Answers e old new s = Shows (λ m. m) e old new s
 
 -- the measure of the loop: a refusal is at the bottom
 abbrev pub weight : State → ℕ → ℕ

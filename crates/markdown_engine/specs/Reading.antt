@@ -29,6 +29,10 @@ pub record Config (M : Type 0) : Type 0 where
   pub pierce : Bool
   pub machine : M
 
+-- of the machine only what is seen of it
+abbrev pub seen_as : {M V : Type 0} → (M → V) → Config M → Config V
+seen_as view c = record { events = c.events; point = c.point; next = c.next; line_start = c.line_start; previous = c.previous; current = c.current; tokenize_state = c.tokenize_state; map = c.map; resolvers = c.resolvers; interrupt = c.interrupt; lazy = c.lazy; concrete = c.concrete; pierce = c.pierce; machine = view c.machine }
+
 -- an attempt that waits, with the configuration in which it was made
 pub record Frame (M : Type 0) : Type 0 where
   pub check : Bool

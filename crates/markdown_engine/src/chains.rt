@@ -10,6 +10,7 @@ ghost use Rattle.engine_edits.specs.Edits.{edits_of};
 ghost use Rattle.engine_chunks.specs.Chunks.{chunks};
 ghost use Rattle.markdown_engine.specs.Chains.{AreApart, ArePlaces, AreReadable, DividesIn, IsPlace, MayBegin, ReadsChainIn, SubtokenizedIn, after_chunk, chain_content, chains, end_of, first_state, is_empty, place_at, starts_line, with_chunks};
 ghost use Rattle.markdown_engine.specs.Context.{context};
+ghost use Rattle.markdown_engine.specs.Evaluation.{AreReadingOf};
 ghost use Rattle.markdown_engine.specs.Machine.{bytes_of, config, fresh, source};
 ghost use Rattle.markdown_engine.specs.Resolving.{found_in, nothing_found};
 ghost use Rattle.markdown_engine.specs.Standing.{LinksLeadIn};
@@ -128,8 +129,9 @@ fn read_chain<M: Machine<T> + Copy, T: Tables, A: Allocator + Clone>(
     requires first { first < length events.now }
     requires apart { AreApart 0 (chunks events.now first) (length events.now) }
     requires places { ArePlaces parse_state.now.bytes.now events.now }
-    requires begins { M.valid (context parse_state.now) (fresh (place_at events.now first) machine) [] (states.Next (first_state content)) }
-    ensures reads { IfOk result (λ read. ReadsChainIn M.step M.resolved (context parse_state.now) machine events.now (first, content) read.0.items (found_in read.1)) }
+    requires begins { M.valid (context parse_state.now) (fresh (place_at events.now first) (M.seen machine)) [] (states.Next (first_state content)) }
+    ensures reads { IfOk result (λ read. ReadsChainIn M.step M.resolved (context parse_state.now) (M.seen machine)
+        events.now (first, content) read.0.items (found_in read.1)) }
     ensures memory { IfErr result (λ message. IsOutOfMemory message) }
 {
     let chain = chunks(alloc.clone()?, events, first)?;
@@ -152,8 +154,9 @@ fn divide_chains<M: Machine<T> + Copy, T: Tables, A: Allocator + Clone>(
     filter: Option<Content>,
 ) -> Result<Subresult<A>, Message>
     requires readable { AreReadable parse_state.now.bytes.now filter events.now }
-    requires begins { MayBegin (M.valid (context parse_state.now)) machine events.now (chains filter events.now) }
-    ensures divides { IfOk result (λ found. DividesIn M.step M.resolved (context parse_state.now) machine filter events.now (edits_of map.old) (edits_of map.new) (found_in found)) }
+    requires begins { MayBegin (M.valid (context parse_state.now)) (M.seen machine) events.now (chains filter events.now) }
+    ensures divides { IfOk result (λ found. DividesIn M.step M.resolved (context parse_state.now) (M.seen machine)
+        filter events.now (edits_of map.old) (edits_of map.new) (found_in found)) }
     ensures done { IfOk result (λ found. found.done ≡ is_empty (chains filter events.now)) }
     ensures memory { IfErr result (λ message. IsOutOfMemory message) }
 {
@@ -184,9 +187,13 @@ pub fn subtokenize<M: Machine<T> + Copy, T: Tables, A: Allocator + Clone>(
     filter: Option<&Content>,
 ) -> Result<Subresult<A>, Message>
     requires readable { AreReadable parse_state.now.bytes.now (option_copied filter) events.old.items }
-    requires begins { MayBegin (M.valid (context parse_state.now)) machine events.old.items (chains (option_copied filter) events.old.items) }
-    ensures read { IfOk result (λ found. SubtokenizedIn M.step M.resolved (context parse_state.now) machine (option_copied filter.entry) events.old.items events.new.items (found_in found)) }
-    ensures links { IfOk result (λ found. LinksLeadIn M.step M.resolved (context parse_state.now) machine (option_copied filter.entry) events.old.items events.new.items (found_in found)) }
+    requires begins { MayBegin (M.valid (context parse_state.now)) (M.seen machine) events.old.items (chains (option_copied filter) events.old.items) }
+    ensures read { IfOk result (λ found. SubtokenizedIn M.step M.resolved (context parse_state.now) (M.seen machine)
+        (option_copied filter.entry) events.old.items events.new.items (found_in found)) }
+    ensures evaluated { IfOk result (λ found. AreReadingOf M.step M.rank M.resolved (context parse_state.now) (M.seen machine)
+        (option_copied filter.entry) events.old.items events.new.items (found_in found)) }
+    ensures links { IfOk result (λ found. LinksLeadIn M.step M.resolved (context parse_state.now) (M.seen machine)
+        (option_copied filter.entry) events.old.items events.new.items (found_in found)) }
     ensures done { IfOk result (λ found. found.done ≡ is_empty (chains (option_copied filter.entry) events.old.items)) }
     ensures err { OnErr result (events.new.items ≡ events.old.items) }
     ensures memory { IfErr result (λ message. IsOutOfMemory message) }

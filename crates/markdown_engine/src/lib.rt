@@ -13,7 +13,7 @@ pub mod tokenizer;
 pub mod virtual_text;
 
 pub use chains::subtokenize;
-pub use engine_chunks::{divide_events, link, link_to};
+pub use engine_chunks::{divide_events, link, link_all, link_to};
 pub use engine_edits::EditMap;
 pub use engine_events::{container, event, label, place, resolve, state, subresult};
 pub use engine_text::{char, location, skip, slice};

@@ -4,7 +4,7 @@ ghost use Rattle.markdown_options.specs.Messages.{IsOutOfMemory};
 ghost use Rattle.engine_events.specs.declared.state.State.TheVariants as states;
 ghost use Rattle.markdown_engine.specs.Reading.{Steps, mark, restore, resumed, handed};
 ghost use Rattle.std.specs.BTreeMap.{insert_entry};
-ghost use Rattle.markdown_engine.specs.Machine.{Answers, Around, Became, Began, Ended, Flushed, Pushed, Reached, Refused, SameText, begun, bytes_of, config, consumed, entered, exited, read_with, source, to_run_first, to_run_last};
+ghost use Rattle.markdown_engine.specs.Machine.{Around, Became, Began, Ended, Flushed, Pushed, Reached, Refused, SameText, Shows, begun, bytes_of, config, consumed, entered, exited, read_with, shown, source, to_run_first, to_run_last};
 ghost use Rattle.markdown_engine.specs.Resolvers.{AreOnce, is_registered};
 ghost use Rattle.markdown_engine.specs.VirtualText.{is_before, line_start};
 ghost use Rattle.markdown_engine.specs.Laws.{Holds, Ranks, Lawful};
@@ -28,34 +28,39 @@ use std::collections::BTreeMap;
 /// A set of states. A state reads a tokenizer's byte, changes the tokenizer by its calls, and says
 /// how reading goes on.
 pub trait Machine<T: Tables> {
+    // What configurations show of the machine: all of it, or a view, as of a tokenizer that it holds.
+    ghost Seen: { Type 0 };
+
+    ghost seen: { Self → Seen };
+
     // What a state does.
-    ghost step: { Context T → Steps Self };
+    ghost step: { Context T → Steps Seen };
 
     // What holds whenever a state is next.
-    ghost valid: { Holds T Self };
+    ghost valid: { Holds T Seen };
 
     // A number that falls with every turn.
-    ghost rank: { Ranks T Self };
+    ghost rank: { Ranks T Seen };
 
     // What a resolver does.
-    ghost resolved: { Context T → Resolves Self };
+    ghost resolved: { Context T → Resolves Seen };
 
     // What holds whenever resolvers are still to run.
-    ghost settled: { Settles T Self };
+    ghost settled: { Settles T Seen };
 
     /// Calls a state.
     fn call<'a, A: Allocator>(tokenizer: &mut Tokenizer<'a, Self, T, A>, name: Name) -> State
-        requires { valid (read_with tokenizer.old) (config tokenizer.old) tokenizer.old.attempts.items (states.Retry name) }
-        ensures { Answers (step (read_with tokenizer.old) (config tokenizer.old) name) tokenizer.old tokenizer.new result };
+        requires { valid (read_with tokenizer.old) (shown seen tokenizer.old) tokenizer.old.attempts.items (states.Retry name) }
+        ensures { Shows seen (step (read_with tokenizer.old) (shown seen tokenizer.old) name) tokenizer.old tokenizer.new result };
 
     /// Runs a resolver, and answers what it found, if anything.
     fn resolve<'a, A: Allocator + Clone>(
         tokenizer: &mut Tokenizer<'a, Self, T, A>,
         name: resolve::Name,
     ) -> Result<Option<Subresult<A>>, Message>
-        requires { (more : List Resolver) × settled (read_with tokenizer.old) (config tokenizer.old) (name ∷ more) }
-        ensures config { OnOk result (config tokenizer.new ≡ (resolved (read_with tokenizer.old) (config tokenizer.old) name).config) }
-        ensures found { IfOk result (λ found. found_of found ≡ (resolved (read_with tokenizer.old) (config tokenizer.old) name).found) }
+        requires { (more : List Resolver) × settled (read_with tokenizer.old) (shown seen tokenizer.old) (name ∷ more) }
+        ensures config { OnOk result (shown seen tokenizer.new ≡ (resolved (read_with tokenizer.old) (shown seen tokenizer.old) name).config) }
+        ensures found { IfOk result (λ found. found_of found ≡ (resolved (read_with tokenizer.old) (shown seen tokenizer.old) name).found) }
         ensures parse_state { tokenizer.new.parse_state.now ≡ tokenizer.old.parse_state.now }
         ensures memory { IfErr result (λ message. IsOutOfMemory message) };
 
@@ -161,7 +166,8 @@ impl<'a, M, T, A: Allocator + Clone> Tokenizer<'a, M, T, A> {
     /// Makes the reading of a point's line begin at the point, whenever the line is read.
     pub fn define_skip(&mut self, point: Point) -> Result<(), Message>
         requires { point.index ≤ length (bytes_of self.old) }
-        ensures skips { OnOk result (self.new.skips.entries ≡ insert_entry nat_cmp self.old.skips.entries (line_start self.old.parse_state.now.bytes.now point.index) point) }
+        ensures skips { OnOk result (self.new.skips.entries ≡
+            insert_entry nat_cmp self.old.skips.entries (line_start self.old.parse_state.now.bytes.now point.index) point) }
         ensures err { OnErr result (self.new.skips.entries ≡ self.old.skips.entries) }
         ensures config { config self.new ≡ config self.old }
         ensures attempts { self.new.attempts ≡ self.old.attempts }
@@ -189,6 +195,9 @@ impl<'a, M, T, A: Allocator> Tokenizer<'a, M, T, A> {
     }
 
     /// Adds that something begins here whose text is read later, together with its neighbours.
+    ///
+    /// States change no event that was added, so the link names the chunk before, if there is one, and
+    /// none after; a resolver joins the chunks at the end, by `link_all`.
     pub fn enter_link(&mut self, name: EventName, link: Link) -> Result<(), Message>
         ensures became { OnOk result (Became (entered name (Some link) (config self.old)) self.old self.new) }
         ensures text { SameText self.old self.new }
@@ -358,9 +367,10 @@ impl<'a, M, T, A: Allocator> Tokenizer<'a, M, T, A> {
 }
 
 impl<'a, M: Machine<T>, T: Tables, A: Allocator> Tokenizer<'a, M, T, A> {
+    ghost use Rattle.markdown_engine.specs.Evaluation.{StaysReadingFrom};
     ghost use Rattle.markdown_engine.specs.Laws.{MovesOn};
     ghost use Rattle.std.specs.Prelude.{◌≡◌, ◌≤◌, ◌<◌, [], length, true, false, ◌⊎◌};
-    ghost use Rattle.markdown_engine.specs.Machine.{AreCuts, Ended, Flushed, Opened, Pushed, PushedFrom, ReadWhole, Reached, Refused, bytes_of, config, read_with, source};
+    ghost use Rattle.markdown_engine.specs.Machine.{AreCuts, Ended, Flushed, Opened, Pushed, PushedFrom, ReadWhole, Reached, Refused, bytes_of, read_with, shown, source};
     ghost use Rattle.markdown_engine.specs.VirtualText.{IsCut, byte_before, place_in, text_to};
     ghost use Rattle.markdown_engine.specs.Outcomes.{HasOutcome, HasRun};
 
@@ -386,9 +396,9 @@ impl<'a, M: Machine<T>, T: Tables, A: Allocator> Tokenizer<'a, M, T, A> {
     /// Reads up to the end of a range, which may be the text's end, too.
     fn read(&mut self, to: (usize, usize), end: bool, state: State) -> State
         requires to { IsCut (bytes_of self.old) to }
-        requires valid { Refused state ⊎ M.valid (read_with self.old) (config self.old) self.old.attempts.items state }
-        ensures valid { Refused result ⊎ M.valid (read_with self.old) (config self.new) self.new.attempts.items result }
-        ensures reads { Pushed (M.step (read_with self.old)) to end state self.old self.new result }
+        requires valid { Refused state ⊎ M.valid (read_with self.old) (shown M.seen self.old) self.old.attempts.items state }
+        ensures valid { Refused result ⊎ M.valid (read_with self.old) (shown M.seen self.new) self.new.attempts.items result }
+        ensures reads { Pushed M.seen (M.step (read_with self.old)) to end state self.old self.new result }
         ensures reached { Reached to self.new result }
         ensures moves_on { MovesOn result }
         ensures ends { end ≡ true → Refused result ⊎ Ended self.new result }
@@ -451,9 +461,10 @@ impl<'a, M: Machine<T>, T: Tables, A: Allocator> Tokenizer<'a, M, T, A> {
         requires from { IsCut (bytes_of self.old) from }
         requires to { IsCut (bytes_of self.old) to }
         requires moves_on { MovesOn state }
-        requires valid { (self.old.failed ≡ true) ⊎ M.valid (read_with self.old) (config self.old) self.old.attempts.items state }
-        ensures valid { (self.new.failed ≡ true) ⊎ M.valid (read_with self.old) (config self.new) self.new.attempts.items result }
-        ensures reads { (self.new.failed ≡ true) ⊎ PushedFrom (M.step (read_with self.old)) from to state self.old self.new result }
+        requires valid { (self.old.failed ≡ true) ⊎ M.valid (read_with self.old) (shown M.seen self.old) self.old.attempts.items state }
+        ensures valid { (self.new.failed ≡ true) ⊎ M.valid (read_with self.old) (shown M.seen self.new) self.new.attempts.items result }
+        ensures reads { (self.new.failed ≡ true) ⊎ PushedFrom M.seen (M.step (read_with self.old)) from to state self.old self.new result }
+        ensures evaluated { (self.new.failed ≡ true) ⊎ StaysReadingFrom M.seen M.step M.rank from to state self.old self.new result }
         ensures moves_on { MovesOn result }
         ensures reached { Reached to self.new result }
         ensures end { self.new.end ≡ to }
@@ -475,11 +486,12 @@ impl<'a, M: Machine<T>, T: Tables, A: Allocator> Tokenizer<'a, M, T, A> {
     /// Reads on, up to an index and a column of a tab there, where the text ends.
     pub(crate) fn finish(&mut self, to: (usize, usize), state: State) -> State
         requires to { IsCut (bytes_of self.old) to }
-        requires valid { Refused state ⊎ M.valid (read_with self.old) (config self.old) self.old.attempts.items state }
-        ensures reads { Refused result ⊎ Flushed (text_to (source self.old) to) (M.step (read_with self.old)) state self.old self.new result }
-        ensures valid { Refused result ⊎ M.valid (read_with self.old) (config self.new) [] result }
+        requires valid { Refused state ⊎ M.valid (read_with self.old) (shown M.seen self.old) self.old.attempts.items state }
+        ensures reads { Refused result ⊎ Flushed M.seen (text_to (source self.old) to) (M.step (read_with self.old)) state self.old self.new result }
+        ensures valid { Refused result ⊎ M.valid (read_with self.old) (shown M.seen self.new) [] result }
         ensures parse_state { self.new.parse_state.now ≡ self.old.parse_state.now }
-        ensures total { Refused state ⊎ HasOutcome (text_to (source self.old) to) (M.step (read_with self.old)) (config self.old) self.old.attempts.items state }
+        ensures total { Refused state ⊎ HasOutcome (text_to (source self.old) to) (M.step (read_with self.old)) (shown M.seen self.old)
+            self.old.attempts.items state }
         ensures whole { Refused result ⊎ AreWhole self.new.events.items self.new.point }
         ensures failed { Refused result → self.new.failed ≡ true }
     {
@@ -489,9 +501,9 @@ impl<'a, M: Machine<T>, T: Tables, A: Allocator> Tokenizer<'a, M, T, A> {
     /// Reads a text at once.
     pub fn whole(&mut self, state: State) -> State
         requires fresh { self.old.attempts.items ≡ [] }
-        requires valid { M.valid (read_with self.old) (config self.old) [] state }
-        ensures reads { Refused result ⊎ ReadWhole (source self.old) (M.step (read_with self.old)) state self.old self.new result }
-        ensures total { HasRun (text_to (source self.old) (length (bytes_of self.old), 0)) (M.step (read_with self.old)) (config self.old) state }
+        requires valid { M.valid (read_with self.old) (shown M.seen self.old) [] state }
+        ensures reads { Refused result ⊎ ReadWhole M.seen (source self.old) (M.step (read_with self.old)) state self.old self.new result }
+        ensures total { HasRun (text_to (source self.old) (length (bytes_of self.old), 0)) (M.step (read_with self.old)) (shown M.seen self.old) state }
         ensures whole { Refused result ⊎ AreWhole self.new.events.items self.new.point }
         ensures failed { Refused result → self.new.failed ≡ true }
     {
@@ -504,8 +516,8 @@ impl<'a, M: Machine<T>, T: Tables, A: Allocator> Tokenizer<'a, M, T, A> {
     pub fn in_ranges(&mut self, cuts: &[(usize, usize)], state: State) -> State
         requires cuts { AreCuts (0, 0) cuts.now (length (bytes_of self.old)) }
         requires fresh { self.old.attempts.items ≡ [] }
-        requires valid { M.valid (read_with self.old) (config self.old) [] state }
-        ensures reads { Refused result ⊎ ReadWhole (source self.old) (M.step (read_with self.old)) state self.old self.new result }
+        requires valid { M.valid (read_with self.old) (shown M.seen self.old) [] state }
+        ensures reads { Refused result ⊎ ReadWhole M.seen (source self.old) (M.step (read_with self.old)) state self.old self.new result }
         ensures whole { Refused result ⊎ AreWhole self.new.events.items self.new.point }
         ensures failed { Refused result → self.new.failed ≡ true }
     {
@@ -523,7 +535,7 @@ impl<'a, M: Machine<T>, T: Tables, A: Allocator> Tokenizer<'a, M, T, A> {
 
 impl<'a, M: Machine<T>, T: Tables, A: Allocator + Clone> Tokenizer<'a, M, T, A> {
     ghost use Rattle.std.specs.Prelude.{◌≡◌, ◌≤◌, ◌<◌, [], length, ◌⊎◌};
-    ghost use Rattle.markdown_engine.specs.Machine.{ReadWhole, Refused, bytes_of, config, read_with, source};
+    ghost use Rattle.markdown_engine.specs.Machine.{ReadWhole, Refused, bytes_of, read_with, shown, source};
     ghost use Rattle.markdown_engine.specs.VirtualText.{line_start, with_skip};
 
     /// Reads a text in two ranges, the second of which is read from a later place of its line: what
@@ -533,8 +545,8 @@ impl<'a, M: Machine<T>, T: Tables, A: Allocator + Clone> Tokenizer<'a, M, T, A> 
         requires within { point.index ≤ length (bytes_of self.old) }
         requires line { cut ≤ line_start self.old.parse_state.now.bytes.now point.index }
         requires fresh { self.old.attempts.items ≡ [] }
-        requires valid { M.valid (read_with self.old) (config self.old) [] state }
-        ensures reads { Refused result ⊎ ReadWhole (with_skip (source self.old) point) (M.step (read_with self.old)) state self.old self.new result }
+        requires valid { M.valid (read_with self.old) (shown M.seen self.old) [] state }
+        ensures reads { Refused result ⊎ ReadWhole M.seen (with_skip (source self.old) point) (M.step (read_with self.old)) state self.old self.new result }
         ensures whole { Refused result ⊎ AreWhole self.new.events.items self.new.point }
         ensures failed { Refused result → self.new.failed ≡ true }
     {

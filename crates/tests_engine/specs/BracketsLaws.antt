@@ -1,6 +1,5 @@
 -- The machine of brackets is lawful.
-use Rattle.std.proofs.Common.{◌≡◌, ℕ, ◌+◌, ◌*◌, ◌<◌, ◌≤◌, ◌++◌, [], ◌∷◌, map, List, Bool, true, false, refl, sym, subst, arith, inl, inr, Option, Some, None, reverse, ◌==◌, if◌then◌else◌, append-nil, length}
-use Rattle.engine_events.specs.declared.event.Event.{Event}
+use Rattle.std.proofs.Common.{◌≡◌, ℕ, ◌+◌, ◌*◌, ◌<◌, ◌≤◌, ◌++◌, [], ◌∷◌, map, List, Bool, true, false, refl, sym, subst, arith, inl, inr, Option, Some, None, reverse, ◌==◌, if◌then◌else◌, length}
 use Rattle.engine_events.specs.declared.event.Name.TheVariants as names
 use Rattle.engine_events.specs.declared.place.Point.{Point}
 use Rattle.engine_events.specs.declared.state.Name.{Name}

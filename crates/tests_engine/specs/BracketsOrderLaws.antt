@@ -1,5 +1,5 @@
 -- The events of the machine of brackets are nested and in order.
-use Rattle.std.proofs.Common.{◌≡◌, ℕ, ◌++◌, ◌∙◌, [], ◌∷◌, map, List, true, false, Bool, ◌==◌, if◌then◌else◌, refl, sym, ap, subst, Option, Some, None, reverse, append-nil}
+use Rattle.std.proofs.Common.{◌≡◌, ℕ, ◌++◌, ◌∙◌, [], ◌∷◌, map, List, true, false, ◌==◌, if◌then◌else◌, refl, sym, ap, subst, Option, Some, None, reverse, append-nil}
 use Rattle.std.proofs.lemmas.List.{reverse-append}
 use Rattle.engine_events.specs.Events.{event}
 use Rattle.engine_events.specs.declared.event.Kind.TheVariants.{Enter}

@@ -9,12 +9,11 @@ use Rattle.markdown_engine.specs.Reading.{Config}
 use Rattle.markdown_engine.specs.Resolving.{Leaves, LeavesAt, ResolvesAt, Unresolved, resolves_nothing, settles_whole}
 use Rattle.markdown_engine.specs.ResolvingLaws.{lawful_unresolved, resolves_unresolved}
 use Rattle.markdown_engine.specs.StepLaws.{same_front}
-use Rattle.tests_engine.specs.declared.count.Count.{Count}
 use Rattle.tests_engine.specs.Counting.{AddsNone, count_step, counts, over_byte}
 use Rattle.tests_engine.specs.EachByte.{GoesOver, at_byte, each_rank}
 use Rattle.tests_engine.specs.EachByteLaws.{each_lawful}
 
-none_tidy : (c : Config Count) → c.events ≡ [] → IsTidy c
+none_tidy : (c : Config ℕ) → c.events ≡ [] → IsTidy c
 none_tidy c h = subst (λ (z : List Event). AreTidy z c.point) (sym h) (record { nested = tt; order = from_start c.point })
 
 goes_over : GoesOver AddsNone AddsNone (λ c. c) over_byte
@@ -33,7 +32,7 @@ goes_over = record {
   closed = λ c h. ap (opened []) h;
 }
 
-leaves_at : (b : Option ℕ) (c : Config Count) (n : Name) → LeavesAt c (at_byte (λ d. d) over_byte b c n)
+leaves_at : (b : Option ℕ) (c : Config ℕ) (n : Name) → LeavesAt c (at_byte (λ d. d) over_byte b c n)
 leaves_at None c n = (refl, refl)
 leaves_at (Some b) c n = (refl, refl)
 

@@ -1,13 +1,13 @@
 -- Machines with one state are lawful.
-use Rattle.std.proofs.Common.{◌≡◌, ℕ, ◌+◌, ◌*◌, ◌<◌, ◌≤◌, ◌++◌, List, [], ◌∷◌, map, Option, Some, None, true, false, refl, subst, sym, ◌∙◌, arith, append-nil, inl}
+use Rattle.std.proofs.Common.{◌≡◌, ℕ, ◌+◌, ◌*◌, ◌<◌, ◌≤◌, ◌++◌, List, map, Option, Some, None, true, false, refl, subst, sym, ◌∙◌, arith, append-nil, inl}
 use Rattle.engine_events.specs.declared.place.Point.{Point}
 use Rattle.engine_events.specs.declared.state.Name.{Name}
 use Rattle.engine_events.specs.declared.state.State.{State}
 use Rattle.engine_events.specs.declared.state.State.TheVariants as states
 use Rattle.markdown_engine.specs.declared.attempt.Attempt.{Attempt}
 use Rattle.markdown_engine.specs.declared.virtual_text.VirtualByte.{VirtualByte}
-use Rattle.markdown_engine.specs.Laws.{BeginAround, ClosesAt, Consumes, FallsAt, IsFed, KeepsAt, LawfulAt, MovesOn, Nested, OnlyAdds, TidiesAt, remaining}
-use Rattle.markdown_engine.specs.Order.{LeadsOn, Reaches}
+use Rattle.markdown_engine.specs.Laws.{BeginAround, ClosesAt, Consumes, FallsAt, IsFed, KeepsAt, LawfulAt, MovesOn, Nested, TidiesAt, remaining}
+use Rattle.markdown_engine.specs.Order.{Reaches}
 use Rattle.markdown_engine.specs.OrderLaws.{handed_leads}
 use Rattle.markdown_engine.specs.Reading.{Config, handed, mark, moved}
 use Rattle.markdown_engine.specs.StepLaws.{some_wait}

@@ -5,7 +5,7 @@ use Rattle.engine_events.specs.declared.place.Point.{Point}
 use Rattle.engine_events.specs.declared.state.Name.{Name}
 use Rattle.markdown_engine.specs.Laws.{LawfulAt}
 use Rattle.markdown_engine.specs.Machine.{consumed, entered}
-use Rattle.markdown_engine.specs.Order.{IsInnermost, Reaches, opened}
+use Rattle.markdown_engine.specs.Order.{Reaches, opened}
 use Rattle.markdown_engine.specs.OrderLaws.{entered_opened, entered_tidy, exited_after, exited_opened, handed_tidy, moved_tidy}
 use Rattle.markdown_engine.specs.Reading.{Config, moved}
 use Rattle.markdown_engine.specs.Resolving.{Leaves, LeavesAt, ResolvesAt, Unresolved, resolves_nothing, settles_whole}

@@ -1,5 +1,5 @@
 -- A machine that puts one event round two equal bytes, and one round each other byte. It looks ahead to tell which.
-use Rattle.std.specs.Prelude.{◌≡◌, ℕ, ◌+◌, ◌*◌, ◌<◌, Bool, true, List, [], ◌∷◌, length, Option, Some, None, ◌==◌, if◌then◌else◌}
+use Rattle.std.specs.Prelude.{◌≡◌, ℕ, ◌+◌, ◌*◌, true, List, [], ◌∷◌, Option, Some, None, ◌==◌, if◌then◌else◌}
 use Rattle.engine_events.specs.declared.event.Event.{Event}
 use Rattle.engine_events.specs.declared.event.Name.{Name as EventName}
 use Rattle.engine_events.specs.declared.event.Name.TheVariants.{AttentionSequence, Data}
@@ -11,10 +11,10 @@ use Rattle.engine_events.specs.declared.state.State.TheVariants as states
 use Rattle.markdown_engine.specs.declared.attempt.Attempt.{Attempt}
 use Rattle.markdown_engine.specs.Descent.{Weighs, descent}
 use Rattle.markdown_engine.specs.Laws.{IsAhead, RanksAt, remaining}
-use Rattle.markdown_engine.specs.Machine.{checks, consumed, entered, exited, fresh, plain}
-use Rattle.markdown_engine.specs.Order.{AreMarks, AreTidy, IsTidy, LeadsOn, Reaches, opened, text_start}
-use Rattle.markdown_engine.specs.Reading.{Config, Effect, Runs, Steps}
-use Rattle.markdown_engine.specs.VirtualText.{is_feed, text_to}
+use Rattle.markdown_engine.specs.Machine.{checks, consumed, entered, exited, plain}
+use Rattle.markdown_engine.specs.Order.{AreMarks, AreTidy, IsTidy, Reaches, opened}
+use Rattle.markdown_engine.specs.Reading.{Config, Effect, Steps}
+use Rattle.markdown_engine.specs.VirtualText.{is_feed}
 use Rattle.tests_engine.specs.declared.pairs.Pairs.{Pairs}
 use Rattle.tests_engine.specs.Readings.{IsReading}
 

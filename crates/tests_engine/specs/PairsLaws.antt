@@ -1,5 +1,5 @@
 -- The machine of pairs is lawful.
-use Rattle.std.proofs.Common.{◌≡◌, ℕ, ◌+◌, ◌*◌, ◌<◌, ◌≤◌, ◌++◌, ◌∙◌, [], ◌∷◌, map, List, Bool, true, false, refl, sym, ap, subst, arith, inl, Option, Some, None, ◌==◌, if◌then◌else◌, append-nil, append_assoc, length}
+use Rattle.std.proofs.Common.{◌≡◌, ℕ, ◌+◌, ◌*◌, ◌<◌, ◌≤◌, ◌++◌, ◌∙◌, [], ◌∷◌, map, List, Bool, true, false, refl, sym, ap, subst, arith, inl, Option, Some, None, ◌==◌, if◌then◌else◌, append-nil, length}
 use Rattle.engine_events.specs.declared.event.Event.{Event}
 use Rattle.engine_events.specs.declared.event.Name.{Name as EventName}
 use Rattle.engine_events.specs.declared.event.Name.TheVariants.{AttentionSequence, Data}
@@ -14,7 +14,7 @@ use Rattle.markdown_engine.specs.DescentLaws.{descends}
 use Rattle.markdown_engine.specs.Laws.{BeginAround, ClosesAt, Consumes, FallsAt, IsAhead, IsFed, IsFront, KeepsAt, LawfulAt, MovesOn, Nested, OnlyAdds, TidiesAt, remaining}
 use Rattle.markdown_engine.specs.Machine.{begun, consumed, entered, exited, plain}
 use Rattle.markdown_engine.specs.Order.{AreMarks, AreTidy, IsInnermost, IsTidy, Reaches, opened}
-use Rattle.markdown_engine.specs.OrderLaws.{consumed_tidy, entered_opened, entered_tidy, exit_place, exited_after, exited_opened, exited_tidy, handed_leads, handed_tidy, marks_pushed, moved_tidy, reaches_on, restored_fits, restored_tidy, stays, tidy_on}
+use Rattle.markdown_engine.specs.OrderLaws.{consumed_tidy, entered_opened, entered_tidy, exit_place, exited_after, exited_opened, exited_tidy, handed_tidy, marks_pushed, moved_tidy, reaches_on, restored_fits, restored_tidy, stays, tidy_on}
 use Rattle.markdown_engine.specs.Reading.{Config, Effect, handed, mark, moved, restore, resumed}
 use Rattle.markdown_engine.specs.Resolving.{Leaves, LeavesAt, ResolvesAt, Unresolved, resolves_nothing, settles_whole}
 use Rattle.markdown_engine.specs.ResolvingLaws.{lawful_unresolved, resolves_unresolved}

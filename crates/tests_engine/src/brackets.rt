@@ -12,6 +12,7 @@ ghost use Rattle.tests_engine.specs.Brackets.{Bracketed, items, rest, group, clo
 ghost use Rattle.markdown_engine.specs.Context.{context};
 ghost use Rattle.markdown_engine.specs.Resolving.{Unresolved, resolves_nothing, settles_whole};
 ghost use Rattle.tests_engine.specs.BracketsLaws.{brackets_lawful, brackets_resolves};
+ghost use Rattle.tests_engine.specs.declared.brackets.Brackets.{Brackets};
 ghost use Rattle.tests_engine.specs.Readings.{ReadsChains};
 
 use crate::readings::{read_at_once, read_chains};
@@ -103,6 +104,10 @@ fn close<M, T, A: Allocator>(tokenizer: &mut Tokenizer<'_, M, T, A>) -> State
 pub struct Brackets;
 
 impl<T: Tables> Machine<T> for Brackets {
+    ghost Seen = { Brackets };
+
+    ghost seen = { λ machine. machine };
+
     ghost step = { λ x. brackets_step };
 
     ghost valid = { λ x. Unresolved (brackets_valid (length x.bytes)) };
@@ -197,7 +202,8 @@ pub fn read_groups<T: Tables, A: Allocator + Clone>(
     machine: Brackets,
     filter: Option<&Content>,
 ) -> Result<Option<Subresult<A>>, Message>
-    ensures read { IfOk result (λ found. ReadsChains (λ x. brackets_step) (λ x. resolves_nothing) (context parse_state.now) machine (option_copied filter.entry) events.old.items events.new.items found) }
+    ensures read { IfOk result (λ found. ReadsChains (λ x. brackets_step) (λ x. resolves_nothing) (context parse_state.now) machine
+        (option_copied filter.entry) events.old.items events.new.items found) }
     ensures memory { IfErr result (λ message. IsOutOfMemory message) }
 {
     read_chains(events, parse_state, machine, filter)

@@ -1,5 +1,5 @@
 //! A machine that consumes every byte and counts its calls.
-ghost use Rattle.std.specs.Prelude.{length};
+ghost use Rattle.std.specs.Prelude.{length, ℕ};
 ghost use Rattle.markdown_engine.specs.Resolving.{Unresolved, resolves_nothing, settles_whole};
 ghost use Rattle.tests_engine.specs.Counting.{count_step, counts};
 ghost use Rattle.tests_engine.specs.CountingLaws.{count_lawful, count_resolves};
@@ -20,6 +20,10 @@ pub struct Count {
 }
 
 impl<T: Tables> Machine<T> for Count {
+    ghost Seen = { ℕ };
+
+    ghost seen = { λ machine. machine.calls };
+
     ghost step = { λ x. count_step };
 
     ghost valid = { λ x. Unresolved counts };

@@ -7,6 +7,7 @@ ghost use Rattle.markdown_engine.specs.Resolving.{Unresolved, resolves_nothing, 
 ghost use Rattle.tests_engine.specs.EachByte.{each_rank};
 ghost use Rattle.tests_engine.specs.Letters.{letter_step, reads_letters};
 ghost use Rattle.tests_engine.specs.LettersLaws.{letter_lawful, letter_resolves};
+ghost use Rattle.tests_engine.specs.declared.letters.Letters.{Letters};
 ghost use Rattle.tests_engine.specs.Readings.{ReadsChains};
 
 use crate::readings::read_chains;
@@ -23,6 +24,10 @@ use std::alloc::Allocator;
 pub struct Letters;
 
 impl<T: Tables> Machine<T> for Letters {
+    ghost Seen = { Letters };
+
+    ghost seen = { λ machine. machine };
+
     ghost step = { λ x. letter_step };
 
     ghost valid = { λ x. Unresolved reads_letters };
@@ -70,7 +75,8 @@ pub fn read_letters<T: Tables, A: Allocator + Clone>(
     machine: Letters,
     filter: Option<&Content>,
 ) -> Result<Option<Subresult<A>>, Message>
-    ensures read { IfOk result (λ found. ReadsChains (λ x. letter_step) (λ x. resolves_nothing) (context parse_state.now) machine (option_copied filter.entry) events.old.items events.new.items found) }
+    ensures read { IfOk result (λ found. ReadsChains (λ x. letter_step) (λ x. resolves_nothing) (context parse_state.now) machine
+        (option_copied filter.entry) events.old.items events.new.items found) }
     ensures memory { IfErr result (λ message. IsOutOfMemory message) }
 {
     read_chains(events, parse_state, machine, filter)

@@ -7,6 +7,7 @@ ghost use Rattle.markdown_engine.specs.Machine.{Answers, config};
 ghost use Rattle.engine_events.specs.declared.event.Name.TheVariants as names;
 ghost use Rattle.markdown_engine.specs.Order.{AreInOrder, IsBalanced, IsInnermost};
 ghost use Rattle.markdown_engine.specs.Resolving.{Unresolved, resolves_nothing, settles_whole};
+ghost use Rattle.tests_engine.specs.declared.pairs.Pairs.{Pairs};
 ghost use Rattle.tests_engine.specs.Pairs.{items, first, second, single, pair, close, part, Part, Items, First, Second, Single, Pair, Close, Paired, pairs_rank, pairs_step, pairs_valid};
 ghost use Rattle.tests_engine.specs.PairsLaws.{pairs_lawful, pairs_resolves};
 
@@ -128,6 +129,10 @@ fn close<M, T, A: Allocator>(tokenizer: &mut Tokenizer<'_, M, T, A>) -> State
 pub struct Pairs;
 
 impl<T: Tables> Machine<T> for Pairs {
+    ghost Seen = { Pairs };
+
+    ghost seen = { λ machine. machine };
+
     ghost step = { λ x. pairs_step };
 
     ghost valid = { λ x. Unresolved (pairs_valid (length x.bytes)) };

@@ -25,8 +25,8 @@ pub fn read_at_once<M: Machine<T> + Drop, T: Tables, A: Allocator + Clone>(
     machine: M,
     first: Name,
 ) -> Result<Vec<Event, A>, Message>
-    requires begins { M.valid (context parse_state.now) (fresh text_start machine) [] (states.Next first) }
-    ensures reads { IfOk result (λ events. IsReading (M.step (context parse_state.now)) first parse_state.now.bytes.now machine events.items) }
+    requires begins { M.valid (context parse_state.now) (fresh text_start (M.seen machine)) [] (states.Next first) }
+    ensures reads { IfOk result (λ events. IsReading (M.step (context parse_state.now)) first parse_state.now.bytes.now (M.seen machine) events.items) }
     ensures balanced { IfOk result (λ events. IsBalanced events.items) }
     ensures order { IfOk result (λ events. AreInOrder events.items) }
     ensures memory { IfErr result (λ message. IsOutOfMemory message) }
@@ -47,8 +47,9 @@ pub fn read_chains<M: Machine<T> + Copy, T: Tables, A: Allocator + Clone>(
     machine: M,
     filter: Option<&Content>,
 ) -> Result<Option<Subresult<A>>, Message>
-    requires begins { MayBegin (M.valid (context parse_state.now)) machine events.old.items (chains (option_copied filter) events.old.items) }
-    ensures read { IfOk result (λ found. ReadsChains M.step M.resolved (context parse_state.now) machine (option_copied filter.entry) events.old.items events.new.items found) }
+    requires begins { MayBegin (M.valid (context parse_state.now)) (M.seen machine) events.old.items (chains (option_copied filter) events.old.items) }
+    ensures read { IfOk result (λ found. ReadsChains M.step M.resolved (context parse_state.now) (M.seen machine)
+        (option_copied filter.entry) events.old.items events.new.items found) }
     ensures memory { IfErr result (λ message. IsOutOfMemory message) }
 {
     let alloc = events.allocator().clone()?;

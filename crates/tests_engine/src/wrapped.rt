@@ -3,6 +3,7 @@ ghost use Rattle.std.specs.Prelude.{◌≡◌, ◌∷◌, [], length, IfOk, IfEr
 ghost use Rattle.markdown_options.specs.Messages.{IsOutOfMemory};
 ghost use Rattle.markdown_engine.specs.Order.{IsBalanced, AreInOrder};
 ghost use Rattle.markdown_engine.specs.Resolving.{found_in};
+ghost use Rattle.tests_engine.specs.declared.wrapped.Wrapped.{Wrapped};
 ghost use Rattle.tests_engine.specs.EachByte.{each_rank};
 ghost use Rattle.tests_engine.specs.Wrapped.{IsWrapped, one_found, reads_wrapped, settles_wrapped, wrapped_step, wraps_all};
 ghost use Rattle.tests_engine.specs.WrappedLaws.{wrapped_lawful, wrapped_resolves};
@@ -35,6 +36,10 @@ fn one<E: Drop, A: Allocator>(alloc: A, item: E) -> Result<Vec<E, A>, Message>
 }
 
 impl<T: Tables> Machine<T> for Wrapped {
+    ghost Seen = { Wrapped };
+
+    ghost seen = { λ machine. machine };
+
     ghost step = { λ x. wrapped_step };
 
     ghost valid = { λ x. reads_wrapped };

@@ -1,6 +1,6 @@
 use engine_chunks::chunks::{chunks, part_size};
 use engine_chunks::divide::divide_events;
-use engine_chunks::{link, link_to};
+use engine_chunks::{link, link_all, link_to};
 use engine_edits::EditMap;
 use engine_events::event::Name;
 use engine_events::{Content, Event, Kind, Link, Point};
@@ -95,4 +95,24 @@ fn a_part_goes_up_to_its_chunks_end(rt: HostRuntime) {
     assert_eq!(rt; part_size(&events, 0, &children, 0), 2);
     assert_eq!(rt; part_size(&events, 0, &children, 1), 1);
     assert_eq!(rt; part_size(&events, 1, &children, 0), 0);
+}
+
+#[test]
+fn chunks_are_joined_to_those_that_name_them(rt: HostRuntime) {
+    let mut events = [
+        at(Kind::Enter, Name::Data, 0, between(None, None)),
+        at(Kind::Exit, Name::Data, 1, None),
+        at(Kind::Enter, Name::Data, 1, between(Some(0), None)),
+        at(Kind::Exit, Name::Data, 2, None),
+        at(Kind::Enter, Name::Data, 2, between(Some(2), None)),
+        at(Kind::Exit, Name::Data, 3, None),
+        at(Kind::Enter, Name::Data, 3, between(Some(9), None)),
+        at(Kind::Exit, Name::Data, 4, None),
+    ];
+    link_all(&mut events);
+    assert_eq!(rt; events[0].link(), between(None, Some(2)));
+    assert_eq!(rt; events[2].link(), between(Some(0), Some(4)));
+    assert_eq!(rt; events[4].link(), between(Some(2), None));
+    assert_eq!(rt; events[6].link(), between(Some(9), None));
+    assert_eq!(rt; events[1].link(), None);
 }

@@ -40,7 +40,7 @@ loop-index-preserved g c =
     let step = g.M.Machine.step x in
     let resolve = g.M.Machine.resolved x in
     let bytes = c.args.parse_state.now.bytes.now in
-    let machine = c.args.machine in
+    let machine = g.M.Machine.seen c.args.machine in
     elim c.match-chain_content.branch [
       | in-Some+in_ok-children+in_ok-clone-2+in_ok-counts+in_ok-add_found w ↦ (
           let content = w.in-Some.content in

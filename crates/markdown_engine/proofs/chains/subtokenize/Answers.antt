@@ -1,34 +1,44 @@
-use Rattle.std.proofs.Common.{[], List, Option, length, subst}
+use Rattle.std.proofs.Common.{length}
 use Rattle.std.specs.Option.{option_copied}
-use Rattle.engine_events.specs.declared.event.Content.{Content}
-use Rattle.engine_events.specs.declared.event.Event.{Event}
-use Rattle.engine_edits.specs.Edits.{Placed, edits_of}
+use Rattle.engine_edits.specs.Edits.{edits_of}
 use Rattle.engine_edits.specs.Replacement.{IsOrdered}
 use Rattle.markdown_engine.proofs.ChainLaws.{divides_ordered, links_lead}
-use Rattle.markdown_engine.specs.Chains.{Divides, chains}
+use Rattle.markdown_engine.proofs.ChainSteps.{divides_as}
+use Rattle.markdown_engine.proofs.Computing.{chains_read}
+use Rattle.markdown_engine.specs.Chains.{chains}
 use Rattle.markdown_engine.specs.Context.{context}
-use Rattle.markdown_engine.specs.Resolving.{found_in, nothing_found}
+use Rattle.markdown_engine.specs.Resolving.{found_in}
 use Rattle.markdown_engine.proofs.chains.subtokenize.Goals as goal
 
 pub consume-requires : goal.consume-requires
 consume-requires g c =
     let x = context c.args.parse_state.now in
-    let step = g.M.Machine.step x in
-    let resolve = g.M.Machine.resolved x in
-    let bytes = c.args.parse_state.now.bytes.now in
-    let machine = c.args.machine in
     let events = c.args.events.now.items in
     let filter = option_copied c.args.filter in
     let all = edits_of c.divide_chains.new.map in
     let total = found_in c.in_ok-found.found in
-    let said : Divides step resolve bytes machine c.deref.result.now (chains c.copied.result c.deref.result.now) (0, 0) (edits_of c.new-map.result) all nothing_found total = c.in_ok-found.ensures.divides in
-    let of : Divides step resolve bytes machine events (chains c.copied.result events) (0, 0) (edits_of c.new-map.result) all nothing_found total = subst (λ (z : List Event). Divides step resolve bytes machine z (chains c.copied.result z) (0, 0) (edits_of c.new-map.result) all nothing_found total) c.deref.ensures.value said in
-    let asked : Divides step resolve bytes machine events (chains filter events) (0, 0) (edits_of c.new-map.result) all nothing_found total = subst (λ (z : Option Content). Divides step resolve bytes machine events (chains z events) (0, 0) (edits_of c.new-map.result) all nothing_found total) c.copied.ensures of in
-    let none : Divides step resolve bytes machine events (chains filter events) (0, 0) [] all nothing_found total = subst (λ (z : List Placed). Divides step resolve bytes machine events (chains filter events) (0, 0) z all nothing_found total) c.new-map.ensures asked in
-    let ordered : IsOrdered 0 all (length events) = divides_ordered step resolve bytes machine events (chains filter events) all total (length events) none c.requires.readable.apart in
+    let divides = divides_as (g.M.Machine.step x) (g.M.Machine.resolved x) x.bytes (g.M.Machine.seen c.args.machine) c.deref.result.now events c.copied.result filter (edits_of c.new-map.result) all total c.deref.ensures.value c.copied.ensures c.new-map.ensures c.in_ok-found.ensures.divides in
+    let ordered : IsOrdered 0 all (length events) = divides_ordered (g.M.Machine.step x) (g.M.Machine.resolved x) x.bytes (g.M.Machine.seen c.args.machine) events (chains filter events) all total (length events) divides c.requires.readable.apart in
     rw c.args.events.now.ok.0 ordered
+
+pub returns-clause-read : goal.returns-clause-read
+returns-clause-read g c =
+    let x = context c.args.parse_state.now in
+    let events = c.args.events.now.items in
+    let filter = option_copied c.args.filter in
+    let all = edits_of c.divide_chains.new.map in
+    record {
+      edits = all;
+      divides = divides_as (g.M.Machine.step x) (g.M.Machine.resolved x) x.bytes (g.M.Machine.seen c.args.machine) c.deref.result.now events c.copied.result filter (edits_of c.new-map.result) all (found_in c.in_ok-found.found) c.deref.ensures.value c.copied.ensures c.new-map.ensures c.in_ok-found.ensures.divides;
+      edited = c.in_ok-consume.ensures.edited;
+    }
+
+pub returns-clause-evaluated : goal.returns-clause-evaluated
+returns-clause-evaluated g c =
+    let x = context c.args.parse_state.now in
+    chains_read x g.M.Machine.valid g.M.Machine.step g.M.Machine.rank g.M.Machine.resolved (g.M.Machine.seen c.args.machine) (option_copied c.args.filter) c.args.events.now.items c.consume.new.events.items (found_in c.in_ok-found.found) (g.met.M.Machine.lawful x) c.requires.readable c.requires.begins (returns-clause-read g c)
 
 pub returns-clause-links : goal.returns-clause-links
 returns-clause-links g c =
     let x = context c.args.parse_state.now in
-    links_lead (g.M.Machine.step x) (g.M.Machine.resolved x) c.args.parse_state.now.bytes.now c.args.machine (option_copied c.args.filter) c.args.events.now.items c.consume.new.events.items (found_in c.in_ok-found.found) c.requires.readable.apart
+    links_lead (g.M.Machine.step x) (g.M.Machine.resolved x) c.args.parse_state.now.bytes.now (g.M.Machine.seen c.args.machine) (option_copied c.args.filter) c.args.events.now.items c.consume.new.events.items (found_in c.in_ok-found.found) c.requires.readable.apart

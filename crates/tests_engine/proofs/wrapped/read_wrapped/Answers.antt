@@ -1,14 +1,13 @@
 use Rattle.std.proofs.Common.{Bool, cond, Option, Some, None, ◌≡◌, ◌∙◌, ◌⊎◌, ◌<◌, ℕ, List, [], true, false, length, refl, ap, subst, inl, inr, arith}
 use Rattle.engine_events.specs.declared.event.Event.{Event}
 use Rattle.engine_events.specs.declared.resolve.Name.{Name as Resolver}
-use Rattle.engine_events.specs.declared.resolve.Name.TheVariants as resolvers
 use Rattle.engine_events.specs.declared.state.Name.{Name}
 use Rattle.engine_events.specs.declared.place.Point.{Point}
 use Rattle.engine_events.specs.declared.state.State.{State}
 use Rattle.engine_events.specs.declared.state.State.TheVariants as states
 use Rattle.markdown_engine.specs.declared.attempt.Attempt.{Attempt}
 use Rattle.markdown_engine.specs.declared.tokenizer.Tokenizer.{Tokenizer}
-use Rattle.markdown_engine.specs.Machine.{Around, Begins, Completed, GoesAll, IsAfter, Opened, Refused, config, fresh, source, to_run_last}
+use Rattle.markdown_engine.specs.Machine.{Around, Begins, Completed, GoesAll, IsAfter, Opened, Refused, config, fresh, source}
 use Rattle.markdown_engine.specs.Order.{text_start}
 use Rattle.markdown_engine.specs.Reading.{Config, Frame, Outcome, Runs, ends-ok, ends-nok, next, retry, first, second, feed, hand_on, moved}
 use Rattle.markdown_engine.specs.Resolving.{Found, found_in, nothing_found, resolve_each}
@@ -45,8 +44,8 @@ module _ {T A : Type 0} (bytes : List ℕ) (machine : Wrapped) (old start new la
       let there : o.point ≡ text_start = begins_there (source old) old.point o.point o.begins ∙ ap (λ (z : Config Wrapped). z.point) e in
       o.config ∙ (ap (moved o.point) e ∙ ap (λ (z : Point). moved z (fresh text_start machine)) there)
 
-  read_all : config old ≡ fresh text_start machine → old.attempts.items ≡ [] → source old ≡ unskipped bytes → new.end ≡ (length bytes, 0) → Opened (0, 0) old start → Around start new → GoesAll wrapped_step (source start) (length bytes, 0) false wrapped_start start new s
-      → Completed (text_to (source new) new.end) wrapped_step wraps_all true s new last found → IsWrapped bytes machine last.events.items found
+  read_all : config old ≡ fresh text_start machine → old.attempts.items ≡ [] → source old ≡ unskipped bytes → new.end ≡ (length bytes, 0) → Opened (0, 0) old start → Around start new → GoesAll (λ m. m) wrapped_step (source start) (length bytes, 0) false wrapped_start start new s
+      → Completed (λ m. m) (text_to (source new) new.end) wrapped_step wraps_all true s new last found → IsWrapped bytes machine last.events.items found
   read_all e none from end o a g h =
       let to : ℕ × ℕ = (length bytes, 0) in
       let same : source start ≡ unskipped bytes = around old start o.same ∙ from in
@@ -107,7 +106,7 @@ returns-clause-reads g c =
       | inr p ↦ elim c.push-state.ensures.valid [
         | inl f ↦ absurd (let e : false ≡ true = c.in_ok-found.ensures.failed f in cc)
         | inr v ↦ read_all bytes c.args.machine old p.0 new last c.push-state.result (found_in c.in_ok-found.found) made.config made.attempts from c.push-state.ensures.end p.1 p.2.0
-            (unless_refused {P = GoesAll wrapped_step (source p.0) (length bytes, 0) false wrapped_start p.0 new c.push-state.result} c.push-state.result (not_wanted (config new) new.attempts.items c.push-state.result v) p.2.1) c.in_ok-found.ensures.completed
+            (unless_refused {P = GoesAll (λ m. m) wrapped_step (source p.0) (length bytes, 0) false wrapped_start p.0 new c.push-state.result} c.push-state.result (not_wanted (config new) new.attempts.items c.push-state.result v) p.2.1) c.in_ok-found.ensures.completed
       ]
     ]
 
