@@ -41,12 +41,12 @@ abbrev pub has : (ℕ → Bool) → Option ℕ → Bool
 has p None = false
 has p (Some b) = p b
 
--- What a state does. `Keep` changes what states keep but for the six names, of which `Hold` changes one. `Byte` goes on at the text's end or at a byte, `On` at one of some bytes or elsewhere, `AfterFeed` right after a line ending or elsewhere. `Tries` makes an attempt, or looks ahead, and is the last call.
+-- What a state does. `Keep` changes what states keep but for the six names, of which `Hold` changes one. `EnterLink` may begin a chunk that is read later. `Byte` goes on at the text's end or at a byte, `On` at one of some bytes or elsewhere, `AfterFeed` right after a line ending or elsewhere. `Tries` makes an attempt, or looks ahead, and is the last call.
 pub data Body (M : Type 0) : Type 0 where
   Answer : State → Body M
   Consume : Body M → Body M
   Enter : Token → Body M → Body M
-  EnterLink : Token → (Config M → Link) → Body M → Body M
+  EnterLink : Token → (Config M → Option Link) → Body M → Body M
   Exit : Token → Body M → Body M
   Keep : (f : Config M → Kept) → ((c : Config M) (i : ℕ) → held (f c) i ≡ held c.tokenize_state i) → Body M → Body M
   Hold : ℕ → EventName → Body M → Body M
@@ -77,7 +77,7 @@ module _ {M : Type 0} where
   run (Answer s) c = record { config = c; pushed = []; state = s }
   run (Consume b) c = run b (consumed c)
   run (Enter t b) c = run b (entered (named c.tokenize_state t) None c)
-  run (EnterLink t f b) c = run b (entered (named c.tokenize_state t) (Some (f c)) c)
+  run (EnterLink t f b) c = run b (entered (named c.tokenize_state t) (f c) c)
   run (Exit t b) c = run b (exited (named c.tokenize_state t) c)
   run (Keep f same b) c = run b (keeping f c)
   run (Hold i name b) c = run b (holding i name c)

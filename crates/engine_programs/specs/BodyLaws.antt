@@ -40,7 +40,7 @@ module _ {M : Type 0} where
   run_adds (Answer s) c = same_front c.events
   run_adds (Consume b) c = run_adds b (consumed c)
   run_adds (Enter t b) c = let d = entered (named c.tokenize_state t) None c in nested_on c.events d.events (run b d).pushed (run b d).config.events (_, refl) (run_adds b d)
-  run_adds (EnterLink t f b) c = let d = entered (named c.tokenize_state t) (Some (f c)) c in nested_on c.events d.events (run b d).pushed (run b d).config.events (_, refl) (run_adds b d)
+  run_adds (EnterLink t f b) c = let d = entered (named c.tokenize_state t) (f c) c in nested_on c.events d.events (run b d).pushed (run b d).config.events (_, refl) (run_adds b d)
   run_adds (Exit t b) c = let d = exited (named c.tokenize_state t) c in nested_on c.events d.events (run b d).pushed (run b d).config.events (_, refl) (run_adds b d)
   run_adds (Keep f same b) c = run_adds b (keeping f c)
   run_adds (Hold i name b) c = run_adds b (holding i name c)
@@ -471,7 +471,7 @@ module _ (sorts : Name → Sort) (size : ℕ) where
       run_fine (Answer s) n st start z c h i = answered s n st start z c h i
       run_fine (Consume b) n st start z c h i = let p = and_parts _ _ h in run_fine b n st start _ (consumed c) p.1 (consumed_inv n st start z c p.0 i)
       run_fine (Enter t b) n st start z c h i = run_fine b n st start _ (entered (named c.tokenize_state t) None c) h (entered_inv t None n st start z c i)
-      run_fine (EnterLink t f b) n st start z c h i = run_fine b n st start _ (entered (named c.tokenize_state t) (Some (f c)) c) h (entered_inv t (Some (f c)) n st start z c i)
+      run_fine (EnterLink t f b) n st start z c h i = run_fine b n st start _ (entered (named c.tokenize_state t) (f c) c) h (entered_inv t (f c) n st start z c i)
       run_fine (Exit t b) n st start z c h i =
           let p = and_parts _ _ h in
           let q = and_parts _ _ p.1 in

@@ -1,5 +1,5 @@
 //! An event round the byte at hand.
-ghost use Rattle.std.specs.Prelude.{◌≡◌, [], OnOk, IfErr, None};
+ghost use Rattle.std.specs.Prelude.{◌≡◌, [], ◌∷◌, OnOk, IfErr, None};
 ghost use Rattle.markdown_options.specs.Messages.{IsOutOfMemory};
 ghost use Rattle.markdown_engine.specs.Kept.{kept};
 ghost use Rattle.markdown_engine.specs.Machine.{Became, config, consumed, entered, exited};
@@ -24,6 +24,20 @@ pub fn around<M, T, A: Allocator>(
     tokenizer.enter(name)?;
     tokenizer.consume();
     tokenizer.exit(name)
+}
+
+/// Adds that something begins here, to be ended by the same state.
+pub fn begin<M, T, A: Allocator>(
+    tokenizer: &mut Tokenizer<'_, M, T, A>,
+    name: Name,
+) -> Result<(), Message>
+    ensures became { OnOk result (Became (entered name None (config tokenizer.old)) tokenizer.old tokenizer.new) }
+    ensures opened { OnOk result (opened [] tokenizer.new.events.items ≡ name ∷ opened [] tokenizer.old.events.items) }
+    ensures parse_state { tokenizer.new.parse_state ≡ tokenizer.old.parse_state }
+    ensures skips { tokenizer.new.skips ≡ tokenizer.old.skips }
+    ensures memory { IfErr result (λ message. IsOutOfMemory message) }
+{
+    tokenizer.enter(name)
 }
 
 /// Ends the innermost event, round which others are open.

@@ -1,0 +1,95 @@
+-- The machine of texts and strings is lawful.
+use Rattle.std.proofs.Common.{◌≡◌, ◌∙◌, ℕ, ◌<◌, ◌++◌, Bool, true, false, refl, sym, ap, length, List, [], Option, arith}
+use Rattle.engine_events.specs.declared.event.Name.{Name as EventName}
+use Rattle.engine_events.specs.declared.place.Point.{Point}
+use Rattle.engine_events.specs.declared.state.Inline.{Inline as InlineName}
+use Rattle.engine_events.specs.declared.state.Inline.TheVariants as inline_states
+use Rattle.engine_events.specs.declared.state.Name.{Name}
+use Rattle.engine_events.specs.declared.state.Name.TheVariants.{Inline}
+use Rattle.engine_events.specs.declared.state.State.TheVariants as states
+use Rattle.markdown_engine.specs.declared.attempt.Attempt.{Attempt}
+use Rattle.markdown_engine.specs.Context.{Context}
+use Rattle.markdown_engine.specs.Laws.{ClosesAt, FallsAt, KeepsAt, OnlyAdds, TidiesAt}
+use Rattle.markdown_engine.specs.Machine.{fresh}
+use Rattle.markdown_engine.specs.Order.{opened}
+use Rattle.markdown_engine.specs.Reading.{Config}
+use Rattle.markdown_engine.specs.Resolving.{ResolvesAt, resolves_nothing, settles_whole}
+use Rattle.engine_programs.specs.Bodies.{Answer, Body, named_all, step_by}
+use Rattle.engine_programs.specs.Sorts.{fits, implies}
+use Rattle.engine_programs.specs.Stacks.{program_rank, program_valid}
+use Rattle.engine_programs.specs.NameLaws.{implied}
+use Rattle.engine_programs.specs.ProgramLaws.{program_begins, program_closes, program_falls, program_keeps, program_open, program_resolves, program_tidy}
+use Rattle.engine_programs.specs.BodyLaws.{program_adds}
+use Rattle.inline_states_table.specs.declared.Group.{Group}
+use Rattle.inline_states_table.specs.declared.Group.TheVariants as groups
+use Rattle.inline_states_table.specs.Table.{inline_group, is_in, same_group, sorts}
+use Rattle.inline_states_leaves.specs.LeafStates.{leaves_fit}
+use Rattle.inline_states_html.specs.HtmlStates.{html_fits}
+use Rattle.inline_states_labels.specs.LabelStates.{labels_fit}
+use Rattle.inline_states_gfm.specs.GfmStates.{gfm_fits}
+use Rattle.inline_states.specs.declared.inlines.Inlines.{Inlines}
+use Rattle.inline_states.specs.Inlines.{bodies, body_of, whole_body}
+
+-- states of texts and strings fit the table, and so do states that aren't read yet
+whole_fits : (n : InlineName) → implies (is_in groups.Whole n) (fits sorts 64 (Inline n) (whole_body n)) ≡ true
+whole_fits inline_states.TextStart = refl
+whole_fits n = refl
+
+abbrev nothing : Body Inlines
+nothing = Answer states.Nok
+
+others_fit : (n : InlineName) → implies (is_in groups.Ends n) (fits sorts 64 (Inline n) nothing) ≡ true
+others_fit inline_states.TextStart = refl
+others_fit n = refl
+
+itself : (g : Group) → same_group g g ≡ true
+itself groups.Leaves = refl
+itself g = refl
+
+module _ {T : Type 0} (texts : List ℕ → Option (List ℕ)) (x : Context T) where
+  -- each group has its own test
+  group_fits : (g : Group) (n : InlineName) → inline_group n ≡ g → fits sorts 64 (Inline n) (body_of texts x g n) ≡ true
+  group_fits groups.Leaves n e = implied _ _ (leaves_fit Inlines texts x n) (ap (λ (g : Group). same_group g groups.Leaves) e)
+  group_fits groups.Html n e = implied _ _ (html_fits Inlines x n) (ap (λ (g : Group). same_group g groups.Html) e)
+  group_fits groups.Labels n e = implied _ _ (labels_fit Inlines x n) (ap (λ (g : Group). same_group g groups.Labels) e)
+  group_fits groups.Ends n e = implied _ _ (others_fit n) (ap (λ (g : Group). same_group g groups.Ends) e)
+  group_fits groups.Gfm n e = implied _ _ (gfm_fits Inlines x n) (ap (λ (g : Group). same_group g groups.Gfm) e)
+  group_fits groups.Whole n e = implied _ _ (whole_fits n) (ap (λ (g : Group). same_group g groups.Whole) e)
+
+  -- the bodies fit the table
+  inline_fits : (n : Name) → fits sorts 64 n (bodies texts x n) ≡ true
+  unfolding bodies
+  inline_fits (Inline n) = group_fits (inline_group n) n refl
+  inline_fits n = refl
+
+  least : 1 < 64
+  least = omega arith
+
+  pub inline_adds : OnlyAdds (step_by (bodies texts x))
+  inline_adds = program_adds (bodies texts x)
+
+  pub inline_keeps : KeepsAt (length x.bytes) (program_valid sorts 64 (length x.bytes)) (step_by (bodies texts x))
+  inline_keeps = program_keeps sorts 64 (length x.bytes) (bodies texts x) least inline_fits
+
+  pub inline_falls : FallsAt (length x.bytes) (program_valid sorts 64 (length x.bytes)) (step_by (bodies texts x)) (program_rank sorts 64 (length x.bytes))
+  inline_falls = program_falls sorts 64 (length x.bytes) (bodies texts x) least inline_fits
+
+  pub inline_tidy : TidiesAt {M = Inlines} (program_valid sorts 64 (length x.bytes))
+  inline_tidy = program_tidy sorts 64 (length x.bytes) (bodies texts x) least inline_fits
+
+  pub inline_closes : ClosesAt {M = Inlines} (program_valid sorts 64 (length x.bytes))
+  inline_closes = program_closes sorts 64 (length x.bytes) (bodies texts x) least inline_fits
+
+  pub inline_resolves : ResolvesAt {M = Inlines} (program_valid sorts 64 (length x.bytes)) resolves_nothing settles_whole
+  inline_resolves = program_resolves sorts 64 (length x.bytes) (bodies texts x) least inline_fits
+
+-- what is open where a state is called
+pub inline_open : {T : Type 0} (texts : List ℕ → Option (List ℕ)) (x : Context T) (c : Config Inlines) (stack : List Attempt) (n : Name) → program_valid sorts 64 (length x.bytes) c stack (states.Retry n) → (rest : List EventName) × (opened [] c.events ≡ named_all c.tokenize_state (sorts n).open_tokens ++ rest)
+inline_open texts x c stack n h = program_open sorts 64 (length x.bytes) (bodies texts x) (least texts x) (inline_fits texts x) c stack n h
+
+-- reading may begin with a text, or with a string
+pub text_begins : (size : ℕ) (machine : Inlines) (p : Point) → program_valid sorts 64 size (fresh p machine) [] (states.Next (Inline inline_states.TextStart))
+text_begins size machine p = program_begins sorts 64 size (Inline inline_states.TextStart) machine p refl refl refl refl
+
+pub string_begins : (size : ℕ) (machine : Inlines) (p : Point) → program_valid sorts 64 size (fresh p machine) [] (states.Next (Inline inline_states.StringStart))
+string_begins size machine p = program_begins sorts 64 size (Inline inline_states.StringStart) machine p refl refl refl refl

@@ -1,0 +1,4 @@
+pub mod Strings
+pub mod Text
+pub mod Inlines
+pub mod InlineLaws

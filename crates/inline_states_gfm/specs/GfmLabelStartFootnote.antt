@@ -1,0 +1,27 @@
+-- What the states of `gfm_label_start_footnote` do.
+use Rattle.std.specs.Prelude.{Bool, ◌==◌}
+use Rattle.engine_events.specs.declared.event.Name.TheVariants as names
+use Rattle.engine_events.specs.declared.state.Inline.TheVariants as inline_states
+use Rattle.engine_events.specs.declared.state.State.TheVariants as states
+use Rattle.engine_programs.specs.Bodies.{Fixed, Body, Answer, Enter, Exit, Byte, On, Test, around}
+use Rattle.inline_states_table.specs.Words.{next}
+use Rattle.engine_events.specs.declared.label.LabelKind.TheVariants as kinds
+use Rattle.inline_states_labels.specs.Start.{label_begun}
+
+module _ {M : Type 0} where
+  -- at a `[`
+  abbrev pub gfm_label_start_footnote_start : Bool → Body M
+  gfm_label_start_footnote_start on =
+      Byte (Answer states.Nok)
+      (On (λ b. b == 91)
+        (Test (λ c. on)
+          (Enter (Fixed names.GfmFootnoteCallLabel) (around (Fixed names.LabelMarker) (Answer (next inline_states.GfmLabelStartFootnoteOpen))))
+        (Answer states.Nok))
+      (Answer states.Nok))
+
+  -- after the `[`
+  abbrev pub gfm_label_start_footnote_open : Body M
+  gfm_label_start_footnote_open =
+      Byte (Answer states.Nok)
+      (On (λ b. b == 94) (around (Fixed names.GfmFootnoteCallMarker) (Exit (Fixed names.GfmFootnoteCallLabel) (label_begun kinds.GfmFootnote 6)))
+      (Answer states.Nok))

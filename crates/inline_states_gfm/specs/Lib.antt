@@ -1,0 +1,3 @@
+pub mod GfmLabelStartFootnote
+pub mod GfmTaskListItemCheck
+pub mod GfmStates

@@ -1,0 +1,3 @@
+pub mod Autolink
+pub mod HtmlText
+pub mod HtmlStates

@@ -1,0 +1,31 @@
+-- What the states of `label_start_image` do.
+use Rattle.std.specs.Prelude.{Bool, ◌==◌}
+use Rattle.engine_events.specs.declared.event.Name.TheVariants as names
+use Rattle.engine_events.specs.declared.state.Inline.TheVariants as inline_states
+use Rattle.engine_events.specs.declared.state.State.TheVariants as states
+use Rattle.engine_programs.specs.Bodies.{Fixed, Body, Answer, Enter, Exit, Byte, On, Test, around}
+use Rattle.inline_states_table.specs.Words.{next}
+use Rattle.engine_events.specs.declared.label.LabelKind.TheVariants as kinds
+use Rattle.inline_states_labels.specs.Start.{label_begun}
+
+module _ {M : Type 0} where
+  -- at a `!`
+  abbrev pub label_start_image_start : Bool → Body M
+  label_start_image_start on =
+      Byte (Answer states.Nok)
+      (On (λ b. b == 33)
+        (Test (λ c. on) (Enter (Fixed names.LabelImage) (around (Fixed names.LabelImageMarker) (Answer (next inline_states.LabelStartImageOpen))))
+        (Answer states.Nok))
+      (Answer states.Nok))
+
+  -- after the `!`
+  abbrev pub label_start_image_open : Body M
+  label_start_image_open =
+      Byte (Answer states.Nok)
+      (On (λ b. b == 91) (around (Fixed names.LabelMarker) (Exit (Fixed names.LabelImage) (Answer (next inline_states.LabelStartImageAfter))))
+      (Answer states.Nok))
+
+  -- after the `[`: while footnotes are called, no `^` follows
+  abbrev pub label_start_image_after : Bool → Body M
+  label_start_image_after footnotes =
+      On (λ b. b == 94) (Test (λ c. footnotes) (Answer states.Nok) (label_begun kinds.Image 6)) (label_begun kinds.Image 6)

@@ -1,0 +1,10 @@
+pub mod Chunk
+pub mod Start
+pub mod LabelStartImage
+pub mod LabelStartLink
+pub mod Label
+pub mod Title
+pub mod Destination
+pub mod SpaceOrTab
+pub mod SpaceOrTabEol
+pub mod LabelStates

@@ -1,0 +1,28 @@
+-- What the states of `inline_runs` do.
+use Rattle.std.specs.Prelude.{ℕ, Bool, refl, ◌==◌}
+use Rattle.engine_events.specs.declared.event.Name.TheVariants as names
+use Rattle.engine_events.specs.declared.resolve.Name.TheVariants as resolvers
+use Rattle.engine_events.specs.declared.state.Inline.TheVariants as inline_states
+use Rattle.engine_events.specs.declared.state.State.TheVariants as states
+use Rattle.engine_programs.specs.Bodies.{Fixed, Body, Answer, Consume, Enter, Exit, Keep, RegisterFirst, Byte, On, Test}
+use Rattle.inline_states_table.specs.Words.{next, at_marker}
+
+-- at the first byte of a run
+abbrev pub attention_open : {M : Type 0} → ℕ → Body M
+attention_open marker = Keep (λ c. record c.tokenize_state { marker = marker }) (λ c i. refl) (Enter (Fixed names.AttentionSequence) (Consume (Answer (next inline_states.AttentionInside))))
+
+module _ {M : Type 0} where
+  -- at a byte that may begin a run
+  abbrev pub attention_start : Bool → Bool → Body M
+  attention_start on strikethrough =
+      Byte (Answer states.Nok)
+      (On (λ b. b == 42) (Test (λ c. on) (attention_open 42) (Answer states.Nok))
+      (On (λ b. b == 95) (Test (λ c. on) (attention_open 95) (Answer states.Nok))
+      (On (λ b. b == 126) (Test (λ c. strikethrough) (attention_open 126) (Answer states.Nok)) (Answer states.Nok))))
+
+  -- in a run
+  abbrev pub attention_inside : Body M
+  attention_inside =
+      Byte (RegisterFirst resolvers.Attention (Exit (Fixed names.AttentionSequence) (Answer states.Ok)))
+      (Test at_marker (Consume (Answer (next inline_states.AttentionInside)))
+      (RegisterFirst resolvers.Attention (Exit (Fixed names.AttentionSequence) (Answer states.Ok))))

@@ -1,0 +1,25 @@
+-- What the states of `character_escape` do.
+use Rattle.std.specs.Prelude.{Bool, ◌==◌}
+use Rattle.std.specs.Char.{is_ascii_punctuation}
+use Rattle.engine_events.specs.declared.event.Name.TheVariants as names
+use Rattle.engine_events.specs.declared.state.Inline.TheVariants as inline_states
+use Rattle.engine_events.specs.declared.state.State.TheVariants as states
+use Rattle.engine_programs.specs.Bodies.{Fixed, Body, Answer, Enter, Exit, Byte, On, Test, around}
+use Rattle.inline_states_table.specs.Words.{next}
+
+module _ {M : Type 0} where
+  -- at a backslash
+  abbrev pub character_escape_start : Bool → Body M
+  character_escape_start on =
+      Byte (Answer states.Nok)
+      (On (λ b. b == 92)
+        (Test (λ c. on)
+          (Enter (Fixed names.CharacterEscape) (around (Fixed names.CharacterEscapeMarker) (Answer (next inline_states.CharacterEscapeInside))))
+        (Answer states.Nok))
+      (Answer states.Nok))
+
+  -- after the backslash
+  abbrev pub character_escape_inside : Body M
+  character_escape_inside =
+      Byte (Answer states.Nok)
+      (On is_ascii_punctuation (around (Fixed names.CharacterEscapeValue) (Exit (Fixed names.CharacterEscape) (Answer states.Ok))) (Answer states.Nok))

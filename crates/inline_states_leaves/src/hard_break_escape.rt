@@ -1,0 +1,35 @@
+//! Hard breaks by a backslash (CommonMark 6.7).
+//!
+//! ```text
+//! hard_break_escape ::= '\\', before a line ending
+//! ```
+ghost use Rattle.std.specs.Prelude.{[], ◌∷◌};
+ghost use Rattle.engine_events.specs.declared.event.Name.TheVariants as names;
+ghost use Rattle.markdown_engine.specs.Machine.{config, read_with};
+ghost use Rattle.engine_programs.specs.Bodies.{Fixed};
+ghost use Rattle.engine_programs.specs.Stacks.{Does, IsOpen};
+ghost use Rattle.inline_states_leaves.specs.HardBreakEscape.{hard_break_escape_start, hard_break_escape_after};
+
+use engine_programs::steps::{enter_to, exit_to};
+use inline_states_table::{next};
+use markdown_engine::event::Name as EventName;
+use markdown_engine::state::{Inline, State};
+use markdown_engine::tokenizer::Tokenizer;
+use std::alloc::Allocator;
+
+/// At a backslash.
+pub fn start<M, T, A: Allocator>(tokenizer: &mut Tokenizer<'_, M, T, A>) -> State
+    ensures { Does (hard_break_escape_start (read_with tokenizer.old).options.constructs.hard_break_escape) tokenizer.old tokenizer.new result }
+{
+if tokenizer.current != Some(b'\\') { return State::Nok; }
+if tokenizer.parse_state.options.constructs.hard_break_escape { enter_to(tokenizer, EventName::HardBreakEscape, next(Inline::HardBreakEscapeAfter)) } else { State::Nok }
+}
+
+/// After the backslash.
+pub fn after<M, T, A: Allocator>(tokenizer: &mut Tokenizer<'_, M, T, A>) -> State
+    requires { IsOpen (Fixed names.HardBreakEscape ∷ []) tokenizer.old }
+    ensures { Does hard_break_escape_after tokenizer.old tokenizer.new result }
+{
+if tokenizer.current != Some(b'\n') { return State::Nok; }
+exit_to(tokenizer, EventName::HardBreakEscape, State::Ok)
+}
