@@ -25,8 +25,8 @@ pub fn call<M, T: Tables, A: Allocator>(tokenizer: &mut Tokenizer<'_, M, T, A>, 
     ensures { Does (leaf_body (T.reference_of (read_with tokenizer.old).tables) (read_with tokenizer.old) state) tokenizer.old tokenizer.new result }
 {
 match state {
-Inline::AttentionStart => inline_runs::start(tokenizer),
-Inline::AttentionInside => inline_runs::inside(tokenizer),
+Inline::AttentionStart => attention::start(tokenizer),
+Inline::AttentionInside => attention::inside(tokenizer),
 Inline::CharacterEscapeStart => character_escape::start(tokenizer),
 Inline::CharacterEscapeInside => character_escape::inside(tokenizer),
 Inline::CharacterReferenceStart => character_reference::start(tokenizer),

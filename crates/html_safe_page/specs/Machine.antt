@@ -1,0 +1,54 @@
+-- The steps of the test, which keeps only the names of open tags.
+use Rattle.std.specs.Prelude.{ℕ, Bool, true, false, if◌then◌else◌, ◌==◌, ◌||◌, List, [], ◌∷◌, Option, None, Some, codes}
+use Rattle.std.specs.Option.{is_some, option_map}
+use Rattle.std.specs.Str.{bytes_eq}
+use Rattle.html_safe_page.specs.Table.{start_rows, void_rows}
+use Rattle.html_safe_page.specs.SafePage.{Kind, And, Quote, Less, Greater, Plain, kind, Tag, attribute_start, void_end}
+use Rattle.html_safe_page.specs.Reader.{and_then, strip, Quoted, longer, quoted, read_value, read_tag}
+
+abbrev pub begins_reference : List ℕ → Bool
+begins_reference after =
+    is_some (strip (codes "amp;") after) || is_some (strip (codes "quot;") after) || is_some (strip (codes "lt;") after) || is_some (strip (codes "gt;") after)
+
+abbrev pub stands : Kind → List ℕ → Bool
+stands And after = begins_reference after
+stands Quote after = false
+stands Less after = false
+stands Greater after = false
+stands Plain after = true
+
+-- a byte before others is, or begins, a letter
+abbrev pub may_stand : ℕ → List ℕ → Bool
+may_stand b after = stands (kind b) after
+
+-- what follows the attribute of this name that bytes begin with
+abbrev pub after_attribute : List ℕ → List ℕ → Option (List ℕ)
+after_attribute name bytes =
+    and_then (strip (attribute_start name) bytes) (λ start.
+    and_then (quoted start) (λ q.
+    if is_some (read_value name q.inside) then Some q.rest else None))
+
+-- a tag before its `>`, and what follows that
+abbrev pub split_tag : List ℕ → Option Quoted
+split_tag [] = None
+split_tag (b ∷ bs) = if b == 62 then Some (record { inside = []; rest = bs }) else (if b == 60 then None else option_map (longer b) (split_tag bs))
+
+-- the names of open tags, the innermost first, after an end tag
+abbrev pub close : List ℕ → List (List ℕ) → Option (List (List ℕ))
+close name [] = None
+close name (n ∷ names) = if bytes_eq name n then Some names else None
+
+-- after a start tag or else a void tag
+abbrev pub opened : Option Tag → Option Tag → List (List ℕ) → Option (List (List ℕ))
+opened (Some tag) other names = Some (tag.name ∷ names)
+opened None (Some tag) names = Some names
+opened None None names = None
+
+-- after a tag
+abbrev pub follows : List ℕ → List (List ℕ) → Option (List (List ℕ))
+follows [] names = None
+follows (b ∷ bs) names = if b == 47 then close bs names else opened (read_tag start_rows [] (b ∷ bs)) (read_tag void_rows void_end (b ∷ bs)) names
+
+-- names, if the test goes on
+abbrev pub followed : Bool → List (List ℕ) → Option (List (List ℕ))
+followed goes_on names = if goes_on then Some names else None

@@ -1,0 +1,172 @@
+-- The reading of a page, found from its last byte to its first.
+use Rattle.std.specs.Prelude.{ℕ, if◌then◌else◌, ◌==◌, List, [], ◌∷◌, Option, None, Some, codes}
+use Rattle.std.specs.Option.{option_map}
+use Rattle.std.specs.Str.{bytes_eq}
+use Rattle.html_safe_page.specs.Table.{Row, start_rows, void_rows}
+use Rattle.html_safe_page.specs.SafePage.{Kind, And, Quote, Less, Greater, Plain, kind, Attribute, Tag, Items, End, Letter, Void, Element, attribute_start, void_end, is_value}
+
+abbrev pub and_then : {A B : Type 0} → Option A → (A → Option B) → Option B
+and_then None f = None
+and_then (Some a) f = f a
+
+abbrev pub or_else : {A : Type 0} → Option A → Option A → Option A
+or_else None other = other
+or_else (Some a) other = Some a
+
+-- ---- texts
+
+-- what follows these bytes, if a text begins with them
+abbrev pub strip : List ℕ → List ℕ → Option (List ℕ)
+strip [] bs = Some bs
+strip (p ∷ ps) [] = None
+strip (p ∷ ps) (b ∷ bs) = if b == p then strip ps bs else None
+
+-- a text with a letter in place of the rest of its reference
+abbrev pub replace : ℕ → Option (List ℕ) → Option (List ℕ)
+replace b rest = option_map (λ bs. b ∷ bs) rest
+
+-- the text that follows `&`, with what that begins
+abbrev pub join_reference : List ℕ → Option (List ℕ)
+join_reference text =
+    or_else (replace 38 (strip (codes "amp;") text))
+    (or_else (replace 34 (strip (codes "quot;") text))
+    (or_else (replace 60 (strip (codes "lt;") text))
+    (replace 62 (strip (codes "gt;") text))))
+
+abbrev pub join_kind : Kind → ℕ → List ℕ → Option (List ℕ)
+join_kind And b text = join_reference text
+join_kind Quote b text = None
+join_kind Less b text = None
+join_kind Greater b text = None
+join_kind Plain b text = Some (b ∷ text)
+
+-- what a text stands for
+abbrev pub read_text : List ℕ → Option (List ℕ)
+read_text [] = Some []
+read_text (b ∷ bs) = and_then (read_text bs) (join_kind (kind b) b)
+
+-- ---- tags
+
+-- what stands before the first `"`, and after it
+pub record Quoted : Type 0 where
+  pub inside : List ℕ
+  pub rest : List ℕ
+
+abbrev pub longer : ℕ → Quoted → Quoted
+longer b q = record { inside = b ∷ q.inside; rest = q.rest }
+
+abbrev pub quoted : List ℕ → Option Quoted
+quoted [] = None
+quoted (b ∷ bs) = if b == 34 then Some (record { inside = []; rest = bs }) else option_map (longer b) (quoted bs)
+
+abbrev pub read_value : List ℕ → List ℕ → Option (List ℕ)
+read_value name bytes = and_then (read_text bytes) (λ v. if is_value name v then Some v else None)
+
+abbrev pub attribute : List ℕ → List ℕ → Attribute
+attribute name value = record { name = name; value = value }
+
+-- attributes of these names, and what ends the tag
+abbrev pub read_attributes : List (List ℕ) → List ℕ → List ℕ → Option (List Attribute)
+read_attributes [] ending bytes = if bytes_eq bytes ending then Some [] else None
+read_attributes (n ∷ ns) ending bytes =
+    and_then (strip (attribute_start n) bytes) (λ start.
+    and_then (quoted start) (λ q.
+    and_then (read_value n q.inside) (λ v.
+    option_map (λ others. attribute n v ∷ others) (read_attributes ns ending q.rest))))
+
+abbrev pub tag_of : List ℕ → List Attribute → Tag
+tag_of name attributes = record { name = name; attributes = attributes }
+
+abbrev pub read_row : List ℕ → List ℕ → Row → Option Tag
+read_row ending bytes row = and_then (strip row.name bytes) (λ rest. option_map (tag_of row.name) (read_attributes row.attributes ending rest))
+
+abbrev pub read_tag : List Row → List ℕ → List ℕ → Option Tag
+read_tag [] ending bytes = None
+read_tag (row ∷ rows) ending bytes = or_else (read_row ending bytes row) (read_tag rows ending bytes)
+
+-- ---- pages
+
+-- items up to the end; or up to an end tag of this name, and what follows it
+pub data Rest : Type 0 where
+  Last : Items → Rest
+  Then : Items → List ℕ → Rest → Rest
+
+-- what is read of the bytes from some place on: none that are a page's, these, or those of a tag and what follows it
+pub data Reading : Type 0 where
+  Nowhere : Reading
+  Outside : Rest → Reading
+  Inside : List ℕ → Rest → Reading
+
+abbrev pub at_first : (Items → Items) → Rest → Rest
+at_first f (Last items) = Last (f items)
+at_first f (Then items name rest) = Then (f items) name rest
+
+abbrev pub strip_letters : List ℕ → Items → Option Items
+strip_letters [] items = Some items
+strip_letters (p ∷ ps) End = None
+strip_letters (p ∷ ps) (Letter b items) = if b == p then strip_letters ps items else None
+strip_letters (p ∷ ps) (Void tag items) = None
+strip_letters (p ∷ ps) (Element tag inside items) = None
+
+abbrev pub replace_letters : ℕ → Option Items → Option Items
+replace_letters b rest = option_map (Letter b) rest
+
+abbrev pub join_letters : Items → Option Items
+join_letters items =
+    or_else (replace_letters 38 (strip_letters (codes "amp;") items))
+    (or_else (replace_letters 34 (strip_letters (codes "quot;") items))
+    (or_else (replace_letters 60 (strip_letters (codes "lt;") items))
+    (replace_letters 62 (strip_letters (codes "gt;") items))))
+
+abbrev pub outside : Option Rest → Reading
+outside None = Nowhere
+outside (Some rest) = Outside rest
+
+abbrev pub join_rest : Rest → Option Rest
+join_rest (Last items) = option_map (λ i. Last i) (join_letters items)
+join_rest (Then items name rest) = option_map (λ i. Then i name rest) (join_letters items)
+
+-- what a start tag makes of what follows it
+abbrev pub open_tag : Tag → Rest → Option Rest
+open_tag tag (Last items) = None
+open_tag tag (Then inside name rest) = if bytes_eq name tag.name then Some (at_first (Element tag inside) rest) else None
+
+-- what a start tag, or else a void tag, makes of what follows it
+abbrev pub open_or : Option Tag → Option Tag → Rest → Option Rest
+open_or (Some tag) other rest = open_tag tag rest
+open_or None (Some tag) rest = Some (at_first (Void tag) rest)
+open_or None None rest = None
+
+-- the bytes of a tag before what follows it
+abbrev pub read_opening : List ℕ → Rest → Option Rest
+read_opening bytes rest = open_or (read_tag start_rows [] bytes) (read_tag void_rows void_end bytes) rest
+
+abbrev pub read_mark : List ℕ → Rest → Option Rest
+read_mark [] rest = None
+read_mark (b ∷ bs) rest = if b == 47 then Some (Then End bs rest) else read_opening (b ∷ bs) rest
+
+abbrev pub step : Kind → ℕ → Reading → Reading
+step kind b Nowhere = Nowhere
+step And b (Outside rest) = outside (join_rest rest)
+step Quote b (Outside rest) = Nowhere
+step Less b (Outside rest) = Nowhere
+step Greater b (Outside rest) = Inside [] rest
+step Plain b (Outside rest) = Outside (at_first (Letter b) rest)
+step Less b (Inside bytes rest) = outside (read_mark bytes rest)
+step Greater b (Inside bytes rest) = Nowhere
+step And b (Inside bytes rest) = Inside (b ∷ bytes) rest
+step Quote b (Inside bytes rest) = Inside (b ∷ bytes) rest
+step Plain b (Inside bytes rest) = Inside (b ∷ bytes) rest
+
+abbrev pub read : List ℕ → Reading
+read [] = Outside (Last End)
+read (b ∷ bs) = step (kind b) b (read bs)
+
+abbrev pub whole : Reading → Option Items
+whole Nowhere = None
+whole (Inside bytes rest) = None
+whole (Outside (Last items)) = Some items
+whole (Outside (Then items name rest)) = None
+
+abbrev pub read_page : List ℕ → Option Items
+read_page page = whole (read page)

@@ -1,0 +1,131 @@
+-- What a safe HTML page is.
+use Rattle.std.specs.Prelude.{◌≡◌, ℕ, Bool, true, false, if◌then◌else◌, ◌==◌, ◌&&◌, List, [], ◌∷◌, ◌++◌, codes, IsTrue}
+use Rattle.std.specs.List.{list_any, list_all}
+use Rattle.std.specs.Str.{bytes_eq}
+use Rattle.definition_page.specs.Urls.{permitted, href_protocols, src_protocols}
+use Rattle.html_safe_page.specs.Table.{Row, start_rows, void_rows}
+
+-- ---- letters
+
+-- the four bytes that are spelled as references, and the others
+pub data Kind : Type 0 where
+  And : Kind
+  Quote : Kind
+  Less : Kind
+  Greater : Kind
+  Plain : Kind
+
+abbrev pub kind : ℕ → Kind
+kind b = if b == 38 then And else (if b == 34 then Quote else (if b == 60 then Less else (if b == 62 then Greater else Plain)))
+
+abbrev pub spelled : Kind → ℕ → List ℕ
+spelled And b = codes "&amp;"
+spelled Quote b = codes "&quot;"
+spelled Less b = codes "&lt;"
+spelled Greater b = codes "&gt;"
+spelled Plain b = b ∷ []
+
+-- a byte of a text, as a page spells it: one of the four as its reference, any other as itself
+abbrev pub spell_letter : ℕ → List ℕ
+spell_letter b = spelled (kind b) b
+
+-- a text, before other bytes
+abbrev pub spell_text : List ℕ → List ℕ → List ℕ
+spell_text [] after = after
+spell_text (b ∷ bs) after = spell_letter b ++ spell_text bs after
+
+-- ---- tags
+
+-- an attribute; its value is what its letters and references stand for
+pub record Attribute : Type 0 where
+  pub name : List ℕ
+  pub value : List ℕ
+
+pub record Tag : Type 0 where
+  pub name : List ℕ
+  pub attributes : List Attribute
+
+-- what begins an attribute
+abbrev pub attribute_start : List ℕ → List ℕ
+attribute_start name = 32 ∷ (name ++ codes "=\"")
+
+abbrev pub spell_attributes : List Attribute → List ℕ → List ℕ
+spell_attributes [] after = after
+spell_attributes (a ∷ others) after = attribute_start a.name ++ spell_text a.value (34 ∷ spell_attributes others after)
+
+-- a tag after its `<` and before what ends it
+abbrev pub spell_tag : Tag → List ℕ → List ℕ
+spell_tag tag after = tag.name ++ spell_attributes tag.attributes after
+
+-- ---- items
+
+-- a list of items
+pub data Items : Type 0 where
+  End : Items
+  -- a letter, spelled as it is or as a reference
+  Letter : ℕ → Items → Items
+  -- a void tag
+  Void : Tag → Items → Items
+  -- a start tag, items and the same end tag
+  Element : Tag → Items → Items → Items
+
+-- what ends a void tag within its `<` and `>`
+abbrev pub void_end : List ℕ
+void_end = codes " /"
+
+-- items, before other bytes
+abbrev pub spell_before : Items → List ℕ → List ℕ
+spell_before End after = after
+spell_before (Letter b items) after = spell_letter b ++ spell_before items after
+spell_before (Void tag items) after = 60 ∷ spell_tag tag (void_end ++ (62 ∷ spell_before items after))
+spell_before (Element tag inside items) after =
+    60 ∷ spell_tag tag (62 ∷ spell_before inside (60 ∷ 47 ∷ (tag.name ++ (62 ∷ spell_before items after))))
+
+abbrev pub spell : Items → List ℕ
+spell items = spell_before items []
+
+-- items, and then other ones
+abbrev pub join : Items → Items → Items
+join End others = others
+join (Letter b items) others = Letter b (join items others)
+join (Void tag items) others = Void tag (join items others)
+join (Element tag inside items) others = Element tag inside (join items others)
+
+-- ---- which are safe
+
+-- attributes have these names
+abbrev pub are_named : List (List ℕ) → List Attribute → Bool
+are_named [] [] = true
+are_named [] (a ∷ others) = false
+are_named (n ∷ ns) [] = false
+are_named (n ∷ ns) (a ∷ others) = bytes_eq n a.name && are_named ns others
+
+abbrev pub is_of_row : Tag → Row → Bool
+is_of_row tag row = bytes_eq row.name tag.name && are_named row.attributes tag.attributes
+
+-- the URLs that an attribute of this name takes
+abbrev pub is_value : List ℕ → List ℕ → Bool
+is_value name value =
+    if bytes_eq name (codes "href") then permitted href_protocols value
+    else (if bytes_eq name (codes "src") then permitted src_protocols value else true)
+
+abbrev pub is_tag_of : List Row → Tag → Bool
+is_tag_of rows tag = list_any (is_of_row tag) rows && list_all (λ a. is_value a.name a.value) tag.attributes
+
+abbrev pub is_safe : Items → Bool
+is_safe End = true
+is_safe (Letter b items) = is_safe items
+is_safe (Void tag items) = is_tag_of void_rows tag && is_safe items
+is_safe (Element tag inside items) = is_tag_of start_rows tag && (is_safe inside && is_safe items)
+
+-- items are a reading of a page
+abbrev pub IsReading : List ℕ → Items → Type 0
+IsReading page items = IsTrue (is_safe items) × (spell items ≡ page)
+
+-- a page has a reading
+abbrev pub IsSafePage : List ℕ → Type 0
+IsSafePage page = (items : Items) × IsReading page items
+
+-- it has no second one
+abbrev pub OneReading : Type 0
+OneReading = (page : List ℕ) (a b : Items) → IsReading page a → IsReading page b → a ≡ b

@@ -1,0 +1,75 @@
+//! Whether a page is safe.
+ghost use Rattle.std.specs.Prelude.{◌≡◌, ◌↔◌, IfOk, IsTrue};
+ghost use Rattle.html_safe_page.specs.SafePage.{IsSafePage, OneReading};
+ghost use Rattle.html_safe_page.specs.Closed.{Closed};
+ghost use Rattle.html_safe_page.specs.Machine.{split_tag, follows, followed};
+ghost use Rattle.html_safe_page.specs.Views.{split_of, open_names};
+
+use crate::letters::may_stand;
+use crate::tags::{START_ROWS, VOID_ROWS, tag_name};
+use std::alloc::{AllocError, Allocator};
+
+/// A page has at most one reading.
+pub fn has_one_reading()
+    ensures { OneReading }
+{}
+
+/// What safe pages are made of: texts, line endings, void tags, and elements, in a row.
+pub fn is_closed()
+    ensures { Closed }
+{}
+
+/// The bytes of a tag before its `>`, and what follows that.
+fn split_tag(bytes: &[u8]) -> Option<(&[u8], &[u8])>
+    ensures { split_of result ≡ split_tag bytes.now }
+{
+    for (i, b) in bytes.iter().enumerate() {
+        match *b {
+            b'>' => return Some((&bytes[..i], &bytes[i + 1..])),
+            b'<' => return None,
+            _ => {}
+        }
+    }
+    None
+}
+
+/// Opens or closes what a tag does, if it may stand here.
+fn follow<'a, A: Allocator>(names: &mut Vec<&'a [u8], A>, tag: &'a [u8]) -> Result<bool, AllocError>
+    ensures { IfOk result (λ goes_on. follows tag.now (open_names names.old.items) ≡ followed goes_on (open_names names.new.items)) }
+{
+    if tag.starts_with(b"/") {
+        return Ok(match names.pop() {
+            Some(name) => &tag[1..] == name,
+            None => false,
+        });
+    }
+    if let Some(name) = tag_name(&START_ROWS, b"", tag) {
+        names.push(name)?;
+        return Ok(true);
+    }
+    Ok(tag_name(&VOID_ROWS, b" /", tag).is_some())
+}
+
+/// Whether a page is safe. Its open tags are kept in a list.
+pub fn is_safe_page<A: Allocator>(alloc: A, page: &str) -> Result<bool, AllocError>
+    ensures { IfOk result (λ safe. IsTrue safe ↔ IsSafePage page.now) }
+{
+    let mut names = Vec::new(alloc);
+    let mut rest = page.as_bytes();
+    while let Some((first, after)) = rest.split_first() {
+        if *first == b'<' {
+            let Some((tag, next)) = split_tag(after) else {
+                return Ok(false);
+            };
+            if !follow(&mut names, tag)? {
+                return Ok(false);
+            }
+            rest = next;
+        } else if may_stand(*first, after) {
+            rest = after;
+        } else {
+            return Ok(false);
+        }
+    }
+    Ok(names.is_empty())
+}

@@ -1,0 +1,64 @@
+//! Pages that are safe, and pages that are not.
+use html_safe_page::is_safe_page;
+use std::test::Fail;
+
+#[test]
+fn pages(rt: HostRuntime) -> Result<(), Fail> {
+    for (page, want) in [
+        ("", true),
+        ("<p>a &amp; é</p>\n", true),
+        ("<p>", false),
+        ("</p>", false),
+        ("<p></em></p>", false),
+        ("<br />", true),
+        ("<br>", false),
+        ("<img src=\"x\" alt=\"\" />", true),
+        ("<img src=\"x\" alt=\"\">", false),
+        ("<img alt=\"\" src=\"x\" />", false),
+        ("<a href=\"http://a\">b</a>", true),
+        ("<a href=\"javascript:b\">c</a>", false),
+        ("<a href=\"?javascript:b\">c</a>", true),
+        ("<a href=\"HTTPS:b&amp;c\" title=\"&quot;\">d</a>", true),
+        ("<img src=\"mailto:a\" alt=\"\" />", false),
+        ("<a href=\"j&amp;b:c\">d</a>", false),
+        ("a > b", false),
+        ("a \"b\"", false),
+        ("a &copy; b", false),
+        ("a & b", false),
+        ("&amp", false),
+        ("<p class=\"a\">b</p>", false),
+        ("<code class=\"a\">b</code>", true),
+        (
+            "<ul>\r\n<li id=\"x\"><input type=\"checkbox\" disabled=\"\" checked=\"\" /> a</li>\n</ul>",
+            true,
+        ),
+        (
+            "<input type=\"checkbox\" checked=\"\" disabled=\"\" />",
+            false,
+        ),
+        ("<p/>", false),
+        ("<p >a</p>", false),
+        (
+            "<a href=\"#a\" id=\"b\" data-footnote-ref=\"\" aria-describedby=\"c\">1</a>",
+            true,
+        ),
+        ("<h2 id=\"a\" class=\"b\">c</h2>", true),
+        ("<h2 id=\"a\">c</h2>", false),
+        (
+            "<section data-footnotes=\"\" class=\"footnotes\"></section>",
+            true,
+        ),
+        ("<p>a</p", false),
+        ("<p<em>>", false),
+        ("<em><strong>a</em></strong>", false),
+        ("<code class=\"a<b\">c</code>", false),
+        ("<script>a</script>", false),
+        ("<>", false),
+        ("</>", false),
+        ("<td align=\"left\">1</td>", true),
+        ("<blockquote>\n<hr />\n</blockquote>", true),
+    ] {
+        assert_eq!(rt; is_safe_page(rt.alloc(), page)?, want);
+    }
+    Ok(())
+}
