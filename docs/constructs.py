@@ -4,9 +4,10 @@
 usage: docs/constructs.py            writes the page
        docs/constructs.py --check    fails where the page is not what would be written
 
-A file belongs to the construct whose switch in `Constructs` it is named after: `code_text.rt` and `proofs/code_text` or
-`CodeText.antt`. The prefix of its crate is its room. Both ways fail on a gap: a construct that has a file in some room,
-but none in one that it needs, or no grammar at its reader's head.
+A file belongs to the construct whose switch in `Constructs` it is named after: `code_text.rt`, `proofs/code_text`,
+`CodeText.antt`, `CodeTextLemmas.antt`; SHARED names the constructs of the others. The prefix of its crate is its room.
+Both ways fail on a gap: a construct that has a file in some room, but none in one that it needs, or no grammar at its
+reader's head.
 """
 import os
 import re
@@ -16,25 +17,111 @@ TOP = os.path.dirname(os.path.dirname(os.path.realpath(__file__)))
 PAGE = os.path.join(TOP, "docs", "CONSTRUCTS.md")
 SWITCHES = "crates/markdown_options/src/configuration.rt"
 
-ROOMS = ("Definition", "Reader", "Printer", "Proofs", "Laws", "Tests")
+ROOMS = ("Definition", "Reader", "Printer", "Proofs", "Laws", "Tests", "Events")
 # The rooms that each construct needs. Not each has proofs of its own: many functions are proved with none.
 NEEDED = ("Definition", "Reader", "Printer", "Laws", "Tests")
-# The room of the code of a crate, by its name's prefix.
+# The room of the code of a crate, by its name's prefix; the first that fits counts.
 PREFIXES = {
     "definition_": "Definition",
+    "inline_states": "Events",
     "text_": "Reader",
     "block_": "Reader",
     "inline_": "Reader",
-    "engine_": "Reader",
     "html_": "Printer",
     "laws_": "Laws",
     "examples_": "Tests",
+    "tests_inline_states": "Events",
     "tests_": "Tests",
 }
-# Names of files that several constructs share.
+# Files that have no construct's name, and whose they are: what several constructs share, and further files of one. A path
+# is a crate and a file, without the part of the crate between. One that isn't there is passed over.
 SHARED = {
-    "hard_break": ("hard_break_escape", "hard_break_trailing"),
-    "label_start": ("label_start_image", "label_start_link"),
+    "definition_block/Definitions.antt": "definition",
+    "definition_block/HtmlNames.antt": "html_flow",
+    "definition_block/Lists.antt": "list_item",
+    "definition_inline/Destination.antt": "definition label_end",
+    "definition_inline/HardBreak.antt": "hard_break_escape hard_break_trailing",
+    "definition_inline/HtmlTags.antt": "html_flow html_text",
+    "definition_inline/Label.antt": "definition label_end",
+    "definition_inline/NextPair.antt": "attention",
+    "definition_inline/Pairing.antt": "attention",
+    "definition_inline/References.antt": "character_reference",
+    "definition_inline/Resource.antt": "label_end",
+    "definition_inline/RunPairs.antt": "attention",
+    "definition_inline/Scan.antt": "label_start_image label_start_link",
+    "definition_inline/Spans.antt": "attention",
+    "definition_inline/Title.antt": "definition label_end",
+    "block_parser/code.rt": "code_fenced code_indented",
+    "block_parser/heading.rt": "heading_atx heading_setext",
+    "inline_content/run.rt": "attention",
+    "inline_label_ends/forms.rt": "label_end",
+    "inline_leaves/backticks.rt": "code_text",
+    "inline_leaves/hard_break.rt": "hard_break_escape hard_break_trailing",
+    "inline_leaves/raw_text.rt": "code_text",
+    "inline_links/destination.rt": "definition label_end",
+    "inline_links/label.rt": "definition label_end",
+    "inline_links/resource.rt": "label_end",
+    "inline_links/title.rt": "definition label_end",
+    "inline_parser/label.rt": "label_start_image label_start_link",
+    "inline_parser/label_start.rt": "label_start_image label_start_link",
+    "inline_references/reference.rt": "character_reference",
+    "inline_runs/pairing.rt": "attention",
+    "inline_runs/run.rt": "attention",
+    "inline_runs/spans.rt": "attention",
+    "inline_spans/tell.rt": "attention",
+    "inline_tags/tags.rt": "html_flow html_text",
+    "html_inline/leaf.rt": "autolink character_escape character_reference hard_break_escape hard_break_trailing",
+    "html_inline/number.rt": "character_reference",
+    "html_inline/rows.rt": "attention label_end",
+    "html_inline/string.rt": "character_escape character_reference",
+    "html_inline/url.rt": "autolink label_end",
+    "html_page/code.rt": "code_fenced code_indented",
+    "html_page/container.rt": "block_quote list_item",
+    "html_page/heading.rt": "heading_atx heading_setext",
+    "html_page/list.rt": "list_item",
+    "html_page/loose.rt": "list_item",
+    "html_page/page.rt": "thematic_break",
+    "examples_block/Containers.antt": "block_quote list_item",
+    "examples_block/Leaves.antt": "definition heading_setext html_flow",
+    "examples_inline/Autolinks.antt": "autolink",
+    "examples_inline/CharacterEscapes.antt": "character_escape",
+    "examples_inline/CharacterReferences.antt": "character_reference",
+    "examples_inline/CodeSpans.antt": "code_text",
+    "examples_inline/Emphasis.antt": "attention",
+    "examples_inline/Images.antt": "label_end label_start_image",
+    "examples_inline/LabelStartImage.antt": "label_end",
+    "examples_inline/LabelStartLink.antt": "label_end",
+    "examples_inline/LineBreaks.antt": "hard_break_escape hard_break_trailing",
+    "examples_inline/Links.antt": "label_end label_start_link",
+    "examples_inline/RawHtml.antt": "html_text",
+    "tests_block/blocks.rt": "code_fenced code_indented heading_atx thematic_break",
+    "tests_block/containers.rt": "block_quote list_item",
+    "tests_block/definitions.rt": "definition",
+    "tests_block/headings.rt": "heading_setext",
+    "tests_block/html_blocks.rt": "html_flow",
+}
+# Laws whose names have another word before `_law` than the construct that they speak of.
+LAW_NAMES = {
+    "escape": "character_escape",
+    "fenced_code": "code_fenced",
+    "first_match": "label_end",
+    "grouped": "list_item",
+    "heading": "heading_atx heading_setext",
+    "html": "html_flow",
+    "indented_code": "code_indented",
+    "item": "list_item",
+    "labels_match": "label_end",
+    "list": "list_item",
+    "marker": "list_item",
+    "neighbours": "list_item",
+    "nested_links": "label_end",
+    "next_pair": "attention",
+    "pairs": "attention",
+    "parted": "list_item",
+    "quote": "block_quote",
+    "quotes": "block_quote",
+    "references": "label_end",
+    "string_escape": "character_escape",
 }
 # Why a construct has nothing in a room.
 WITHOUT = {
@@ -74,12 +161,17 @@ def snake_case(name):
     return re.sub(r"(?<!^)(?=[A-Z])", "_", name).lower()
 
 
+def stem_of(file):
+    """The name of a file or a folder of proofs in snake case. Lemmas on a construct have its name."""
+    stem, ending = os.path.splitext(file)
+    return stem if ending == ".rt" or not ending else snake_case(stem).removesuffix("_lemmas")
+
+
 def files_of(crate):
-    """The files of a crate and the folders of its proofs: the part of the crate, the name in snake case, and the path."""
+    """The files of a crate and the folders of its proofs: the part of the crate, and the path."""
     for part in ("src", "specs", "proofs"):
         for name in names_in(f"crates/{crate}/{part}"):
-            stem, ending = os.path.splitext(name)
-            yield part, stem if ending == ".rt" or not ending else snake_case(stem), f"crates/{crate}/{part}/{name}"
+            yield part, f"crates/{crate}/{part}/{name}"
 
 
 def room_of(crate, part):
@@ -89,28 +181,44 @@ def room_of(crate, part):
     return "Proofs" if is_proof and room in ("Definition", "Reader", "Printer") else room
 
 
+def laws_in(path):
+    """The constructs that the laws of a file speak of."""
+    for law in re.findall(r"\bpub fn (\w+)_law\b", text_of(path)):
+        yield from LAW_NAMES.get(law, law).split()
+
+
+def constructs_of(crate, part, path, room):
+    """The constructs that a file is of."""
+    file = os.path.basename(path)
+    yield stem_of(file)
+    yield from SHARED.get(f"{crate}/{file}", "").split()
+    if room == "Laws" and part == "src":
+        yield from laws_in(path)
+
+
 def places(names):
     """The paths of each construct and room."""
     found = {}
     for crate in crates():
-        for part, stem, path in files_of(crate):
+        for part, path in files_of(crate):
             room = room_of(crate, part)
-            for name in SHARED.get(stem, (stem,)):
+            for name in dict.fromkeys(constructs_of(crate, part, path, room)):
                 if room and name in names:
                     found.setdefault((name, room), []).append(path)
-            if room == "Laws" and part == "src":
-                for name in re.findall(r"\bpub fn (\w+)_law\b", text_of(path)):
-                    if name in names and path not in found.get((name, room), []):
-                        found.setdefault((name, room), []).append(path)
     return found
 
 
 def grammar_of(path):
-    """The rules at the head of a file: the lines that stand in."""
+    """The rules at the head of a file: the lines that stand in, each rule joined to one line."""
     head = re.match(r"(?://!.*\n)*", text_of(path))[0]
-    lines = [it[3:].rstrip() for it in head.splitlines()]
-    rules = [re.sub(r"\s+", " ", it.strip()) for it in lines if it.startswith("     ")]
-    return rules if any("::=" in it for it in rules) else []
+    rules = []
+    for line in (it[3:].rstrip() for it in head.splitlines()):
+        words = " ".join(line.split())
+        if line.startswith("     ") and "::=" in words:
+            rules.append(words)
+        elif line.startswith("     ") and rules:
+            rules[-1] += " " + words
+    return rules
 
 
 def grammar(paths):
@@ -127,28 +235,36 @@ def code(text):
 def link(name, path):
     """A link to a file. Its words are its crate, and the name of the file where that isn't the construct's."""
     _, crate, _, file = path.split("/", 3)
-    stem, ending = os.path.splitext(file)
-    stem = stem if ending == ".rt" or not ending else snake_case(stem)
+    stem = stem_of(file)
     words = crate if stem == name else f"{crate}/{stem}"
     return f"[`{words}`](../{path})"
 
 
+def own_first(name, paths):
+    """Paths, those that are named after a construct first."""
+    return sorted(paths, key=lambda it: stem_of(os.path.basename(it)) != name)
+
+
 def cell(name, room, found):
-    paths = found.get((name, room), [])
-    once = dict.fromkeys(link(name, it) for it in paths)
+    """The links of a construct in a room."""
+    once = dict.fromkeys(link(name, it) for it in own_first(name, found.get((name, room), [])))
     return "<br>".join(once) if once else WITHOUT.get((name, room), "")
 
 
-def row(name, found):
+def row(name, rooms, found):
     """The row of a construct, and whether it has a grammar."""
-    rules = grammar(found.get((name, "Reader"), []))
-    cells = [f"`{name}`", *(cell(name, room, found) for room in ROOMS), "<br>".join(map(code, rules))]
+    rules = grammar(own_first(name, found.get((name, "Reader"), [])))
+    cells = [f"`{name}`", *(cell(name, room, found) for room in rooms), "<br>".join(map(code, rules))]
     return f"| {' | '.join(cells)} |", bool(rules)
 
 
 HEAD = """# Constructs
 
-A file has the name of its construct, which is the name of its switch in `Constructs`: `code_text.rt` in code, `CodeText.antt` in specifications. The prefix of its crate says what is done there. So a row names crates, and a file only where its name is another. `docs/constructs.py` writes this page, and fails where a construct lacks a file that it needs.
+A file has the name of its construct, which is the name of its switch in `Constructs`: `code_text.rt` in code, `CodeText.antt` in specifications. The prefix of its crate says what is done there. So an entry names a crate, and the file only where that has another name: it is shared by several constructs, or one more of this one.
+
+Not in the table, since it holds all of them: what a block prints is defined in [`BlockPieces.antt`](../crates/definition_page/specs/BlockPieces.antt), what a part of a text prints in [`InlinePieces.antt`](../crates/definition_page/specs/InlinePieces.antt), and both are read to a page in [`Read.antt`](../crates/definition_page/specs/Read.antt).
+
+`docs/constructs.py` writes this page, and fails where a construct lacks a file that it needs.
 """
 
 
@@ -157,10 +273,11 @@ def page():
     names = switches()
     found = places(set(names))
     standing = [it for it in names if any((it, room) in found for room in NEEDED)]
-    lines = [HEAD, f"| Construct | {' | '.join(ROOMS)} | Grammar |", "|---" * (len(ROOMS) + 2) + "|"]
+    rooms = [it for it in ROOMS if any((name, it) in found for name in standing)]
+    lines = [HEAD, f"| Construct | {' | '.join(rooms)} | Grammar |", "|---" * (len(rooms) + 2) + "|"]
     gaps = []
     for name in standing:
-        line, has_grammar = row(name, found)
+        line, has_grammar = row(name, rooms, found)
         lines.append(line)
         lacking = [it for it in NEEDED if (name, it) not in found and (name, it) not in WITHOUT]
         gaps += [f"{name} has no {it.lower()}" for it in lacking]
