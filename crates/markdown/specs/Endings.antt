@@ -12,16 +12,18 @@ use Rattle.markdown.specs.Transfer.{AppendsAllOrNothing, AppendsBeginning, Tells
 use Rattle.markdown.specs.Watched.{came_to_end, device, has_failed}
 
 -- how a conversion ends that reads from a reader and writes a page of what it read, by what the two were and are
-pub record Ends {D E : Type 0} (remaining : D → Option (List ℕ)) (contents : E → Option (List ℕ)) (reader reader' : Watched D) (writer writer' : Watched E)
-    (ok : Bool) (page : List ℕ → List ℕ) : Type 0 where
+pub record Ends {D E : Type 0} (remaining : D → Option (List ℕ)) (contents : E → Option (List ℕ))
+    (reader reader' : Watched D) (writer writer' : Watched E) (ok : Bool) (page : List ℕ → List ℕ) : Type 0 where
   -- well: the page of all that was read was written, and nothing else
   pub whole : ok ≡ true → IfSome (remaining (device reader)) (λ text. Appends (contents (device writer)) (contents (device writer')) (page text))
   -- where the reader failed, nothing was written
   pub read : has_failed reader' ≡ true → (ok ≡ false) × Keeps (contents (device writer)) (contents (device writer'))
   -- nor where more than the size was read
-  pub size : TellsMore SIZE_MAX (remaining (device reader)) (remaining (device reader')) → (ok ≡ false) × Keeps (contents (device writer)) (contents (device writer'))
+  pub size : TellsMore SIZE_MAX (remaining (device reader)) (remaining (device reader'))
+      → (ok ≡ false) × Keeps (contents (device writer)) (contents (device writer'))
   -- nor where what was read to its end is not UTF-8
-  pub utf8 : came_to_end reader reader' ≡ true → IfSome (remaining (device reader)) (λ text. ¬ IsUtf8 text → (ok ≡ false) × Keeps (contents (device writer)) (contents (device writer')))
+  pub utf8 : came_to_end reader reader' ≡ true
+      → IfSome (remaining (device reader)) (λ text. ¬ IsUtf8 text → (ok ≡ false) × Keeps (contents (device writer)) (contents (device writer')))
   -- where the writer failed, what was written is a beginning of the page
   pub write : has_failed writer' ≡ true
       → (ok ≡ false) × IfSome (remaining (device reader)) (λ text. AppendsBeginning (contents (device writer)) (contents (device writer')) (page text))
@@ -30,6 +32,7 @@ pub record Ends {D E : Type 0} (remaining : D → Option (List ℕ)) (contents :
       → IfSome (remaining (device reader)) (λ text. AppendsAllOrNothing (contents (device writer)) (contents (device writer')) (page text))
 
 -- so ends one by the tables of a path
-abbrev pub EndsBy : {D E : Type 0} → Option (List ℕ) → Options → (D → Option (List ℕ)) → (E → Option (List ℕ)) → Watched D → Watched D → Watched E → Watched E → Bool → Type 0
+abbrev pub EndsBy : {D E : Type 0} → Option (List ℕ) → Options → (D → Option (List ℕ)) → (E → Option (List ℕ))
+    → Watched D → Watched D → Watched E → Watched E → Bool → Type 0
 EndsBy path options remaining contents reader reader' writer writer' ok =
     (tables : TextTables) × AreTables path tables × Ends remaining contents reader reader' writer writer' ok (λ text. html tables text options)

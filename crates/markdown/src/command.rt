@@ -1,5 +1,6 @@
 //! The program, over any reader and writer.
-ghost use Rattle.std.specs.Prelude.{◌≡◌, ◌≤◌, ◌⊎◌, ◌==◌, IfOk, IfErr, OnOk, is_err, is_ok, map, option_map, string_bytes, true, false, [], List, ℕ, None};
+ghost use Rattle.std.specs.Prelude.{◌≡◌, ◌≤◌, ◌⊎◌, ◌==◌, ℕ, List, [], IfOk, IfErr, OnOk, is_ok};
+ghost use Rattle.std.specs.Prelude.{map, option_map, string_bytes, true, false, None};
 ghost use Rattle.std.specs.Io.KnownBytes.{Keeps};
 ghost use Rattle.markdown_options.specs.Built.{is_built};
 ghost use Rattle.markdown_definition.specs.TextTables.{text_tables};
@@ -97,7 +98,8 @@ fn page<R: Read, W: Write>(
     requires reader { has_failed reader.old ≡ false }
     requires writer { has_failed writer.old ≡ false }
     requires built { is_built settings.now.options.parse.constructs ≡ true }
-    ensures page { EndsBy (option_map string_bytes settings.now.references) settings.now.options R.remaining W.contents reader.old reader.new writer.old writer.new (is_ok result) }
+    ensures page { EndsBy (option_map string_bytes settings.now.references) settings.now.options
+        R.remaining W.contents reader.old reader.new writer.old writer.new (is_ok result) }
     ensures status { IfErr result (λ fault. status_of fault ≡ 1) }
 {
     match &settings.references {
@@ -134,7 +136,8 @@ fn print<R: Read, W: Write, T: Tables>(
     requires reader { has_failed reader.old ≡ false }
     requires writer { has_failed writer.old ≡ false }
     requires built { is_built options.now.parse.constructs ≡ true }
-    ensures page { Ends R.remaining W.contents reader.old reader.new writer.old writer.new (is_ok result) (λ text. html (text_tables (T.reference_of tables.now) (T.punctuation_of tables.now)) text options.now) }
+    ensures page { Ends R.remaining W.contents reader.old reader.new writer.old writer.new (is_ok result) (λ text.
+        html (text_tables (T.reference_of tables.now) (T.punctuation_of tables.now)) text options.now) }
     ensures status { IfErr result (λ fault. status_of fault ≡ 1) }
 {
     run(alloc, reader, writer, options, tables).map_err(Fault::Run)?;

@@ -68,7 +68,8 @@ pub fn to_html_with_tables<T: Tables, A: Allocator + Clone>(
 ) -> Result<String<A>, Message>
     requires size { length value.now ≤ SIZE_MAX }
     requires built { is_built options.now.parse.constructs ≡ true }
-    ensures page { IfOk result (λ page. string_bytes page ≡ html (text_tables (T.reference_of tables.now) (T.punctuation_of tables.now)) value.now options.now) }
+    ensures page { IfOk result (λ page.
+        string_bytes page ≡ html (text_tables (T.reference_of tables.now) (T.punctuation_of tables.now)) value.now options.now) }
     ensures memory { IfErr result (λ message. IsOutOfMemory message) }
 {
     let (before, text) = without_mark(value);
@@ -86,7 +87,8 @@ fn print<T: Tables, A: Allocator + Clone>(
 ) -> Result<String<A>, AllocError>
     requires size { length text.now ≤ SIZE_MAX }
     requires built { is_built options.now.parse.constructs ≡ true }
-    ensures { IfOk result (λ page. string_bytes page ≡ marked_html (text_tables (T.reference_of tables.now) (T.punctuation_of tables.now)) before text.now options.now) }
+    ensures { IfOk result (λ page.
+        string_bytes page ≡ marked_html (text_tables (T.reference_of tables.now) (T.punctuation_of tables.now)) before text.now options.now) }
 {
     let blocks = block_rows(alloc.clone()?, before, text, &options.parse.constructs)?;
     let ending = default_ending(text, options.compile.default_line_ending);

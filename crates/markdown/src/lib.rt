@@ -17,9 +17,8 @@ pub use convert::{fits, to_html, to_html_with_options, to_html_with_tables};
 pub use entry::start;
 pub use markdown_options::{
     CompileOptions, Constructs, LineEnding, LineEndingError, Message, Options, ParseOptions, Place,
-    Tables,
+    Tables, configuration, constants as constant, line_ending, message, unist,
 };
-pub use markdown_options::{configuration, constants as constant, line_ending, message, unist};
 pub use markdown_settings::{Settings, SettingsError, settings};
 pub use transfer::{RunError, run};
 pub use watched::Watched;

@@ -1,12 +1,14 @@
 //! From a reader to a writer.
-ghost use Rattle.std.specs.Prelude.{◌≡◌, ◌≤◌, ◌<◌, ◌+◌, ◌-◌, ◌||◌, IfOk, IfErr, OnOk, IfSome, IsTrue, is_err, is_ok, true, false, length, vec_len, string_bytes};
+ghost use Rattle.std.specs.Prelude.{◌≡◌, ◌≤◌, ◌<◌, ◌+◌, ◌-◌, ◌||◌};
+ghost use Rattle.std.specs.Prelude.{IfOk, IfErr, OnOk, IfSome, IsTrue, is_err, is_ok, true, false, length, vec_len, string_bytes};
 ghost use Rattle.std.specs.Io.{appended_bytes, StartsWith};
 ghost use Rattle.std.specs.Io.KnownBytes.{Appends, Consumes, IsAtEnd, Keeps};
 ghost use Rattle.markdown_options.specs.Built.{is_built};
 ghost use Rattle.markdown_definition.specs.Html.{html};
 ghost use Rattle.markdown_definition.specs.TextTables.{text_tables};
 ghost use Rattle.markdown.specs.Watched.{device, has_failed, has_ended};
-ghost use Rattle.markdown.specs.Faults.{is_read_error, is_write_error, is_size_error, is_utf8_error, read_failed, write_failed, size_failed, utf8_failed, reads_all, gave_none};
+ghost use Rattle.markdown.specs.Faults.{is_read_error, is_write_error, is_size_error, is_utf8_error};
+ghost use Rattle.markdown.specs.Faults.{read_failed, write_failed, size_failed, utf8_failed, reads_all, gave_none};
 ghost use Rattle.markdown.specs.Transfer.{AppendsBeginning, RefusesPast, RefusesUtf8};
 
 use crate::convert::{SIZE_MAX, to_html_with_tables};
@@ -84,7 +86,8 @@ pub fn run<A: Allocator + Clone, R: Read, W: Write, T: Tables>(
     ensures end { IsTrue (reads_all result) → has_ended reader.new ≡ true }
 
     // Once it came there, `Utf8` is answered exactly where what was read is not UTF-8.
-    ensures utf8 { has_ended reader.old ≡ false → has_ended reader.new ≡ true → IfSome (R.remaining (device reader.old)) (λ text. RefusesUtf8 text (utf8_failed result)) }
+    ensures utf8 { has_ended reader.old ≡ false → has_ended reader.new ≡ true
+        → IfSome (R.remaining (device reader.old)) (λ text. RefusesUtf8 text (utf8_failed result)) }
 {
     let bytes = read_all(alloc.clone()?, reader)?;
     let page = page_of(alloc, &bytes, options, tables)?;
@@ -100,7 +103,8 @@ fn page_of<A: Allocator + Clone, T: Tables>(
 ) -> Result<String<A>, RunError>
     requires built { is_built options.now.parse.constructs ≡ true }
     requires fits { length bytes.now ≤ SIZE_MAX }
-    ensures ok { IfOk result (λ page. string_bytes page ≡ html (text_tables (T.reference_of tables.now) (T.punctuation_of tables.now)) bytes.now options.now) }
+    ensures ok { IfOk result (λ page.
+        string_bytes page ≡ html (text_tables (T.reference_of tables.now) (T.punctuation_of tables.now)) bytes.now options.now) }
     ensures utf8 { RefusesUtf8 bytes.now (utf8_failed result) }
     ensures others { IfErr result (λ e. (is_read_error e ≡ false) × (is_write_error e ≡ false) × (is_size_error e ≡ false)) }
 {
@@ -168,7 +172,8 @@ fn read_chunk<A: Allocator, R: Read>(
     ensures grows { IfOk result (λ n. vec_len bytes.new ≡ vec_len bytes.old + n) }
     ensures appends { OnOk result (StartsWith bytes.new.items bytes.old.items) }
     ensures fits { OnOk result (vec_len bytes.new ≤ SIZE_MAX) }
-    ensures known { OnOk result (Consumes (R.remaining (device reader.old)) (R.remaining (device reader.new)) (appended_bytes bytes.old.items bytes.new.items)) }
+    ensures known { OnOk result
+        (Consumes (R.remaining (device reader.old)) (R.remaining (device reader.new)) (appended_bytes bytes.old.items bytes.new.items)) }
     ensures last { IfOk result (λ n. n ≡ 0 → IsAtEnd (R.remaining (device reader.new))) }
     ensures read { has_failed reader.new ≡ read_failed result }
     ensures end { has_ended reader.new ≡ (has_ended reader.old || gave_none result) }

@@ -66,7 +66,7 @@ part_fits events k children = pick (nat_lt k (length events))
     pick false = omega arith
 
 -- edits that each remove a chunk, one after another up to an end
-abbrev AreChunks : ℕ → List Placed → ℕ → Type 0
+abbrev pub AreChunks : ℕ → List Placed → ℕ → Type 0
 AreChunks from [] end = from ≤ end
 AreChunks from (e ∷ es) end = (from ≤ e.at) × (e.remove ≡ 2) × AreChunks (e.at + 2) es end
 
@@ -139,16 +139,16 @@ stands_there from (x ∷ xs) ys e events p j h l i q =
     ∙ stands_there (x.at + 2) xs ys e events n j h.2 l i (omega arith)))
 
 -- the edits made so far, of which so many events go and come, and the chunks that are left
-record Made (edits : List Placed) (removed came : ℕ) (ks : List ℕ) (count : ℕ) : Type 0 where
-  end : ℕ
-  chunks : AreChunks 0 edits end
-  goes : removed ≡ 2 * length edits
-  comes : came ≡ added edits
-  apart : AreApart end ks count
+pub record Made (edits : List Placed) (removed came : ℕ) (ks : List ℕ) (count : ℕ) : Type 0 where
+  pub end : ℕ
+  pub chunks : AreChunks 0 edits end
+  pub goes : removed ≡ 2 * length edits
+  pub comes : came ≡ added edits
+  pub apart : AreApart end ks count
 
 module _ (events children : List Event) (ps : Places) where
   -- the part of the child events for a chunk
-  abbrev part_of : ℕ → ℕ → List Event
+  abbrev pub part_of : ℕ → ℕ → List Event
   part_of k from = map (relinked ps) (take (part_size events k (drop from children)) (drop from children))
 
   part_length : (k from : ℕ) → length (part_of k from) ≡ part_size events k (drop from children)
@@ -172,24 +172,28 @@ module _ (events children : List Event) (ps : Places) where
       } in
       subst (λ (z : List Placed). Made z (removed + 2) (came + size) ks count) (sym (edit_last k (part_of k from) edits h.end h.chunks low)) made
 
-  after_edits : (ks more : List ℕ) (from removed came count : ℕ) (edits : List Placed) → Made edits removed came (ks ++ more) count
+  pub after_edits : (ks more : List ℕ) (from removed came count : ℕ) (edits : List Placed) → Made edits removed came (ks ++ more) count
       → let n = counts events ks children from removed came in Made (divided_at events ks children ps from edits) n.0 n.1 more count
   after_edits [] more from removed came count edits h = h
   after_edits (k ∷ ks) more from removed came count edits h =
       let size = part_size events k (drop from children) in
       after_edits ks more (from + size) (removed + 2) (came + size) count (with_edit false k 2 (part_of k from) edits) (after_edit k (ks ++ more) from removed came count edits h)
 
-  -- edits are put after those made before
-  edits_follow : (ks more : List ℕ) (from removed came count : ℕ) (edits : List Placed) → Made edits removed came (ks ++ more) count
-      → (new : List Placed) × (divided_at events ks children ps from edits ≡ edits ++ new)
-  edits_follow [] more from removed came count edits h = ([], sym (append-nil edits))
-  edits_follow (k ∷ ks) more from removed came count edits h =
+  -- the edits of the chunks of a chain
+  abbrev pub chunk_edits : List ℕ → ℕ → List Placed
+  chunk_edits [] from = []
+  chunk_edits (k ∷ ks) from = placed k 2 (part_of k from) ∷ chunk_edits ks (from + part_size events k (drop from children))
+
+  -- they are put after those made before
+  pub edits_made : (ks more : List ℕ) (from removed came count : ℕ) (edits : List Placed) → Made edits removed came (ks ++ more) count → divided_at events ks children ps from edits ≡ edits ++ chunk_edits ks from
+  edits_made [] more from removed came count edits h = sym (append-nil edits)
+  edits_made (k ∷ ks) more from removed came count edits h =
       let size = part_size events k (drop from children) in
       let e = placed k 2 (part_of k from) in
       let next = with_edit false k 2 (part_of k from) edits in
-      let g = edits_follow ks more (from + size) (removed + 2) (came + size) count next (after_edit k (ks ++ more) from removed came count edits h) in
+      let g = edits_made ks more (from + size) (removed + 2) (came + size) count next (after_edit k (ks ++ more) from removed came count edits h) in
       let last : next ≡ edits ++ e ∷ [] = edit_last k (part_of k from) edits h.end h.chunks h.apart.0 in
-      (e ∷ g.0, g.1 ∙ (ap (λ (z : List Placed). z ++ g.0) last ∙ append_assoc edits (e ∷ []) g.0))
+      g ∙ (ap (λ (z : List Placed). z ++ chunk_edits ks (from + size)) last ∙ append_assoc edits (e ∷ []) (chunk_edits ks (from + size)))
 
 same_place : (a b : ℕ) → Some (Some a) ≡ Some (Some b) → a ≡ b
 same_place a b h = cc
@@ -232,16 +236,17 @@ module _ (events children : List Event) (ps : Places) (all : List Placed) (list 
         | inl i ↦
             let first : slice_get (rising at size ++ tail) j ≡ Some (Some (at + j)) = get_left (rising at size) tail j (omega arith) ∙ rising_at at size j i in
             let place : p ≡ at + j = same_place p (at + j) (sym q ∙ first) in
-            let new = edits_follow events children ps ks more (from + size) (removed + 2) (came + size) (length list) next after in
+            let new = chunk_edits events children ps ks (from + size) in
+            let follow = edits_made events children ps ks more (from + size) (removed + 2) (came + size) (length list) next after in
             let last : next ≡ edits ++ edit ∷ [] = edit_last k part edits h.end h.chunks h.apart.0 in
-            let joined : all ≡ (edits ++ edit ∷ []) ++ new.0 ++ rest = s ∙ (ap (λ (z : List Placed). z ++ rest) new.1 ∙ ap (λ (z : List Placed). z ++ new.0 ++ rest) last) in
-            let whole : all ≡ edits ++ edit ∷ (new.0 ++ rest) = joined ∙ (append_assoc (edits ++ edit ∷ []) new.0 rest ∙ append_assoc edits (edit ∷ []) (new.0 ++ rest)) in
+            let joined : all ≡ (edits ++ edit ∷ []) ++ new ++ rest = s ∙ (ap (λ (z : List Placed). z ++ rest) follow ∙ ap (λ (z : List Placed). z ++ new ++ rest) last) in
+            let whole : all ≡ edits ++ edit ∷ (new ++ rest) = joined ∙ (append_assoc (edits ++ edit ∷ []) new rest ∙ append_assoc edits (edit ∷ []) (new ++ rest)) in
             let room = chunks_room 0 edits h.end h.chunks in
             let goes = h.goes in
             let comes = h.comes in
             let low = h.apart.0 in
             let fits = apart_room (k + 2) (ks ++ more) (length list) h.apart.1 in
-            child_stands k from h.end j p edits (new.0 ++ rest) h.chunks low (omega arith) whole i (omega arith)
+            child_stands k from h.end j p edits (new ++ rest) h.chunks low (omega arith) whole i (omega arith)
         | inr i ↦
             let n = j - size in
             let later : slice_get (rising at size ++ tail) j ≡ slice_get tail n = get_after (rising at size) tail j n (omega arith) in
@@ -259,10 +264,11 @@ module _ {M : Type 0} (step : Steps M) (resolve : Resolves M) (bytes : List ℕ)
       let children = d.0 in
       let more = chunks_of old cs in
       let ps = places_of old ks children 0 acc.0 acc.1 in
-      let here = edits_follow old children ps ks more 0 acc.0 acc.1 count edits h in
+      let new = chunk_edits old children ps ks 0 in
+      let here = edits_made old children ps ks more 0 acc.0 acc.1 count edits h in
       let after = after_edits old children ps ks more 0 acc.0 acc.1 count edits h in
       let rest = divides_follow cs (counts old ks children 0 acc.0 acc.1) (divided old c.0 children acc edits) all (found_both found d.1) total count d.3 after in
-      (here.0 ++ rest.0, rest.1 ∙ (ap (λ (z : List Placed). z ++ rest.0) here.1 ∙ append_assoc edits here.0 rest.0))
+      (new ++ rest.0, rest.1 ∙ (ap (λ (z : List Placed). z ++ rest.0) here ∙ append_assoc edits new rest.0))
 
   chains_stand : (cs : List Chain) (acc : ℕ × ℕ) (edits all : List Placed) (found total : Found) (list : List Event) (d : Divides step resolve bytes machine old cs acc edits all found total) → Made edits acc.0 acc.1 (chunks_of old cs) (length list)
       → EachStands step resolve bytes machine old (replaced 0 all list) cs acc edits all found total d
@@ -281,7 +287,7 @@ module _ {M : Type 0} (step : Steps M) (resolve : Resolves M) (bytes : List ℕ)
       )
 
 -- no edit was made yet
-none_made : (count : ℕ) (ks : List ℕ) → AreApart 0 ks count → Made [] 0 0 ks count
+pub none_made : (count : ℕ) (ks : List ℕ) → AreApart 0 ks count → Made [] 0 0 ks count
 none_made count ks a = record {
   end = 0;
   chunks = omega arith;

@@ -16,13 +16,13 @@ use Rattle.markdown_engine.specs.Context.{Context}
 use Rattle.markdown_engine.specs.Evaluation.{AreReadingOf, IsReadingOf, StaysReading, after_chain, chain_edits, chain_reading, reading}
 use Rattle.markdown_engine.specs.Laws.{Holds, HoldsAt, IsFed, LawfulAt, Ranks, RanksAt}
 use Rattle.markdown_engine.specs.Machine.{Completed, GoesAll, Refused, bytes_of, shown, fresh, read_with, source}
-use Rattle.markdown_engine.specs.Reading.{Config, Outcome, Steps}
+use Rattle.markdown_engine.specs.Reading.{Config, Outcome, Runs, Steps, ended}
 use Rattle.markdown_engine.specs.Resolving.{Found, Resolves, found_both, nothing_found, resolve_all}
 use Rattle.markdown_engine.specs.VirtualText.{IsCut, Source, text_to, unskipped, with_skip}
 use Rattle.markdown_engine.proofs.ChainSteps.{apart_first, apart_front, apart_rest, after_front}
 use Rattle.markdown_engine.proofs.Push.{unless_refused}
 use Rattle.markdown_engine.proofs.Total.{feeds_to, has_outcome}
-use Rattle.markdown_engine.proofs.Turns.{rank_enough}
+use Rattle.markdown_engine.proofs.Turns.{rank_enough, reads_valid}
 
 -- a text up to where it may be cut feeds
 feeds : (s : Source) (to : ℕ × ℕ) (bytes : List ℕ) → s.bytes ≡ bytes → IsCut s.bytes to → (p : Point) → let text = text_to s to in IsFed (length bytes) p (text.start p) (text.byte (text.start p))
@@ -31,6 +31,9 @@ feeds s to bytes e cut p = subst (λ (z : List ℕ). let text = text_to s to in 
 module _ {M : Type 0} (bytes : List ℕ) (valid : HoldsAt M) (step : Steps M) (rank : RanksAt M) (lawful : LawfulAt (length bytes) valid step rank) (s : Source) (to : ℕ × ℕ) (same : s.bytes ≡ bytes) (cut : IsCut s.bytes to) where
   pub computes : (c d : Config M) (stack : List Attempt) (t : State) (w : Bool) → valid c stack t → Outcome (text_to s to) step stack c [] t d w → reading (text_to s to) step rank c stack t ≡ Some (d, w)
   computes c d stack t w h o = rank_enough (length bytes) valid step rank lawful (text_to s to) (feeds s to bytes same cut) c d stack t w h o
+
+  pub computes_valid : (c d : Config M) (t : State) (w : Bool) → valid c [] t → Runs (text_to s to) step c [] t d w → valid d [] (ended w)
+  computes_valid c d t w h r = reads_valid (length bytes) valid step rank lawful (text_to s to) (feeds s to bytes same cut) c d t w h r
 
   -- where one reading goes on to whatever another comes to, they are the same
   same_reading : (c d : Config M) (stack later : List Attempt) (t u : State) → valid c stack t → valid d later u → ((e : Config M) (w : Bool) → Outcome (text_to s to) step later d [] u e w → Outcome (text_to s to) step stack c [] t e w)
@@ -89,17 +92,32 @@ module _ {M : Type 0} (valid : HoldsAt M) (step : Steps M) (rank : RanksAt M) (r
   end_place [] from p h a = h
   end_place (k ∷ ks) from p h a = let low = apart_first from k ks (length events) a in end_place ks (k + 2) (place_at events (k + 1)) (places (k + 1) (omega (arith, low))) a.1
 
+  chain_cut : (c : Chain) (from : ℕ) → AreApart from (chunks events c.0) (length events) → (let first = place_at events c.0 in let end = end_of events first (chunks events c.0) in let s = with_chunks events first (chunks events c.0) (unskipped bytes) in (s.bytes ≡ bytes) × IsCut s.bytes (end.index, end.vs))
+  chain_cut c from apart =
+      let first = place_at events c.0 in
+      let ks = chunks events c.0 in
+      let end = end_of events first ks in
+      let same = chunks_bytes ks first (unskipped bytes) in
+      let place = end_place ks from first (first_place bytes events c.0 from places apart) apart in
+      (same, subst (λ (z : List ℕ). IsCut z (end.index, end.vs)) (sym same) place)
+
+  -- what is read of a chain holds
+  pub chain_valid : (c : Chain) (children : List Event) (more : Found) (from : ℕ) → AreApart from (chunks events c.0) (length events) → valid (fresh (place_at events c.0) machine) [] (states.Next (first_state c.1))
+      → (r : ReadsChain step resolve bytes machine events c children more) → valid r.read [] states.Ok
+  chain_valid c children more from apart h r =
+      let first = place_at events c.0 in
+      let end = end_of events first (chunks events c.0) in
+      let k = chain_cut c from apart in
+      computes_valid bytes valid step rank lawful (with_chunks events first (chunks events c.0) (unskipped bytes)) (end.index, end.vs) k.0 k.1 (fresh first machine) r.read (states.Next (first_state c.1)) true h r.runs
+
   chain_computes : (c : Chain) (children : List Event) (more : Found) (from : ℕ) → AreApart from (chunks events c.0) (length events) → valid (fresh (place_at events c.0) machine) [] (states.Next (first_state c.1))
       → (r : ReadsChain step resolve bytes machine events c children more) → chain_reading step rank resolve bytes machine events c ≡ Some (r.read, true)
   chain_computes c children more from apart h r =
       let first = place_at events c.0 in
       let ks = chunks events c.0 in
       let end = end_of events first ks in
-      let s = with_chunks events first ks (unskipped bytes) in
-      let same : s.bytes ≡ bytes = chunks_bytes ks first (unskipped bytes) in
-      let place = end_place ks from first (first_place bytes events c.0 from places apart) apart in
-      let cut : IsCut s.bytes (end.index, end.vs) = subst (λ (z : List ℕ). IsCut z (end.index, end.vs)) (sym same) place in
-      computes bytes valid step rank lawful s (end.index, end.vs) same cut (fresh first machine) r.read [] (states.Next (first_state c.1)) true h (record { mid = r.read; how = true; runs = r.runs; unwinds = (refl, refl) })
+      let k = chain_cut c from apart in
+      computes bytes valid step rank lawful (with_chunks events first ks (unskipped bytes)) (end.index, end.vs) k.0 k.1 (fresh first machine) r.read [] (states.Next (first_state c.1)) true h (record { mid = r.read; how = true; runs = r.runs; unwinds = (refl, refl) })
 
   all_edits : (cs : List Chain) (acc : ℕ × ℕ) (edits all : List Placed) (found total : Found) (from : ℕ) → AreApart from (chunks_of events cs) (length events) → MayBegin valid machine events cs
       → Divides step resolve bytes machine events cs acc edits all found total → chain_edits step rank resolve bytes machine events cs acc edits found ≡ Some (all, total)

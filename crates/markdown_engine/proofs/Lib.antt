@@ -12,3 +12,4 @@ pub mod Total
 pub mod Evaluation
 pub mod Turns
 pub mod Computing
+pub mod Weaving

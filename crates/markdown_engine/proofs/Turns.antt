@@ -73,6 +73,10 @@ module _ {M : Type 0} (size : ℕ) (valid : HoldsAt M) (step : Steps M) (rank : 
       let same_2 = ap (λ (z : List Attempt). rank (hand_on f.start d) z f.nok) (append-nil stack) in
       record { turns = suc (outer.turns + inner.turns); there = rw a (rw (let z : outer.turns + inner.turns ≡ inner.turns + outer.turns = omega arith in z) b); after = outer.after; few = omega (arith, few, more, low, same, same_2) }
 
+  -- what is read holds
+  pub reads_valid : (c d : Config M) (s : State) (w : Bool) → valid c [] s → Runs text step c [] s d w → valid d [] (ended w)
+  reads_valid c d s w h r = (enough r [] (c.events, refl) h).after
+
   -- any more turns are enough, too
   at_most : (n k : ℕ) (c : Config M) (fs : List (Frame M)) (s : State) (a : Config M × Bool) → k ≤ n → evaluate text step k c fs s ≡ Some a → evaluate text step n c fs s ≡ Some a
   at_most n k c fs s a low e = let more = more_turns text step (n - k) k c fs s a e in rw (let z : (n - k) + k ≡ n = omega arith in z) at more

@@ -17,3 +17,4 @@ pub mod Descent
 pub mod DescentLaws
 pub mod Standing
 pub mod Evaluation
+pub mod Together

@@ -4,6 +4,7 @@ use Rattle.std.proofs.Math.Seq.{take-length}
 use Rattle.std.proofs.lemmas.List.{take-append-le, take-append-drop, length-append}
 use Rattle.engine_events.specs.Events.{event, point_of}
 use Rattle.engine_events.specs.declared.event.Event.{Event}
+use Rattle.engine_events.specs.declared.event.Kind.{Kind}
 use Rattle.engine_events.specs.declared.event.Kind.TheVariants.{Enter, Exit}
 use Rattle.engine_events.specs.declared.event.Link.{Link}
 use Rattle.engine_events.specs.declared.event.Name.{Name}
@@ -13,7 +14,7 @@ use Rattle.markdown_engine.specs.declared.attempt.Attempt.{Attempt}
 use Rattle.markdown_engine.specs.declared.virtual_text.VirtualByte.{VirtualByte}
 use Rattle.markdown_engine.specs.Laws.{IsFed}
 use Rattle.markdown_engine.specs.Machine.{begun, consumed, entered, exited, fresh}
-use Rattle.markdown_engine.specs.Order.{AreMarks, AreTidy, InOrder, IsInnermost, IsNested, IsTidy, LeadsOn, Reaches, opened, opened_by, outer, text_start}
+use Rattle.markdown_engine.specs.Order.{AreMarks, AreTidy, InOrder, IsInnermost, IsNested, IsTidy, LeadsOn, MayStand, Reaches, opened, opened_by, outer, text_start}
 use Rattle.markdown_engine.specs.Reading.{Config, handed, mark, moved, restore, resumed}
 use Rattle.markdown_engine.specs.VirtualText.{is_feed}
 
@@ -68,6 +69,19 @@ tidy_on es p q h k = record { nested = h.nested; order = order_on text_start p q
 pub exit_place : (b : Bool) (p line : Point) → (if b then (if b then p else line) else p) ≡ p
 exit_place true p line = refl
 exit_place false p line = refl
+
+-- what is nested is so inside of others, too
+opened_in : (kind : Kind) (name : Name) (names outside : List Name) → MayStand kind name names → MayStand kind name (names ++ outside) × (opened_by kind name (names ++ outside) ≡ opened_by kind name names ++ outside)
+opened_in Enter name names outside h = (tt, refl)
+opened_in Exit name names outside h = let e : names ++ outside ≡ name ∷ (h.0 ++ outside) = ap (λ (z : List Name). z ++ outside) h.1 in ((h.0 ++ outside, e), rw h.1 refl)
+
+pub nested_in : (names outside : List Name) (es : List Event) → IsNested names es → IsNested (names ++ outside) es × (opened (names ++ outside) es ≡ opened names es ++ outside)
+nested_in names outside [] h = (tt, refl)
+nested_in names outside (e ∷ es) h =
+    let k = opened_in e.kind e.name names outside h.0 in
+    let more = nested_in (opened_by e.kind e.name names) outside es h.1 in
+    let there = subst (λ (z : List Name). IsNested z es × (opened z es ≡ opened (opened_by e.kind e.name names) es ++ outside)) (sym k.1) more in
+    ((k.0, there.0), there.1)
 
 -- What calls do
 

@@ -27,13 +27,13 @@ module _ (ps : Places) where
   same_point e None = refl
   same_point e (Some l) = refl
 
-  still_nested : (names : List EventName) (es : List Event) → IsNested names es → IsNested names (map (relinked ps) es)
+  pub still_nested : (names : List EventName) (es : List Event) → IsNested names es → IsNested names (map (relinked ps) es)
   still_nested names [] h = h
   still_nested names (e ∷ es) h =
       let k = nests_alike e (link_of e) names in
       (k.0 h.0, subst (λ (z : List EventName). IsNested z (map (relinked ps) es)) (sym k.1) (still_nested (opened_by e.kind e.name names) es h.1))
 
-  still_opened : (names : List EventName) (es : List Event) → opened names (map (relinked ps) es) ≡ opened names es
+  pub still_opened : (names : List EventName) (es : List Event) → opened names (map (relinked ps) es) ≡ opened names es
   still_opened names [] = refl
   still_opened names (e ∷ es) =
       ap (λ (z : List EventName). opened z (map (relinked ps) es)) (nests_alike e (link_of e) names).1 ∙ still_opened (opened_by e.kind e.name names) es

@@ -14,6 +14,7 @@ ghost use Rattle.markdown_engine.specs.Evaluation.{AreReadingOf};
 ghost use Rattle.markdown_engine.specs.Machine.{bytes_of, config, fresh, source};
 ghost use Rattle.markdown_engine.specs.Resolving.{found_in, nothing_found};
 ghost use Rattle.markdown_engine.specs.Standing.{LinksLeadIn};
+ghost use Rattle.markdown_engine.specs.Together.{StaysBalanced};
 
 use crate::flush::{add_found, nothing_found};
 use crate::parse_state::ParseState;
@@ -193,6 +194,8 @@ pub fn subtokenize<M: Machine<T> + Copy, T: Tables, A: Allocator + Clone>(
     ensures evaluated { IfOk result (λ found. AreReadingOf M.step M.rank M.resolved (context parse_state.now) (M.seen machine)
         (option_copied filter.entry) events.old.items events.new.items (found_in found)) }
     ensures links { IfOk result (λ found. LinksLeadIn M.step M.resolved (context parse_state.now) (M.seen machine)
+        (option_copied filter.entry) events.old.items events.new.items (found_in found)) }
+    ensures balanced { IfOk result (λ found. StaysBalanced M.step M.resolved (context parse_state.now) (M.seen machine)
         (option_copied filter.entry) events.old.items events.new.items (found_in found)) }
     ensures done { IfOk result (λ found. found.done ≡ is_empty (chains (option_copied filter.entry) events.old.items)) }
     ensures err { OnErr result (events.new.items ≡ events.old.items) }

@@ -2,7 +2,8 @@
 use Rattle.std.specs.Prelude.{Bool, false, if◌then◌else◌, Option, codes}
 use Rattle.std.specs.Option.{option_map_or}
 use Rattle.std.specs.Str.{bytes_eq}
-use Rattle.clap.specs.Words.{Text}
+use Rattle.clap.specs.Words.{Text, first_value}
+use Rattle.clap.specs.declared.parser.matches.Found.{Found}
 use Rattle.markdown_options.specs.declared.configuration.CompileOptions.{CompileOptions}
 use Rattle.markdown_options.specs.declared.configuration.Options.{Options}
 use Rattle.markdown_options.specs.declared.configuration.ParseOptions.{ParseOptions}
@@ -11,6 +12,10 @@ use Rattle.markdown_options.specs.Defaults.{default_compile_options, default_par
 -- the value of a flag that is set
 abbrev pub is_true_text : Option Text → Bool
 is_true_text text = option_map_or (λ t. bytes_eq t (codes "true")) text false
+
+-- whether a flag is set in what was found
+abbrev pub is_found : Text → Found → Bool
+is_found name found = is_true_text (first_value found name)
 
 -- `--plain` turns every construct off
 abbrev pub parse_of : Bool → ParseOptions

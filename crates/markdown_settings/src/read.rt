@@ -2,7 +2,7 @@
 ghost use Rattle.std.specs.Prelude.{◌≡◌, IfOk, IfErr, OnOk, [], true, codes, map, option_map, string_bytes};
 ghost use Rattle.clap.specs.Words.{first_value, found_of, kind_of, Kinds, IsAmong};
 ghost use Rattle.markdown_options.specs.Built.{is_built};
-ghost use Rattle.markdown_settings.specs.Flags.{flag_options, is_true_text};
+ghost use Rattle.markdown_settings.specs.Flags.{flag_options, is_found};
 ghost use Rattle.markdown_settings.specs.Settings.{faults_of, options_of, path_of, takes_words, HasFault, Refuses};
 
 use crate::command::command;
@@ -36,7 +36,8 @@ pub fn settings(alloc: Global, words: &[String]) -> Result<Settings, SettingsErr
 
 /// The settings of the command's matches.
 fn found(alloc: Global, matches: &ArgMatches<'_>) -> Result<Settings, SettingsError>
-    ensures options { IfOk result (λ s. s.options ≡ flag_options (is_true_text (first_value (found_of matches.now) (codes "dangerous"))) (is_true_text (first_value (found_of matches.now) (codes "plain")))) }
+    ensures options { IfOk result (λ s.
+        s.options ≡ flag_options (is_found (codes "dangerous") (found_of matches.now)) (is_found (codes "plain") (found_of matches.now))) }
     ensures references { IfOk result (λ s. option_map string_bytes s.references ≡ first_value (found_of matches.now) (codes "references")) }
     ensures built { IfOk result (λ s. is_built s.options.parse.constructs ≡ true) }
     ensures memory { IfErr result (λ e. e ≡ SettingsError.Memory) }
@@ -51,7 +52,7 @@ fn found(alloc: Global, matches: &ArgMatches<'_>) -> Result<Settings, SettingsEr
 
 /// Whether a flag is set.
 fn is_set(matches: &ArgMatches<'_>, id: &str) -> bool
-    ensures { result ≡ is_true_text (first_value (found_of matches.now) id.now) }
+    ensures { result ≡ is_found id.now (found_of matches.now) }
 {
     match matches.get_str(id) {
         Some(text) => text == "true",

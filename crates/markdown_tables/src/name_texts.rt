@@ -1,7 +1,7 @@
 //! A map from names to their texts.
-ghost use Rattle.std.specs.Prelude.{◌≡◌, ◌<◌, ℕ, List, IfOk, OnOk, Some, IsTrue, bytes_eq, if◌then◌else◌, length, string_bytes};
+ghost use Rattle.std.specs.Prelude.{◌≡◌, ◌<◌, ℕ, List, IfOk, OnOk, IsTrue, length, string_bytes};
 ghost use Rattle.definition_inline.specs.ReferenceRows.{is_name};
-ghost use Rattle.markdown_tables.specs.NameTexts.{AreLawful, text_of};
+ghost use Rattle.markdown_tables.specs.NameTexts.{AreLawful, names_with, text_of};
 ghost use Rattle.markdown_tables.specs.RowParts.{characters_text};
 
 use crate::row::Characters;
@@ -32,7 +32,7 @@ pub(crate) fn put<A: Allocator + Clone>(
     requires lawful { AreLawful texts.old }
     requires named { IsTrue (is_name (string_bytes name)) }
     requires nonempty { 0 < length (string_bytes text) }
-    ensures put { OnOk result ((other : List ℕ) → text_of texts.new other ≡ (if bytes_eq (string_bytes name) other then Some (string_bytes text) else text_of texts.old other)) }
+    ensures put { OnOk result ((other : List ℕ) → text_of texts.new other ≡ names_with (string_bytes name) (string_bytes text) (text_of texts.old) other) }
     ensures lawful { AreLawful texts.new }
 {
     texts.insert(name, text)?;

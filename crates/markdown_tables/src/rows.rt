@@ -19,8 +19,9 @@ pub struct Rows<A: Allocator = Global> {
 }
 
 impl<A: Allocator + Clone> Rows<A> {
-    ghost use Rattle.std.specs.Prelude.{◌≡◌, ◌⊎◌, ◌++◌, ℕ, List, IfOk, IfErr, OnOk, IsTrue, MatchResult, bytes_eq, if◌then◌else◌, option_to_list};
+    ghost use Rattle.std.specs.Prelude.{◌≡◌, ◌⊎◌, ◌++◌, ℕ, List, IfOk, IfErr, OnOk, IsTrue, MatchResult, option_to_list};
     ghost use Rattle.definition_inline.specs.ReferenceRows.{Row, is_name, row_of, text_in, rows};
+    ghost use Rattle.markdown_tables.specs.NameTexts.{names_with};
     ghost use Rattle.markdown_tables.specs.Rows.{HasRows, texts_of};
     ghost use Rattle.markdown_tables.specs.RowsFaults.{line_fault, text_fault};
     ghost use Rattle.markdown_tables.specs.RowParts.{characters_text};
@@ -71,7 +72,8 @@ impl<A: Allocator + Clone> Rows<A> {
     /// Adds a row, in place of another with its name.
     fn add(&mut self, alloc: &A, row: NamedCharacters<'_>) -> Result<(), AllocError>
         requires { IsTrue (is_name row.name.now) }
-        ensures { OnOk result ((name : List ℕ) → texts_of self.new name ≡ (if bytes_eq row.entry.name.now name then Some (characters_text row.entry.characters) else texts_of self.old name)) }
+        ensures { OnOk result ((name : List ℕ) →
+            texts_of self.new name ≡ names_with row.entry.name.now (characters_text row.entry.characters) (texts_of self.old) name) }
     {
         let name = String::from_str(alloc.clone()?, row.name)?;
         let text = text_of(alloc.clone()?, row.characters)?;

@@ -17,7 +17,7 @@ use Rattle.engine_edits.specs.Edits.{Placed, placed, with_edit}
 use Rattle.engine_edits.specs.Replacement.{IsOrdered, Places, edited, places, relinked, relinked_as, replaced}
 use Rattle.markdown_engine.specs.Laws.{LawfulAt}
 use Rattle.markdown_engine.specs.Order.{AreWhole, InOrder, IsNested, MayStand, Reaches, opened, opened_by, text_start}
-use Rattle.markdown_engine.specs.OrderLaws.{from_start, handed_tidy, nested_append, opened_append, order_more, stays}
+use Rattle.markdown_engine.specs.OrderLaws.{from_start, handed_tidy, nested_append, nested_in, opened_append, order_more, stays}
 use Rattle.markdown_engine.specs.Reading.{Config, moved}
 use Rattle.markdown_engine.specs.Resolving.{ResolvesAt}
 use Rattle.markdown_engine.specs.ResolvingLaws.{still_whole}
@@ -64,19 +64,6 @@ unfolding wrapped_step
 wrapped_lawful size = each_lawful size (IsUnwrapped MayRun) (IsUnwrapped WillRun) with_text over_byte goes_over
 
 -- The event round all
-
--- what is nested is so inside of others, too
-opened_in : (kind : Kind) (name : EventName) (names outside : List EventName) → MayStand kind name names → MayStand kind name (names ++ outside) × (opened_by kind name (names ++ outside) ≡ opened_by kind name names ++ outside)
-opened_in Enter name names outside h = (tt, refl)
-opened_in Exit name names outside h = let e : names ++ outside ≡ name ∷ (h.0 ++ outside) = ap (λ (z : List EventName). z ++ outside) h.1 in ((h.0 ++ outside, e), rw h.1 refl)
-
-nested_in : (names outside : List EventName) (es : List Event) → IsNested names es → IsNested (names ++ outside) es × (opened (names ++ outside) es ≡ opened names es ++ outside)
-nested_in names outside [] h = (tt, refl)
-nested_in names outside (e ∷ es) h =
-    let k = opened_in e.kind e.name names outside h.0 in
-    let more = nested_in (opened_by e.kind e.name names) outside es h.1 in
-    let there = subst (λ (z : List EventName). IsNested z es × (opened z es ≡ opened (opened_by e.kind e.name names) es ++ outside)) (sym k.1) more in
-    ((k.0, there.0), there.1)
 
 -- events are in order from where the first of them is
 order_first : (from : Point) (es : List Event) (to : Point) → InOrder from es to → InOrder (first_place es to) es to

@@ -5,6 +5,7 @@ use Rattle.engine_edits.specs.Replacement.{IsOrdered}
 use Rattle.markdown_engine.proofs.ChainLaws.{divides_ordered, links_lead}
 use Rattle.markdown_engine.proofs.ChainSteps.{divides_as}
 use Rattle.markdown_engine.proofs.Computing.{chains_read}
+use Rattle.markdown_engine.proofs.Weaving.{stays_balanced}
 use Rattle.markdown_engine.specs.Chains.{chains}
 use Rattle.markdown_engine.specs.Context.{context}
 use Rattle.markdown_engine.specs.Resolving.{found_in}
@@ -42,3 +43,9 @@ pub returns-clause-links : goal.returns-clause-links
 returns-clause-links g c =
     let x = context c.args.parse_state.now in
     links_lead (g.M.Machine.step x) (g.M.Machine.resolved x) c.args.parse_state.now.bytes.now (g.M.Machine.seen c.args.machine) (option_copied c.args.filter) c.args.events.now.items c.consume.new.events.items (found_in c.in_ok-found.found) c.requires.readable.apart
+
+pub returns-clause-balanced : goal.returns-clause-balanced
+returns-clause-balanced g c =
+    let x = context c.args.parse_state.now in
+    stays_balanced (g.M.Machine.valid x) (g.M.Machine.step x) (g.M.Machine.rank x) (g.M.Machine.resolved x) (g.M.Machine.settled x) x.bytes (g.M.Machine.seen c.args.machine) c.args.events.now.items (g.met.M.Machine.lawful x) (g.met.M.Machine.resolving x) c.requires.readable.places
+    (option_copied c.args.filter) c.consume.new.events.items (found_in c.in_ok-found.found) c.requires.readable.apart c.requires.begins
