@@ -14,7 +14,8 @@ use Rattle.definition_inline.proofs.DefinitionParts.{the_same}
 use Rattle.block_rows.proofs.DefinitionLines.{definition_cuts}
 use Rattle.definition_inline.proofs.LinkRenaming.{renamed_definition, definition_renamed, code_byte-renames}
 use Rattle.block_definitions.specs.Contents.{total}
-use Rattle.block_definitions.proofs.Codes.{AreBytes, same_bytes, later_bytes}
+use Rattle.inline_links.proofs.Texts.{AreBytes}
+use Rattle.block_definitions.proofs.Codes.{same_bytes, later_bytes}
 use Rattle.block_definitions.proofs.Contents.{content_is}
 use Rattle.block_definitions.proofs.Splits.{split_at}
 

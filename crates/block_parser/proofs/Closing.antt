@@ -4,7 +4,7 @@ use Rattle.std.proofs.lemmas.List.{length-append}
 use Rattle.markdown_options.specs.declared.configuration.Constructs.{Constructs}
 use Rattle.definition_block.specs.declared.container.Container.{Container}
 use Rattle.definition_block.specs.Tree.{Blocks, join, OpenLeaf, Text, Opening, Leaf, Inside, Tree, close, close_leaf, after}
-use Rattle.block_parser.specs.Spine.{Level, level, Spine, spine, spine_at, grown, containers_of, exited, exited_at}
+use Rattle.block_parser.specs.Spine.{Level, level, Spine, spine, spine_at, spine_after, containers_of, without_innermost, without_innermost_at}
 use Rattle.block_parser.proofs.Trees.{join-assoc}
 
 -- ---- how many containers are open
@@ -26,12 +26,12 @@ length-containers (l ∷ ls) = omega (arith, length-append (containers_of ls) (l
 
 abbrev pub exits : ℕ → Spine → Spine
 exits zero s = s
-exits (suc n) s = exited (exits n s)
+exits (suc n) s = without_innermost (exits n s)
 
 abbrev pub leaf_closed : Constructs → Spine → Spine
 leaf_closed on s = spine s.around (join s.kids (close_leaf on s.leaf)) (Text [])
 
-exited-leaf : (around : List Level) (kids : Blocks) (leaf : OpenLeaf) → (exited_at around kids leaf).leaf ≡ leaf
+exited-leaf : (around : List Level) (kids : Blocks) (leaf : OpenLeaf) → (without_innermost_at around kids leaf).leaf ≡ leaf
 exited-leaf [] kids leaf = refl
 exited-leaf (l ∷ ls) kids leaf = refl
 
@@ -42,12 +42,12 @@ exits-leaf (suc n) s = let x = exits n s in exited-leaf x.around x.kids x.leaf �
 pub closed-spine : (on : Constructs) (around : List Level) (kids : Blocks) (away : Opening)
     → exits (opening_depth away) (leaf_closed on (spine_at around kids away)) ≡ spine around (join kids (close on away)) (Text [])
 closed-spine on around kids (Leaf leaf) = refl
-closed-spine on around kids (Inside c inner_kids inner) = ap exited (closed-spine on (level c kids ∷ around) inner_kids inner)
+closed-spine on around kids (Inside c inner_kids inner) = ap without_innermost (closed-spine on (level c kids ∷ around) inner_kids inner)
 
 -- ---- what is added after that
 
 pub after_added : (on : Constructs) (P : Spine → Type 0) (around : List Level) (kids : Blocks) (away : Opening) (t : Tree)
-    → P (grown around (join kids (close on away)) t) → P (grown around kids (after on away t))
+    → P (spine_after around (join kids (close on away)) t) → P (spine_after around kids (after on away t))
 after_added on P around kids away t h = subst (λ (x : Blocks). P (spine_at around x t.now)) (join-assoc kids (close on away) t.done) h
 
 -- ---- the last of the containers

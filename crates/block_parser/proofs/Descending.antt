@@ -16,7 +16,7 @@ use Rattle.definition_inline.specs.Definition.{Definition as LinkDefinition}
 use Rattle.definition_text.specs.BlockLines.{BlockLine, last_ending_or}
 use Rattle.definition_block.specs.Tree.{Block, Paragraph, Heading, Break, IndentedCode, FencedCode, Html, Definition, Holds, Items, Ending, Blank, Blocks, Nil, Cons, join, all_endings, front, trailing, Text, Indented, Fenced, OpenHtml, Opening, Leaf, Inside, Tree, beside_in, grow, goes_on, new, began_blank, is_nothing, is_one_blank}
 use Rattle.block_rows.specs.Rows.{definition_on, definition_shown, BlockRow, Single, rows_of}
-use Rattle.block_parser.specs.Spine.{Level, level, Spine, spine, spine_at, spine_of, grown, containers_of}
+use Rattle.block_parser.specs.Spine.{Level, level, Spine, spine, spine_at, spine_of, spine_after, containers_of}
 use Rattle.block_parser.specs.Waits.{is_one_blank_row}
 use Rattle.block_parser.specs.Shows.{InText, InIndented, InFenced, InHtml, state_of, lone, is_nil, Written}
 use Rattle.block_parser.specs.View.{Descent, leaf_grown}
@@ -57,7 +57,7 @@ Began t depth b = (around : List Level) (kids inner_kids : Blocks) (c : Containe
 module _ (on : Constructs) (beside : Beside) (line : Rest) (t : Tree) (depth : ℕ) (rest : Rest) (here : Beside) (containers : List Container)
     (opened : containers ≡ containers_of (spine_of t).around) (lt : depth < length containers) (c : Container) (is : c ≡ get_or containers depth c) (b : Bool) (began : Began t depth b) where
   goes-inside : (after : Rest) → continues on c b rest ≡ Some after → (around : List Level) (kids : Blocks) (now : Opening) → depth ≡ length around → spine_at around kids now ≡ spine_of t
-      → grown [] t.done (grow on beside t.now line) ≡ grown around kids (grow on here now rest) → Descent on beside line t 0 (depth + 1) after (beside_in c rest here)
+      → spine_after [] t.done (grow on beside t.now line) ≡ spine_after around kids (grow on here now rest) → Descent on beside line t 0 (depth + 1) after (beside_in c rest here)
   goes-inside after h around kids (Leaf leaf) deep same grows =
       absurd (omega (arith, ap length opened, length-containers (spine_of t).around, ap (λ (s : Spine). length s.around) same))
   goes-inside after h around kids (Inside inner_c inner_kids inner) deep same grows =
@@ -74,9 +74,9 @@ module _ (on : Constructs) (beside : Beside) (line : Rest) (t : Tree) (depth : �
         same = same;
         grows =
             grows
-            ∙ ap (λ o. grown around kids (goes_on o on inner_c inner_kids inner here rest (grow on (beside_in inner_c rest here) inner))) goes
+            ∙ ap (λ o. spine_after around kids (goes_on o on inner_c inner_kids inner here rest (grow on (beside_in inner_c rest here) inner))) goes
             ∙ ap (λ (bs : Blocks). spine_at (level inner_c bs ∷ around) (join inner_kids (grow on (beside_in inner_c rest here) inner after).done) (grow on (beside_in inner_c rest here) inner after).now) (join-nil kids)
-            ∙ ap (λ x. grown (level inner_c kids ∷ around) inner_kids (grow on (beside_in x rest here) inner after)) (sym same_c);
+            ∙ ap (λ x. spine_after (level inner_c kids ∷ around) inner_kids (grow on (beside_in x rest here) inner after)) (sym same_c);
         stuck = λ wrong. absurd (omega arith);
       }
 
@@ -213,44 +213,44 @@ no_deeper containers around kids now opened all =
 
 module _ (P Q : Spine → Type 0) (on : Constructs) (e : Beside) (r : Rest) where
   pub text_grows : (around : List Level) (kids : Blocks) (now : Opening) → opening_depth now ≡ 0 → InText ≡ state_of (spine_at around kids now).leaf
-      → Q (grown around kids (new (length r) on true now e r)) → Q (grown around kids (grow on e now r))
+      → Q (spine_after around kids (new (length r) on true now e r)) → Q (spine_after around kids (grow on e now r))
   text_grows around kids (Leaf (Text ls)) none is h = h
   text_grows around kids (Leaf (Indented ls pending)) none is h = let wrong : InText ≡ InIndented _ _ = is in cc
   text_grows around kids (Leaf (Fenced f opening ls)) none is h = let wrong : InText ≡ InFenced _ _ = is in cc
   text_grows around kids (Leaf (OpenHtml kind ls)) none is h = let wrong : InText ≡ InHtml _ _ = is in cc
   text_grows around kids (Inside c inner_kids inner) none is h = absurd (omega (arith, none))
 
-  pub indented_grows : ((around : List Level) (kids : Blocks) (ls pending : List BlockLine) → P (spine around kids (Indented ls pending)) → Q (grown around kids (leaf_grown on e r (Leaf (Indented ls pending)))))
+  pub indented_grows : ((around : List Level) (kids : Blocks) (ls pending : List BlockLine) → P (spine around kids (Indented ls pending)) → Q (spine_after around kids (leaf_grown on e r (Leaf (Indented ls pending)))))
       → (count : ℕ) (last : Option LineEnding) (around : List Level) (kids : Blocks) (now : Opening) → opening_depth now ≡ 0 → InIndented count last ≡ state_of (spine_at around kids now).leaf
-      → P (spine_at around kids now) → Q (grown around kids (grow on e now r))
+      → P (spine_at around kids now) → Q (spine_after around kids (grow on e now r))
   indented_grows grows count last around kids (Leaf (Text ls)) none is h = let wrong : InIndented count last ≡ InText = is in cc
   indented_grows grows count last around kids (Leaf (Indented ls pending)) none is h = grows around kids ls pending h
   indented_grows grows count last around kids (Leaf (Fenced f opening ls)) none is h = let wrong : InIndented count last ≡ InFenced _ _ = is in cc
   indented_grows grows count last around kids (Leaf (OpenHtml kind ls)) none is h = let wrong : InIndented count last ≡ InHtml _ _ = is in cc
   indented_grows grows count last around kids (Inside c inner_kids inner) none is h = absurd (omega (arith, none))
 
-  pub fenced_grows : (f : Fence) → ((around : List Level) (kids : Blocks) (opening : Option LineEnding) (ls : List BlockLine) → P (spine around kids (Fenced f opening ls)) → Q (grown around kids (leaf_grown on e r (Leaf (Fenced f opening ls)))))
+  pub fenced_grows : (f : Fence) → ((around : List Level) (kids : Blocks) (opening : Option LineEnding) (ls : List BlockLine) → P (spine around kids (Fenced f opening ls)) → Q (spine_after around kids (leaf_grown on e r (Leaf (Fenced f opening ls)))))
       → (last : Option LineEnding) (around : List Level) (kids : Blocks) (now : Opening) → opening_depth now ≡ 0 → InFenced f last ≡ state_of (spine_at around kids now).leaf
-      → P (spine_at around kids now) → Q (grown around kids (grow on e now r))
+      → P (spine_at around kids now) → Q (spine_after around kids (grow on e now r))
   fenced_grows f grows last around kids (Leaf (Text ls)) none is h = let wrong : InFenced f last ≡ InText = is in cc
   fenced_grows f grows last around kids (Leaf (Indented ls pending)) none is h = let wrong : InFenced f last ≡ InIndented _ _ = is in cc
   fenced_grows f grows last around kids (Leaf (Fenced fence opening ls)) none is h =
       let same : InFenced f last ≡ InFenced fence (last_ending_or opening ls) = is in
       let is_fence : fence ≡ f = cc in
-      subst (λ (x : Fence). Q (grown around kids (grow on e (Leaf (Fenced x opening ls)) r))) (sym is_fence)
+      subst (λ (x : Fence). Q (spine_after around kids (grow on e (Leaf (Fenced x opening ls)) r))) (sym is_fence)
       (grows around kids opening ls (subst (λ (x : Fence). P (spine around kids (Fenced x opening ls))) is_fence h))
   fenced_grows f grows last around kids (Leaf (OpenHtml kind ls)) none is h = let wrong : InFenced f last ≡ InHtml _ _ = is in cc
   fenced_grows f grows last around kids (Inside c inner_kids inner) none is h = absurd (omega (arith, none))
 
-  pub html_grows : (kind : ℕ) → ((around : List Level) (kids : Blocks) (ls : List BlockLine) → P (spine around kids (OpenHtml kind ls)) → Q (grown around kids (leaf_grown on e r (Leaf (OpenHtml kind ls)))))
+  pub html_grows : (kind : ℕ) → ((around : List Level) (kids : Blocks) (ls : List BlockLine) → P (spine around kids (OpenHtml kind ls)) → Q (spine_after around kids (leaf_grown on e r (Leaf (OpenHtml kind ls)))))
       → (last : Option LineEnding) (around : List Level) (kids : Blocks) (now : Opening) → opening_depth now ≡ 0 → InHtml kind last ≡ state_of (spine_at around kids now).leaf
-      → P (spine_at around kids now) → Q (grown around kids (grow on e now r))
+      → P (spine_at around kids now) → Q (spine_after around kids (grow on e now r))
   html_grows kind grows last around kids (Leaf (Text ls)) none is h = let wrong : InHtml kind last ≡ InText = is in cc
   html_grows kind grows last around kids (Leaf (Indented ls pending)) none is h = let wrong : InHtml kind last ≡ InIndented _ _ = is in cc
   html_grows kind grows last around kids (Leaf (Fenced f opening ls)) none is h = let wrong : InHtml kind last ≡ InFenced _ _ = is in cc
   html_grows kind grows last around kids (Leaf (OpenHtml other ls)) none is h =
       let same : InHtml kind last ≡ InHtml other (last_ending_or None ls) = is in
       let is_kind : other ≡ kind = cc in
-      subst (λ (x : ℕ). Q (grown around kids (grow on e (Leaf (OpenHtml x ls)) r))) (sym is_kind)
+      subst (λ (x : ℕ). Q (spine_after around kids (grow on e (Leaf (OpenHtml x ls)) r))) (sym is_kind)
       (grows around kids ls (subst (λ (x : ℕ). P (spine around kids (OpenHtml x ls))) is_kind h))
   html_grows kind grows last around kids (Inside c inner_kids inner) none is h = absurd (omega (arith, none))

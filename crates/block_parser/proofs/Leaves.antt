@@ -15,6 +15,7 @@ use Rattle.block_rows.specs.declared.row.Row.TheVariants as row
 use Rattle.block_rows.specs.declared.row.Piece.{Piece}
 use Rattle.definition_text.specs.BlockLines.{BlockLine, last_ending, last_ending_or, own_lines}
 use Rattle.definition_block.specs.Tree.{Block, IndentedCode, Ending, Blank, Blocks, Nil, join, one, ended, holds, OpenLeaf, Text, Indented, Leaf, is_nothing, close_leaf, is_some_line, blanks, is_ending, front}
+use Rattle.block_rows.proofs.Pieces.{lines_from}
 use Rattle.block_rows.specs.Rows.{whole_line, Single, entered, block_rows, row_shown, rows_of, shown, shown_as, lines_taken, all_taken, piece_line, piece_lines}
 use Rattle.block_parser.specs.declared.parser.Parser.{Parser}
 use Rattle.block_parser.specs.Spine.{Level, level, spine, rows_around}
@@ -84,13 +85,13 @@ all_left rows waiting bare pool around kids left h le = left_count rows pool _ h
 
 -- ---- whether a paragraph is open
 
-pub text_is_open : (taken len : ℕ) (ls : List BlockLine) → taken + length ls ≡ len → ltb taken len ≡ is_some_line ls
-text_is_open taken len [] h = le-ltb taken len (omega (arith, h))
-text_is_open taken len (x ∷ ls) h = lt-ltb taken len (omega (arith, h))
+pub text_is_open : (count len : ℕ) (ls : List BlockLine) → count + length ls ≡ len → ltb count len ≡ is_some_line ls
+text_is_open count len [] h = le-ltb count len (omega (arith, h))
+text_is_open count len (x ∷ ls) h = lt-ltb count len (omega (arith, h))
 
-pub nothing_is_open : (taken len : ℕ) (ls : List BlockLine) → taken + length ls ≡ len → (taken == len) ≡ is_nothing (Leaf (Text ls))
-nothing_is_open taken len [] h = eq-eqb taken len (omega (arith, h))
-nothing_is_open taken len (x ∷ ls) h = ne_eqb taken len (λ e. omega (arith, h, e))
+pub nothing_is_open : (count len : ℕ) (ls : List BlockLine) → count + length ls ≡ len → (count == len) ≡ is_nothing (Leaf (Text ls))
+nothing_is_open count len [] h = eq-eqb count len (omega (arith, h))
+nothing_is_open count len (x ∷ ls) h = ne_eqb count len (λ e. omega (arith, h, e))
 
 -- ---- blank lines after indented code
 
@@ -211,28 +212,24 @@ pub lines_left : (rows waiting : List Row) (bare : Bool) (pool : List BlockLine)
 lines_left rows waiting bare pool around kids left h = left_shown rows pool _ h.rows_shown
 
 pub lines_of : {A : Type 0} (p : Parser A) (around : List Level) (kids : Blocks) (leaf : OpenLeaf) → HasRead p (spine around kids leaf)
-    → leaf_lines leaf ≡ drop p.taken (piece_lines p.pieces.items)
+    → leaf_lines leaf ≡ drop p.lines_in_rows (piece_lines p.pieces.items)
 lines_of p around kids leaf h =
     let pool = piece_lines p.pieces.items in
     lines_left p.rows.rows.items p.rows.waiting.items p.rows.bare pool around kids (leaf_lines leaf) h.written ∙ ap (λ n. drop n pool) (sym p.counted)
 
--- they are those of the pieces that are left
-pub lines_from : (n : ℕ) (pieces : List Piece) → piece_lines (take (length pieces - n) (drop n pieces)) ≡ drop n (piece_lines pieces)
-lines_from n pieces = ap piece_lines (take_rest pieces n) ∙ sym (drop-map piece_line n pieces)
-
 -- also where they are a slice
 pub lines_here : {A : Type 0} (p : Parser A) (around : List Level) (kids : Blocks) (leaf : OpenLeaf) → HasRead p (spine around kids leaf) → (pieces : List Piece) → pieces ≡ p.pieces.items
-    → leaf_lines leaf ≡ piece_lines (take (length pieces - p.taken) (drop p.taken pieces))
+    → leaf_lines leaf ≡ piece_lines (take (length pieces - p.lines_in_rows) (drop p.lines_in_rows pieces))
 lines_here p around kids leaf h pieces same =
-    lines_of p around kids leaf h ∙ ap (λ ps. drop p.taken (piece_lines ps)) (sym same) ∙ sym (lines_from p.taken pieces)
+    lines_of p around kids leaf h ∙ ap (λ ps. drop p.lines_in_rows (piece_lines ps)) (sym same) ∙ sym (lines_from p.lines_in_rows pieces)
 
 -- and the first of them are a slice
 pub lines_first : {A : Type 0} (p : Parser A) (around : List Level) (kids : Blocks) (leaf : OpenLeaf) → HasRead p (spine around kids leaf) → (pieces : List Piece) → pieces ≡ p.pieces.items
-    → (count n : ℕ) → n ≡ count → take count (leaf_lines leaf) ≡ piece_lines (take n (drop p.taken pieces))
+    → (count n : ℕ) → n ≡ count → take count (leaf_lines leaf) ≡ piece_lines (take n (drop p.lines_in_rows pieces))
 lines_first p around kids leaf h pieces same count n is =
-    ap (take count) (lines_of p around kids leaf h ∙ ap (λ ps. drop p.taken (piece_lines ps)) (sym same) ∙ drop-map piece_line p.taken pieces)
-    ∙ take-map piece_line count (drop p.taken pieces)
-    ∙ ap (λ k. piece_lines (take k (drop p.taken pieces))) (sym is)
+    ap (take count) (lines_of p around kids leaf h ∙ ap (λ ps. drop p.lines_in_rows (piece_lines ps)) (sym same) ∙ drop-map piece_line p.lines_in_rows pieces)
+    ∙ take-map piece_line count (drop p.lines_in_rows pieces)
+    ∙ ap (λ k. piece_lines (take k (drop p.lines_in_rows pieces))) (sym is)
 
 -- another line in their place
 pub whole_written : (rows waiting : List Row) (bare : Bool) (pool : List BlockLine) (around : List Level) (kids : Blocks) (left : List BlockLine)
@@ -263,11 +260,3 @@ whole_all pieces i all rest le h =
     ∙ ap (take n) (h ∙ ap (λ ps. map piece_line ps ++ map whole_line rest) (take_all i pieces le))
     ∙ take-append-le n front (map whole_line rest) (omega (arith, long))
     ∙ take_all n front (omega (arith, long)))
-
--- bytes are no columns of a tab
-pub only_bytes : (text : List ℕ) → ((k : ℕ) → get_or text k 0 < 256) → bytes_of text ≡ text
-only_bytes [] h = refl
-only_bytes (b ∷ bs) h =
-    let byte : b < 256 = h 0 in
-    let is : is_byte b ≡ true = ap not (ne_eqb b 256 (λ e. omega arith)) in
-    cond-true (is_byte b) (b ∷ bytes_of bs) (bytes_of bs) is ∙ ap (λ xs. b ∷ xs) (only_bytes bs (λ k. h (suc k)))

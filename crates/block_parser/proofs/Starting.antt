@@ -15,7 +15,7 @@ use Rattle.definition_block.specs.ListItem.{Marker, marker_of, is_digit, number_
 use Rattle.definition_block.specs.Containers.{quote_or, starts}
 use Rattle.definition_block.specs.Tree.{Blocks, Nil, join, Opening, Inside, Tree, tree, nothing, after, has_text, leaf_line, beside_in, start, new, with_paragraph}
 use Rattle.definition_block.specs.Definitions.{cut_into, cut_most}
-use Rattle.block_parser.specs.Spine.{Level, level, spine_at, grown}
+use Rattle.block_parser.specs.Spine.{Level, level, spine_at, spine_after}
 use Rattle.block_parser.specs.View.{new_inside}
 use Rattle.block_parser.proofs.Trees.{choose_if, join-nil}
 
@@ -137,7 +137,7 @@ module _ (on : Constructs) (beside : Beside) where
   new_some all away rest s h = new-some (length rest) all away rest s (omega arith) h
 
   -- what is new is in the container that started
-  pub grown-inside : (around : List Level) (kids : Blocks) (c : Container) (t : Tree) → grown around kids (tree Nil (Inside c t.done t.now)) ≡ grown (level c kids ∷ around) Nil t
+  pub grown-inside : (around : List Level) (kids : Blocks) (c : Container) (t : Tree) → spine_after around kids (tree Nil (Inside c t.done t.now)) ≡ spine_after (level c kids ∷ around) Nil t
   grown-inside around kids c t = ap (λ (bs : Blocks). spine_at (level c bs ∷ around) t.done t.now) (join-nil kids)
 
   -- nothing is closed where nothing is open
@@ -150,7 +150,7 @@ module _ (on : Constructs) (beside : Beside) where
 
   -- one container more
   pub inside_more : (around : List Level) (kids : Blocks) (rest : Rest) (s : Started) → starts on false rest ≡ Some s
-      → grown around kids (new_inside on beside rest) ≡ grown (level s.container kids ∷ around) Nil (new_inside on (beside_in s.container rest beside) s.rest)
+      → spine_after around kids (new_inside on beside rest) ≡ spine_after (level s.container kids ∷ around) Nil (new_inside on (beside_in s.container rest beside) s.rest)
   inside_more around kids rest s is =
       let t = new_inside on (beside_in s.container rest beside) s.rest in
-      ap (grown around kids) (new_some true nothing rest s is ∙ after-nothing (tree Nil (Inside s.container t.done t.now))) ∙ grown-inside around kids s.container t
+      ap (spine_after around kids) (new_some true nothing rest s is ∙ after-nothing (tree Nil (Inside s.container t.done t.now))) ∙ grown-inside around kids s.container t

@@ -16,8 +16,8 @@ use Rattle.definition_block.specs.Definitions.{cut, cut_into, cut_most}
 use Rattle.block_rows.specs.ParagraphLines.{AreLines}
 use Rattle.definition_text.specs.BlockLines.{BlockLine, spaced_line, own_lines}
 use Rattle.definition_block.specs.Tree.{Heading, Break, FencedCode, Blank, Blocks, Nil, join, one, ended, OpenLeaf, Text, Indented, Fenced, OpenHtml, Opening, Leaf, Inside, Tree, tree, nothing, close, after, leaf_text, open_text, text_here, is_some_line, has_text, with_line, rest_line, leaf_line, begun, or_fence, or_html, or_heading, html_with, break_or_text, text_line_of, taken, turns, underlined, heading_of, new}
-use Rattle.block_parser.specs.Spine.{Level, level, Spine, spine, spine_at, grown}
-use Rattle.block_parser.specs.Turns.{IsText, headed, turned_by}
+use Rattle.block_parser.specs.Spine.{Level, level, Spine, spine, spine_at, spine_after}
+use Rattle.block_parser.specs.HeadingSetext.{IsText, heading_blocks, heading_tree}
 use Rattle.block_parser.specs.View.{leaf_grown}
 use Rattle.block_parser.proofs.Trees.{join-nil}
 use Rattle.block_parser.proofs.Closing.{after_added, opening_depth}
@@ -148,7 +148,7 @@ module _ (on : Constructs) (r : Rest) (e : Option LineEnding) where
   turns_none ls rank is none = ap (λ o. underlined on o ls e) is ∙ not_headed rank (cut on ls).definitions (cut on ls).left none
 
   pub turns_some : (ls : List BlockLine) (rank : ℕ) → underline on r ≡ Some rank → is_some_line (cut on ls).left ≡ true
-      → turns on (Leaf (Text ls)) r e ≡ turned_by on (Some rank) (Leaf (Text ls)) e
+      → turns on (Leaf (Text ls)) r e ≡ heading_tree on (Some rank) (Leaf (Text ls)) e
   turns_some ls rank is some = ap (λ o. underlined on o ls e) is ∙ is_headed rank (cut on ls).definitions (cut on ls).left some
 
 -- whether a paragraph is open where all containers are
@@ -188,23 +188,23 @@ module _ (P Q : Spine → Type 0) (l : BlockLine) (more : (around : List Level) 
 
 pub goes_longer : (on : Constructs) (P Q : Spine → Type 0) (r : Rest) (e : Beside)
     → ((around : List Level) (kids : Blocks) (ls : List BlockLine) → P (spine around kids (Text ls)) → Q (spine around kids (Text (ls ++ rest_line r e ∷ []))))
-    → (around : List Level) (kids : Blocks) (away : Opening) → has_text away ≡ true → P (spine_at around kids away) → Q (grown around kids (text_line_of on away r e))
+    → (around : List Level) (kids : Blocks) (away : Opening) → has_text away ≡ true → P (spine_at around kids away) → Q (spine_after around kids (text_line_of on away r e))
 goes_longer on P Q r e more around kids away some h =
-    subst (λ (t : Tree). Q (grown around kids t)) (sym (cond-true (has_text away) _ _ some))
+    subst (λ (t : Tree). Q (spine_after around kids t)) (sym (cond-true (has_text away) _ _ some))
     (subst (λ (bs : Blocks). Q (spine_at around bs (with_line (rest_line r e) away))) (sym (join-nil kids)) (longer_at P Q (rest_line r e) more around kids away some h))
 
 -- or it is the first of one
 pub starts_text : (on : Constructs) (Q : Spine → Type 0) (r : Rest) (e : Beside) (around : List Level) (kids : Blocks) (away : Opening) → has_text away ≡ false
-    → Q (spine around (join kids (close on away)) (Text (rest_line r e ∷ []))) → Q (grown around kids (text_line_of on away r e))
+    → Q (spine around (join kids (close on away)) (Text (rest_line r e ∷ []))) → Q (spine_after around kids (text_line_of on away r e))
 starts_text on Q r e around kids away none h =
     let t = tree Nil (Leaf (Text (rest_line r e ∷ []))) in
-    subst (λ (more : Tree). Q (grown around kids more)) (sym (cond-false (has_text away) _ _ none))
+    subst (λ (more : Tree). Q (spine_after around kids more)) (sym (cond-false (has_text away) _ _ none))
     (after_added on Q around kids away t (subst (λ (bs : Blocks). Q (spine around bs (Text (rest_line r e ∷ [])))) (sym (join-nil (join kids (close on away)))) h))
 
 -- a paragraph becomes a heading
 pub turned_here : (on : Constructs) (P Q : Spine → Type 0) (rank : ℕ) (e : Option LineEnding)
-    → ((around : List Level) (kids : Blocks) (ls : List BlockLine) → AreLines ls → P (spine around kids (Text ls)) → Q (spine around (join kids (headed on rank ls e)) (Text [])))
-    → (around : List Level) (kids : Blocks) (away : Opening) → IsText away → AreLines (open_text away) → P (spine_at around kids away) → Q (grown around kids (tree (headed on rank (text_here away) e) nothing))
+    → ((around : List Level) (kids : Blocks) (ls : List BlockLine) → AreLines ls → P (spine around kids (Text ls)) → Q (spine around (join kids (heading_blocks on rank ls e)) (Text [])))
+    → (around : List Level) (kids : Blocks) (away : Opening) → IsText away → AreLines (open_text away) → P (spine_at around kids away) → Q (spine_after around kids (tree (heading_blocks on rank (text_here away) e) nothing))
 turned_here on P Q rank e reads around kids (Leaf (Text ls)) is clean h = reads around kids ls clean h
 turned_here on P Q rank e reads around kids (Leaf (Indented ls pending)) is clean h = absurd is
 turned_here on P Q rank e reads around kids (Leaf (Fenced f opening ls)) is clean h = absurd is

@@ -2,8 +2,8 @@
 use Rattle.std.specs.Prelude.{ℕ}
 use Rattle.block_parser.specs.declared.leaf.OpenLeaf.{OpenLeaf}
 use Rattle.block_parser.specs.declared.leaf.OpenLeaf.TheVariants as leaf
-use Rattle.block_starts.specs.Fences.{fence_view}
-use Rattle.block_starts.specs.HtmlKinds.{number_of}
+use Rattle.block_starts.specs.CodeFenced.{fence_view}
+use Rattle.block_starts.specs.HtmlFlow.{number_of}
 use Rattle.block_parser.specs.Shows.{LeafState, InText, InIndented, InFenced, InHtml}
 
 abbrev pub leaf_state : OpenLeaf → LeafState

@@ -3,4 +3,4 @@ pub mod Waits
 pub mod Shows
 pub mod Leaves
 pub mod View
-pub mod Turns
+pub mod HeadingSetext

@@ -29,8 +29,8 @@ abbrev pub spine_of : Tree → Spine
 spine_of t = spine_at [] t.done t.now
 
 -- the same where a line adds children and leaves something open
-abbrev pub grown : List Level → Blocks → Tree → Spine
-grown around kids more = spine_at around (join kids more.done) more.now
+abbrev pub spine_after : List Level → Blocks → Tree → Spine
+spine_after around kids more = spine_at around (join kids more.done) more.now
 
 -- the rows up to the start of the innermost container
 abbrev pub rows_around : List Level → List BlockRow
@@ -43,9 +43,9 @@ containers_of [] = []
 containers_of (l ∷ ls) = containers_of ls ++ l.container ∷ []
 
 -- the innermost container is closed
-abbrev pub exited_at : List Level → Blocks → OpenLeaf → Spine
-exited_at [] kids leaf = spine [] kids leaf
-exited_at (l ∷ ls) kids leaf = spine ls (join l.before (holds l.container kids)) leaf
+abbrev pub without_innermost_at : List Level → Blocks → OpenLeaf → Spine
+without_innermost_at [] kids leaf = spine [] kids leaf
+without_innermost_at (l ∷ ls) kids leaf = spine ls (join l.before (holds l.container kids)) leaf
 
-abbrev pub exited : Spine → Spine
-exited s = exited_at s.around s.kids s.leaf
+abbrev pub without_innermost : Spine → Spine
+without_innermost s = without_innermost_at s.around s.kids s.leaf

@@ -6,12 +6,12 @@ use Rattle.definition_text.specs.declared.beside.Kind.{Kind}
 use Rattle.definition_text.specs.declared.beside.Kind.TheVariants.{Whitespace}
 use Rattle.definition_text.specs.Lines.{TextLine}
 use Rattle.definition_text.specs.Columns.{Rest}
-use Rattle.definition_block.specs.Tree.{Blocks, Nil, Text, Opening, Leaf, Inside, Tree, tree, nothing, open_text, new, leaf_line, grow}
+use Rattle.definition_block.specs.Tree.{Blocks, Nil, OpenLeaf, Text, Opening, Leaf, Inside, Tree, tree, nothing, open_text, new, leaf_line, grow}
 use Rattle.block_rows.specs.ParagraphLines.{AreLines}
 use Rattle.block_rows.specs.Rows.{piece_lines}
 use Rattle.block_parser.specs.declared.parser.Parser.{Parser}
 use Rattle.block_parser.specs.Leaves.{leaf_state}
-use Rattle.block_parser.specs.Spine.{Level, Spine, spine, spine_at, spine_of, grown}
+use Rattle.block_parser.specs.Spine.{Level, Spine, spine, spine_at, spine_of, spine_after}
 use Rattle.block_parser.specs.Shows.{Shows}
 
 -- what was read so far is this
@@ -23,13 +23,23 @@ abbrev pub kind_after_lines : Kind → List TextLine → Kind
 kind_after_lines before [] = before
 kind_after_lines before (line ∷ others) = Whitespace
 
+-- a leaf that is open becomes this, whatever it stands in
+abbrev pub Becomes : {A : Type 0} → Parser A → Parser A → OpenLeaf → Tree → Type 0
+Becomes old new leaf more = (around : List Level) (kids : Blocks) → HasRead old (spine around kids leaf) → HasRead new (spine_after around kids more)
+
+-- a leaf that is open is closed, and these blocks stand in its place
+abbrev pub Closes : {A : Type 0} → Parser A → Parser A → OpenLeaf → Blocks → Type 0
+Closes old new leaf blocks = Becomes old new leaf (tree blocks nothing)
+
 -- where no leaf is open, this is added in the innermost container
 abbrev pub Adds : {A : Type 0} → Parser A → Parser A → Tree → Type 0
-Adds old new more = (around : List Level) (kids : Blocks) → HasRead old (spine around kids (Text [])) → HasRead new (grown around kids more)
+Adds old new more = Becomes old new (Text []) more
 
 -- so many containers stay open, and what is open in them, with the lines of a text, becomes something else
 abbrev pub Grows : {A : Type 0} → Parser A → Parser A → ℕ → (Opening → Tree) → Type 0
-Grows old new depth becomes = (around : List Level) (kids : Blocks) (away : Opening) → depth ≡ length around → AreLines (open_text away) → HasRead old (spine_at around kids away) → HasRead new (grown around kids (becomes away))
+Grows old new depth becomes =
+    (around : List Level) (kids : Blocks) (away : Opening) → depth ≡ length around → AreLines (open_text away)
+    → HasRead old (spine_at around kids away) → HasRead new (spine_after around kids (becomes away))
 
 -- what a line that is in all containers makes of the open leaf
 abbrev pub leaf_grown : Constructs → Beside → Rest → Opening → Tree
@@ -43,7 +53,7 @@ pub record Descent (on : Constructs) (beside : Beside) (line : Rest) (t : Tree) 
   pub now : Opening
   pub deep : depth ≡ length around
   pub same : spine_at around kids now ≡ spine_of t
-  pub grows : grown [] t.done (grow on beside t.now line) ≡ grown around kids (grow on here now rest)
+  pub grows : spine_after [] t.done (grow on beside t.now line) ≡ spine_after around kids (grow on here now rest)
   pub stuck : depth < count → grow on here now rest ≡ new (length rest) on false now here rest
 
 -- what a rest makes where all that was open is closed
@@ -55,7 +65,7 @@ pub record Inner {A : Type 0} (p : Parser A) (around : List Level) (kids : Block
   pub inner : List Level
   pub inner_kids : Blocks
   pub reads : HasRead p (spine inner inner_kids (Text []))
-  pub grows : grown around kids from ≡ grown inner inner_kids to
+  pub grows : spine_after around kids from ≡ spine_after inner inner_kids to
 
 -- all containers that a rest starts are open, and the rest after them starts none
 abbrev pub Entered : {A : Type 0} → Constructs → Rest → Beside → Rest → Beside → Parser A → List Level → Blocks → Type 0

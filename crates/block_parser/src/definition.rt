@@ -8,35 +8,36 @@ ghost use Rattle.definition_text.specs.BlockLines.{last_ending};
 ghost use Rattle.block_rows.specs.Rows.{piece_lines};
 
 use crate::parser::{NOTHING, Parser};
-use block_definitions::{first_definition, has_more, join_lines, may_begin};
-use block_rows::{Piece, Row};
+use block_definitions::{first_definition, has_more, may_begin};
+use block_rows::{Piece, Row, join_lines};
 use markdown_options::{Constructs, LineEnding};
 use std::alloc::{AllocError, Allocator};
 
 impl<'a, A: Allocator> Parser<'a, A> {
     ghost use Rattle.std.specs.Prelude.{◌≡◌, ◌≤◌, ◌+◌, ◌∷◌, [], true, false, List, OnOk, IfOk, drop, take, vec_len};
     ghost use Rattle.definition_text.specs.BlockLines.{BlockLine, last_ending};
-    ghost use Rattle.definition_block.specs.Tree.{Blocks, Block, Nil, join, ended, is_ending, is_some_line, Text as TextLeaf};
+    ghost use Rattle.definition_block.specs.Tree.{Blocks, Block, Nil, Leaf as OpenedLeaf, tree, ended, is_ending, is_some_line, Text as TextLeaf};
     ghost use Rattle.definition_block.specs.Definitions.{cut, cut_into};
     ghost use Rattle.block_rows.specs.ParagraphLines.{AreLines};
     ghost use Rattle.block_rows.specs.declared.row.Row.TheVariants as row_variant;
     ghost use Rattle.block_rows.specs.Rows.{block_rows, row_shown};
     ghost use Rattle.block_parser.specs.Spine.{Level, Spine, spine};
-    ghost use Rattle.block_parser.specs.View.{HasRead};
+    ghost use Rattle.block_parser.specs.View.{Becomes, HasRead};
 
     /// The definitions at the front of the open paragraph become rows.
     pub(crate) fn cut_definitions(&mut self, on: &Constructs) -> Result<(), AllocError>
-        ensures read { OnOk result ((around : List Level) (kids : Blocks) (ls : List BlockLine) → AreLines ls → HasRead self.old (spine around kids (TextLeaf ls)) → HasRead self.new (spine around (join kids (cut on.now ls).definitions) (TextLeaf (cut on.now ls).left))) }
+        ensures read { OnOk result ((ls : List BlockLine) → AreLines ls → let parts = cut on.now ls in
+            Becomes self.old self.new (TextLeaf ls) (tree parts.definitions (OpenedLeaf (TextLeaf parts.left)))) }
         ensures containers { self.new.open ≡ self.old.open }
     {
         if !self.may_define(on) {
             return Ok(());
         }
-        join_lines(&mut self.content, &self.pieces[self.taken..])?;
+        join_lines(&mut self.content, &self.pieces[self.lines_in_rows..])?;
         let mut at = 0;
         while let Some(end) = first_definition(
             &self.content.as_bytes()[at..],
-            &self.pieces[self.taken..],
+            &self.pieces[self.lines_in_rows..],
         ) {
             self.define(end.lines)?;
             at += end.bytes;
@@ -47,38 +48,41 @@ impl<'a, A: Allocator> Parser<'a, A> {
     /// Whether a definition may begin the open paragraph.
     fn may_define(&self, on: &Constructs) -> bool
         ensures on { result ≡ true → on.now.definition ≡ true }
-        ensures uncut { result ≡ false → (around : List Level) (kids : Blocks) (ls : List BlockLine) → AreLines ls → HasRead self.now (spine around kids (TextLeaf ls)) → cut on.now ls ≡ cut_into Nil ls }
+        ensures uncut { result ≡ false → (around : List Level) (kids : Blocks) (ls : List BlockLine) → AreLines ls →
+            HasRead self.now (spine around kids (TextLeaf ls)) → cut on.now ls ≡ cut_into Nil ls }
     {
-        on.definition && may_begin(&self.pieces[self.taken..])
+        on.definition && may_begin(&self.pieces[self.lines_in_rows..])
     }
 
     /// The first lines of the open paragraph, so many, are a definition.
     fn define(&mut self, count: usize) -> Result<(), AllocError>
-        requires { self.old.taken + count ≤ vec_len self.old.pieces }
-        ensures read { OnOk result ((around : List Level) (kids : Blocks) (ls : List BlockLine) (b : Block) → HasRead self.old (spine around kids (TextLeaf ls)) → block_rows b ≡ row_shown (row_variant.Definition count) ls ∷ [] → is_ending b ≡ false → HasRead self.new (spine around (join kids (ended b (last_ending (take count ls)))) (TextLeaf (drop count ls)))) }
+        requires { self.old.lines_in_rows + count ≤ vec_len self.old.pieces }
+        ensures read { OnOk result ((ls : List BlockLine) (b : Block) → block_rows b ≡ row_shown (row_variant.Definition count) ls ∷ [] → is_ending b ≡ false →
+            Becomes self.old self.new (TextLeaf ls) (tree (ended b (last_ending (take count ls))) (OpenedLeaf (TextLeaf (drop count ls))))) }
         ensures containers { self.new.open ≡ self.old.open }
         ensures content { self.new.content ≡ self.old.content }
         ensures pieces { self.new.pieces ≡ self.old.pieces }
-        ensures taken { OnOk result (self.new.taken ≡ self.old.taken + count) }
+        ensures count { OnOk result (self.new.lines_in_rows ≡ self.old.lines_in_rows + count) }
     {
-        let ending = last_ending(&self.pieces[self.taken..self.taken + count]);
+        let ending = last_ending(&self.pieces[self.lines_in_rows..self.lines_in_rows + count]);
         self.rows.block(Row::Definition(count))?;
-        self.taken += count;
+        self.lines_in_rows += count;
         self.leaf = NOTHING;
         self.rows.ending(ending)
     }
 
     /// Whether something is left of the open paragraph after the definitions at its front.
     pub(crate) fn leaves_text(&mut self, on: &Constructs) -> Result<bool, AllocError>
-        ensures left { IfOk result (λ some. (around : List Level) (kids : Blocks) (ls : List BlockLine) → AreLines ls → HasRead self.old (spine around kids (TextLeaf ls)) → some ≡ is_some_line (cut on.now ls).left) }
+        ensures left { IfOk result (λ some. (around : List Level) (kids : Blocks) (ls : List BlockLine) → AreLines ls →
+            HasRead self.old (spine around kids (TextLeaf ls)) → some ≡ is_some_line (cut on.now ls).left) }
         ensures kept { (s : Spine) → HasRead self.old s → HasRead self.new s }
         ensures containers { self.new.open ≡ self.old.open }
     {
         if !self.may_define(on) {
             return Ok(self.has_text());
         }
-        join_lines(&mut self.content, &self.pieces[self.taken..])?;
-        Ok(has_more(self.content.as_bytes(), &self.pieces[self.taken..]))
+        join_lines(&mut self.content, &self.pieces[self.lines_in_rows..])?;
+        Ok(has_more(self.content.as_bytes(), &self.pieces[self.lines_in_rows..]))
     }
 }
 

@@ -6,7 +6,7 @@ ghost use Rattle.std.specs.Prelude.{◌≡◌, ◌&&◌};
 ghost use Rattle.definition_text.specs.Columns.{is_blank as is_blank_rest};
 ghost use Rattle.definition_block.specs.HtmlFlow.{html_start as html_starts, html_ends_here as html_ends_on, ends_before_blank as stops_before_blank};
 ghost use Rattle.block_starts.specs.View.{rest_of};
-ghost use Rattle.block_starts.specs.HtmlKinds.{number_of, kind_number};
+ghost use Rattle.block_starts.specs.HtmlFlow.{number_of, kind_number};
 
 use crate::leaf::OpenLeaf;
 use crate::parser::{Parser, piece};
@@ -19,13 +19,12 @@ use markdown_options::{Constructs, LineEnding};
 use std::alloc::{AllocError, Allocator};
 
 impl<'a, A: Allocator> Parser<'a, A> {
-    ghost use Rattle.std.specs.Prelude.{◌≡◌, OnOk, List, ℕ, []};
-    ghost use Rattle.block_starts.specs.HtmlKinds.{number_of};
+    ghost use Rattle.std.specs.Prelude.{◌≡◌, OnOk, List, ℕ};
+    ghost use Rattle.block_starts.specs.HtmlFlow.{number_of};
     ghost use Rattle.definition_text.specs.BlockLines.{BlockLine, last_ending};
-    ghost use Rattle.definition_block.specs.Tree.{Blocks, join, close_leaf, OpenLeaf as OpenLeafOf, html_with, Leaf as OpenedLeaf, Text as TextLeaf, OpenHtml as HtmlLeaf};
-    ghost use Rattle.block_parser.specs.Spine.{Level, spine, grown};
+    ghost use Rattle.definition_block.specs.Tree.{close_leaf, OpenLeaf as OpenLeafOf, html_with, Leaf as OpenedLeaf, OpenHtml as HtmlLeaf};
     ghost use Rattle.block_parser.specs.Shows.{leaf_lines};
-    ghost use Rattle.block_parser.specs.View.{HasRead, leaf_grown};
+    ghost use Rattle.block_parser.specs.View.{Becomes, Closes, leaf_grown};
     ghost use Rattle.block_starts.specs.View.{rest_of};
 
     /// An HTML block takes every line up to its end, which may come before a blank one.
@@ -36,7 +35,8 @@ impl<'a, A: Allocator> Parser<'a, A> {
         rest: Cursor<'a>,
         beside: Beside,
     ) -> Result<(), AllocError>
-        ensures { OnOk result ((around : List Level) (kids : Blocks) (ls : List BlockLine) → HasRead self.old (spine around kids (HtmlLeaf (number_of kind) ls)) → HasRead self.new (grown around kids (leaf_grown on.now beside (rest_of rest.entry) (OpenedLeaf (HtmlLeaf (number_of kind) ls))))) }
+        ensures { OnOk result ((ls : List BlockLine) → let leaf = HtmlLeaf (number_of kind) ls in
+            Becomes self.old self.new leaf (leaf_grown on.now beside (rest_of rest.entry) (OpenedLeaf leaf))) }
     {
         if html_stops(kind, rest) {
             let depth = self.open.len();
@@ -52,7 +52,8 @@ impl<'a, A: Allocator> Parser<'a, A> {
         rest: Cursor<'a>,
         beside: Beside,
     ) -> Result<(), AllocError>
-        ensures { OnOk result ((around : List Level) (kids : Blocks) (leaf : OpenLeafOf) (ls : List BlockLine) → leaf_lines leaf ≡ ls → HasRead self.old (spine around kids leaf) → HasRead self.new (grown around kids (html_with (number_of kind) ls (rest_of rest.entry) beside))) }
+        ensures { OnOk result ((leaf : OpenLeafOf) (ls : List BlockLine) → leaf_lines leaf ≡ ls →
+            Becomes self.old self.new leaf (html_with (number_of kind) ls (rest_of rest.entry) beside)) }
     {
         self.pieces.push(piece(rest, beside))?;
         self.leaf = OpenLeaf::Html {
@@ -66,10 +67,11 @@ impl<'a, A: Allocator> Parser<'a, A> {
     }
 
     pub(crate) fn close_html(&mut self, ending: Option<LineEnding>) -> Result<(), AllocError>
-        ensures read { OnOk result ((around : List Level) (kids : Blocks) (switches : Constructs) (kind : ℕ) (ls : List BlockLine) → ending ≡ last_ending ls → HasRead self.old (spine around kids (HtmlLeaf kind ls)) → HasRead self.new (spine around (join kids (close_leaf switches (HtmlLeaf kind ls))) (TextLeaf []))) }
+        ensures read { OnOk result ((switches : Constructs) (kind : ℕ) (ls : List BlockLine) → ending ≡ last_ending ls →
+            Closes self.old self.new (HtmlLeaf kind ls) (close_leaf switches (HtmlLeaf kind ls))) }
         ensures containers { self.new.open ≡ self.old.open }
     {
-        let count = self.pieces.len() - self.taken;
+        let count = self.pieces.len() - self.lines_in_rows;
         self.end_leaf(Row::Html(count), ending)
     }
 }

@@ -1,13 +1,16 @@
 //! Lines to blocks.
 #![tactic(auto)]
 
-mod code;
+mod code_fenced;
+mod code_indented;
 mod definition;
-mod heading;
+mod heading_atx;
+mod heading_setext;
 mod html_flow;
 mod leaf;
 mod paragraph;
 mod parser;
 mod rows;
+mod thematic_break;
 
 pub use parser::{BlockRows, block_rows};

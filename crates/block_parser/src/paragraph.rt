@@ -24,16 +24,17 @@ const WHOLE_LINES_MIN: usize = 8;
 impl<'a, A: Allocator> Parser<'a, A> {
     ghost use Rattle.std.specs.Prelude.{◌≡◌, OnOk, List, true, false, drop, ◌+◌, ◌-◌, ◌++◌, ◌∷◌, [], length};
     ghost use Rattle.definition_text.specs.BlockLines.{BlockLine, own_lines};
-    ghost use Rattle.definition_block.specs.Tree.{Blocks, join, ended, close_leaf, paragraph_of, Paragraph as ParagraphBlock, Text as TextLeaf, rest_line};
+    ghost use Rattle.definition_block.specs.Tree.{Blocks, ended, close_leaf, paragraph_of, Paragraph as ParagraphBlock, Text as TextLeaf, rest_line};
     ghost use Rattle.block_rows.specs.ParagraphLines.{AreLines};
     ghost use Rattle.block_parser.specs.Spine.{Level, spine};
-    ghost use Rattle.block_parser.specs.View.{HasRead};
+    ghost use Rattle.block_parser.specs.View.{Closes, HasRead};
     ghost use Rattle.block_rows.specs.Rows.{piece_lines, whole_lines};
     ghost use Rattle.block_starts.specs.View.{rest_of};
 
     /// A line of text goes on the paragraph, or is its first.
     pub(crate) fn text_line(&mut self, rest: Cursor<'a>, beside: Beside) -> Result<(), AllocError>
-        ensures { OnOk result ((around : List Level) (kids : Blocks) (ls : List BlockLine) → HasRead self.old (spine around kids (TextLeaf ls)) → HasRead self.new (spine around kids (TextLeaf (ls ++ rest_line (rest_of rest.entry) beside ∷ [])))) }
+        ensures { OnOk result ((around : List Level) (kids : Blocks) (ls : List BlockLine) → HasRead self.old (spine around kids (TextLeaf ls)) →
+            HasRead self.new (spine around kids (TextLeaf (ls ++ rest_line (rest_of rest.entry) beside ∷ [])))) }
     {
         if !self.has_text() {
             self.paragraph = self.rest;
@@ -44,7 +45,7 @@ impl<'a, A: Allocator> Parser<'a, A> {
 
     /// Closes the open paragraph: definitions, and a paragraph of what is left.
     pub(crate) fn close_text(&mut self, on: &Constructs) -> Result<(), AllocError>
-        ensures read { OnOk result ((around : List Level) (kids : Blocks) (ls : List BlockLine) → AreLines ls → HasRead self.old (spine around kids (TextLeaf ls)) → HasRead self.new (spine around (join kids (close_leaf on.now (TextLeaf ls))) (TextLeaf []))) }
+        ensures read { OnOk result ((ls : List BlockLine) → AreLines ls → Closes self.old self.new (TextLeaf ls) (close_leaf on.now (TextLeaf ls))) }
         ensures containers { self.new.open ≡ self.old.open }
     {
         self.cut_definitions(on)?;
@@ -53,14 +54,14 @@ impl<'a, A: Allocator> Parser<'a, A> {
 
     /// The lines that are left of the open paragraph, if there are any, are a paragraph.
     fn close_paragraph(&mut self) -> Result<(), AllocError>
-        ensures read { OnOk result ((around : List Level) (kids : Blocks) (ls : List BlockLine) → HasRead self.old (spine around kids (TextLeaf ls)) → HasRead self.new (spine around (join kids (paragraph_of ls)) (TextLeaf []))) }
+        ensures read { OnOk result ((ls : List BlockLine) → Closes self.old self.new (TextLeaf ls) (paragraph_of ls)) }
         ensures containers { self.new.open ≡ self.old.open }
     {
-        let count = self.pieces.len() - self.taken;
+        let count = self.pieces.len() - self.lines_in_rows;
         if count == 0 {
             return Ok(());
         }
-        let ending = last_ending(&self.pieces[self.taken..]);
+        let ending = last_ending(&self.pieces[self.lines_in_rows..]);
         if self.has_whole_lines() {
             return self.close_whole(count, ending);
         }
@@ -70,9 +71,10 @@ impl<'a, A: Allocator> Parser<'a, A> {
     /// Whether the lines of the open leaf are many, and whole lines of the text, from that of
     /// `paragraph` on.
     pub(crate) fn has_whole_lines(&self) -> bool
-        ensures { result ≡ true → drop self.now.taken (piece_lines self.now.pieces.items) ≡ whole_lines (length self.now.pieces.items - self.now.taken) self.now.paragraph.now }
+        ensures { result ≡ true →
+            drop self.now.lines_in_rows (piece_lines self.now.pieces.items) ≡ whole_lines (length self.now.pieces.items - self.now.lines_in_rows) self.now.paragraph.now }
     {
-        let lines = &self.pieces[self.taken..];
+        let lines = &self.pieces[self.lines_in_rows..];
         lines.len() >= WHOLE_LINES_MIN && are_whole(self.paragraph, lines)
     }
 
@@ -82,11 +84,12 @@ impl<'a, A: Allocator> Parser<'a, A> {
         count: usize,
         ending: Option<LineEnding>,
     ) -> Result<(), AllocError>
-        ensures read { OnOk result ((around : List Level) (kids : Blocks) (ls : List BlockLine) → ls ≡ whole_lines count self.old.paragraph.now → HasRead self.old (spine around kids (TextLeaf ls)) → HasRead self.new (spine around (join kids (ended (ParagraphBlock (own_lines ls)) ending)) (TextLeaf []))) }
+        ensures read { OnOk result ((ls : List BlockLine) → ls ≡ whole_lines count self.old.paragraph.now →
+            Closes self.old self.new (TextLeaf ls) (ended (ParagraphBlock (own_lines ls)) ending)) }
         ensures containers { self.new.open ≡ self.old.open }
     {
         self.leaf = NOTHING;
-        self.pieces.truncate(self.taken);
+        self.pieces.truncate(self.lines_in_rows);
         self.pieces.push(whole(self.paragraph))?;
         self.end_leaf(Row::WholeParagraph(count), ending)
     }

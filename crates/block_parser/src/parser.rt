@@ -5,7 +5,7 @@ ghost use Rattle.block_rows.specs.Rows.{all_taken, piece_line, piece_lines, rows
 ghost use Rattle.block_starts.specs.View.{rest_of};
 ghost use Rattle.block_parser.specs.Leaves.{lines_needed};
 
-use crate::code::begins_code;
+use crate::code_indented::begins_code;
 use crate::html_flow::html_start;
 use crate::leaf::OpenLeaf;
 use crate::rows::Rows;
@@ -36,7 +36,7 @@ pub(crate) struct Parser<'a, A: Allocator> {
     /// The content of a paragraph that definitions are read off.
     pub(crate) content: String<A>,
     /// How many of the lines the rows take. The others are those of the open leaf.
-    pub(crate) taken: usize,
+    pub(crate) lines_in_rows: usize,
     /// The containers that are open, the outermost first.
     pub(crate) open: Vec<Container, A>,
     pub(crate) leaf: OpenLeaf<'a>,
@@ -44,8 +44,8 @@ pub(crate) struct Parser<'a, A: Allocator> {
     pub(crate) rest: &'a str,
     /// The text from the first line of the open paragraph on.
     pub(crate) paragraph: &'a str,
-    ghost counted: { taken ≡ all_taken rows.rows.items },
-    ghost enough: { taken + lines_needed leaf ≤ vec_len pieces },
+    ghost counted: { lines_in_rows ≡ all_taken rows.rows.items },
+    ghost enough: { lines_in_rows + lines_needed leaf ≤ vec_len pieces },
     ghost rest_fits: { length rest.now < 2 ^ 61 },
     ghost paragraph_fits: { length paragraph.now < 2 ^ 61 },
 }
@@ -57,13 +57,13 @@ impl<'a, A: Allocator> Parser<'a, A> {
     ghost use Rattle.std.specs.Prelude.{◌≡◌, ◌==◌, ◌&&◌, OnOk, IfOk, List, Option, false};
     ghost use Rattle.markdown_options.specs.declared.line_ending.LineEnding.{LineEnding};
     ghost use Rattle.definition_text.specs.Lines.{text_line};
-    ghost use Rattle.definition_block.specs.Tree.{Tree, Block, Blocks, tree, nothing, Nil, join, one, ended, step, new, close, close_leaf, is_ending, is_nothing, is_some_line, leaf_text, open_text, began_blank, OpenLeaf as OpenLeafOf};
+    ghost use Rattle.definition_block.specs.Tree.{Tree, Block, Blocks, tree, nothing, Nil, one, ended, step, new, close, close_leaf, is_ending, is_nothing, is_some_line, leaf_text, open_text, began_blank, OpenLeaf as OpenLeafOf};
     ghost use Rattle.block_rows.specs.ParagraphLines.{AreLines};
-    ghost use Rattle.definition_block.specs.Tree.{Opening, leaf_line as line_of_leaf, has_text as is_text_open, Blank as BlankBlock, Break as BreakBlock, Leaf as OpenedLeaf, Inside, Text as TextLeaf};
+    ghost use Rattle.definition_block.specs.Tree.{Opening, leaf_line as line_of_leaf, has_text as is_text_open, Blank as BlankBlock, Leaf as OpenedLeaf, Inside, Text as TextLeaf};
     ghost use Rattle.block_rows.specs.Rows.{block_rows, row_shown, lines_taken};
-    ghost use Rattle.block_parser.specs.Spine.{Level, Spine, level, spine, spine_at, spine_of, exited};
+    ghost use Rattle.block_parser.specs.Spine.{Level, Spine, level, spine, spine_at, spine_of, without_innermost};
     ghost use Rattle.block_parser.specs.Shows.{leaf_lines};
-    ghost use Rattle.block_parser.specs.View.{HasRead, Adds, Grows, Descent, Entered};
+    ghost use Rattle.block_parser.specs.View.{Closes, HasRead, Adds, Grows, Descent, Entered};
     ghost use Rattle.std.specs.Prelude.{◌≤◌, ◌<◌, ◌+◌, ◌-◌, ◌∷◌, [], length, vec_len};
     ghost use Rattle.block_starts.specs.View.{rest_of};
 
@@ -75,7 +75,8 @@ impl<'a, A: Allocator> Parser<'a, A> {
         before: Kind,
         line: Line<'a>,
     ) -> Result<(), AllocError>
-        ensures { OnOk result ((t : Tree) → AreLines (open_text t.now) → HasRead self.old (spine_of t) → HasRead self.new (spine_of (step on.now before t (text_line line.entry.content.now line.entry.ending)))) }
+        ensures { OnOk result ((t : Tree) → AreLines (open_text t.now) → HasRead self.old (spine_of t) →
+            HasRead self.new (spine_of (step on.now before t (text_line line.entry.content.now line.entry.ending)))) }
     {
         self.rest = line.text;
         let beside = Beside {
@@ -103,7 +104,8 @@ impl<'a, A: Allocator> Parser<'a, A> {
         beside: Beside,
     ) -> (usize, Cursor<'a>, Beside)
         ensures within { result.0 ≤ vec_len self.now.open }
-        ensures descent { (t : Tree) → HasRead self.now (spine_of t) → Descent on.now beside (rest_of line.entry) t (vec_len self.now.open) result.0 (rest_of result.1) result.2 }
+        ensures descent { (t : Tree) → HasRead self.now (spine_of t) →
+            Descent on.now beside (rest_of line.entry) t (vec_len self.now.open) result.0 (rest_of result.1) result.2 }
     {
         let mut rest = line;
         let mut here = beside;
@@ -123,7 +125,8 @@ impl<'a, A: Allocator> Parser<'a, A> {
     /// Whether a container, at a depth, began with a blank line, and nothing followed.
     fn began_blank(&self, depth: usize) -> bool
         requires { depth < vec_len self.now.open }
-        ensures { (around : List Level) (kids inner_kids : Blocks) (c : Container) (inner : Opening) → depth ≡ length around → HasRead self.now (spine_at around kids (Inside c inner_kids inner)) → result ≡ began_blank inner_kids inner }
+        ensures { (around : List Level) (kids inner_kids : Blocks) (c : Container) (inner : Opening) → depth ≡ length around →
+            HasRead self.now (spine_at around kids (Inside c inner_kids inner)) → result ≡ began_blank inner_kids inner }
     {
         if depth + 1 != self.open.len() {
             return false;
@@ -136,7 +139,7 @@ impl<'a, A: Allocator> Parser<'a, A> {
         ensures { (s : Spine) → HasRead self.now s → result ≡ is_nothing (OpenedLeaf s.leaf) }
     {
         match self.leaf {
-            OpenLeaf::Text => self.taken == self.pieces.len(),
+            OpenLeaf::Text => self.lines_in_rows == self.pieces.len(),
             OpenLeaf::Indented { .. } => false,
             OpenLeaf::Fenced { .. } => false,
             OpenLeaf::Html { .. } => false,
@@ -148,7 +151,7 @@ impl<'a, A: Allocator> Parser<'a, A> {
         ensures { (s : Spine) → HasRead self.now s → result ≡ is_some_line (leaf_text s.leaf) }
     {
         match self.leaf {
-            OpenLeaf::Text => self.taken < self.pieces.len(),
+            OpenLeaf::Text => self.lines_in_rows < self.pieces.len(),
             OpenLeaf::Indented { .. } => false,
             OpenLeaf::Fenced { .. } => false,
             OpenLeaf::Html { .. } => false,
@@ -157,7 +160,8 @@ impl<'a, A: Allocator> Parser<'a, A> {
 
     /// Whether what starts on a line that is in so many containers interrupts a paragraph.
     pub(crate) fn interrupts(&self, depth: usize) -> bool
-        ensures { (around : List Level) (kids : Blocks) (away : Opening) → depth ≡ length around → HasRead self.now (spine_at around kids away) → result ≡ ((depth == vec_len self.now.open) && is_text_open away) }
+        ensures { (around : List Level) (kids : Blocks) (away : Opening) → depth ≡ length around → HasRead self.now (spine_at around kids away) →
+            result ≡ ((depth == vec_len self.now.open) && is_text_open away) }
     {
         depth == self.open.len() && self.has_text()
     }
@@ -171,7 +175,8 @@ impl<'a, A: Allocator> Parser<'a, A> {
         beside: Beside,
     ) -> Result<(), AllocError>
         requires depth { depth ≤ vec_len self.old.open }
-        ensures { OnOk result (Grows self.old self.new depth (λ away. new (length (rest_of rest.entry)) on.now (depth == vec_len self.old.open) away beside (rest_of rest.entry))) }
+        ensures { OnOk result (Grows self.old self.new depth
+            (λ away. new (length (rest_of rest.entry)) on.now (depth == vec_len self.old.open) away beside (rest_of rest.entry))) }
     {
         let Some((container, after)) = starts(on, self.interrupts(depth), rest) else {
             return self.leaf_line(on, depth, rest, beside);
@@ -194,7 +199,8 @@ impl<'a, A: Allocator> Parser<'a, A> {
         rest: Cursor<'a>,
         beside: Beside,
     ) -> Result<(Cursor<'a>, Beside), AllocError>
-        ensures { IfOk result (λ inside. (around : List Level) (kids : Blocks) → HasRead self.old (spine around kids (TextLeaf [])) → Entered on.now (rest_of rest.entry) beside (rest_of inside.0) inside.1 self.new around kids) }
+        ensures { IfOk result (λ inside. (around : List Level) (kids : Blocks) → HasRead self.old (spine around kids (TextLeaf [])) →
+            Entered on.now (rest_of rest.entry) beside (rest_of inside.0) inside.1 self.new around kids) }
     {
         let mut inside = rest;
         let mut here = beside;
@@ -259,17 +265,10 @@ impl<'a, A: Allocator> Parser<'a, A> {
         self.rows.blank(ending)
     }
 
-    /// A thematic break, where no leaf is open.
-    fn thematic_break(&mut self, ending: Option<LineEnding>) -> Result<(), AllocError>
-        ensures { OnOk result (Adds self.old self.new (tree (ended BreakBlock ending) nothing)) }
-    {
-        self.rows.block(Row::Break)?;
-        self.rows.ending(ending)
-    }
-
     /// A container starts, where no leaf is open.
     fn enter(&mut self, container: Container) -> Result<(), AllocError>
-        ensures { OnOk result ((around : List Level) (kids : Blocks) → HasRead self.old (spine around kids (TextLeaf [])) → HasRead self.new (spine (level container kids ∷ around) Nil (TextLeaf []))) }
+        ensures { OnOk result ((around : List Level) (kids : Blocks) → HasRead self.old (spine around kids (TextLeaf [])) →
+            HasRead self.new (spine (level container kids ∷ around) Nil (TextLeaf []))) }
     {
         self.rows.enter(container)?;
         self.open.push(container)?;
@@ -291,7 +290,7 @@ impl<'a, A: Allocator> Parser<'a, A> {
 
     /// Closes the innermost container, where no leaf is open.
     fn exit(&mut self) -> Result<(), AllocError>
-        ensures read { OnOk result ((s : Spine) → s.leaf ≡ TextLeaf [] → HasRead self.old s → HasRead self.new (exited s)) }
+        ensures read { OnOk result ((s : Spine) → s.leaf ≡ TextLeaf [] → HasRead self.old s → HasRead self.new (without_innermost s)) }
         ensures count { OnOk result (vec_len self.new.open ≡ vec_len self.old.open - 1) }
     {
         match self.open.pop() {
@@ -303,7 +302,7 @@ impl<'a, A: Allocator> Parser<'a, A> {
 
     /// Closes the open leaf, if there is one.
     fn close_leaf(&mut self, on: &Constructs) -> Result<(), AllocError>
-        ensures read { OnOk result ((around : List Level) (kids : Blocks) (leaf : OpenLeafOf) → AreLines (leaf_text leaf) → HasRead self.old (spine around kids leaf) → HasRead self.new (spine around (join kids (close_leaf on.now leaf)) (TextLeaf []))) }
+        ensures read { OnOk result ((leaf : OpenLeafOf) → AreLines (leaf_text leaf) → Closes self.old self.new leaf (close_leaf on.now leaf)) }
         ensures containers { self.new.open ≡ self.old.open }
     {
         match self.leaf {
@@ -320,12 +319,13 @@ impl<'a, A: Allocator> Parser<'a, A> {
         row: Row,
         ending: Option<LineEnding>,
     ) -> Result<(), AllocError>
-        requires { self.old.taken + lines_taken row ≡ vec_len self.old.pieces }
-        ensures read { OnOk result ((around : List Level) (kids : Blocks) (leaf : OpenLeafOf) (b : Block) → HasRead self.old (spine around kids leaf) → block_rows b ≡ row_shown row (leaf_lines leaf) ∷ [] → is_ending b ≡ false → HasRead self.new (spine around (join kids (ended b ending)) (TextLeaf []))) }
+        requires { self.old.lines_in_rows + lines_taken row ≡ vec_len self.old.pieces }
+        ensures read { OnOk result ((leaf : OpenLeafOf) (b : Block) → block_rows b ≡ row_shown row (leaf_lines leaf) ∷ [] → is_ending b ≡ false →
+            Closes self.old self.new leaf (ended b ending)) }
         ensures containers { self.new.open ≡ self.old.open }
     {
         self.rows.block(row)?;
-        self.taken = self.pieces.len();
+        self.lines_in_rows = self.pieces.len();
         self.leaf = NOTHING;
         self.rows.ending(ending)
     }
@@ -359,7 +359,7 @@ pub fn block_rows<'a, A: Allocator + Clone>(
         rows,
         pieces: Vec::new(alloc.clone()?),
         content: String::new(alloc.clone()?),
-        taken: 0,
+        lines_in_rows: 0,
         open: Vec::new(alloc),
         leaf: NOTHING,
         rest: text,

@@ -98,7 +98,8 @@ impl<A: Allocator> Rows<A> {
 
     /// A quote ends before the ending of its last line.
     fn exit_quote(&mut self) -> Result<(), AllocError>
-        ensures rows { OnOk result (self.new.rows.items ≡ (self.old.rows.items ++ inside container_variant.Quote self.old.waiting.items) ++ row_variant.Exit ∷ []) }
+        ensures rows { OnOk result (self.new.rows.items ≡
+            (self.old.rows.items ++ inside container_variant.Quote self.old.waiting.items) ++ row_variant.Exit ∷ []) }
         ensures waiting { OnOk result (self.new.waiting.items ≡ outside container_variant.Quote self.old.waiting.items) }
         ensures counted { all_taken self.new.rows.items ≡ all_taken self.old.rows.items }
     {

@@ -3,3 +3,4 @@ pub mod DefinitionLines
 pub mod OpenLines
 pub mod RowSteps
 pub mod DefinitionRows
+pub mod Pieces

@@ -1,4 +1,4 @@
 pub mod White
 pub mod Views
-pub mod Tails
-pub mod Items
+pub mod ThematicBreakLemmas
+pub mod MarkLemmas

@@ -7,7 +7,7 @@ use Rattle.std.proofs.lemmas.List.{drop-drop, drop_at, drop-append-le, length-re
 use Rattle.std.proofs.lemmas.List.Folds.{list_all_at}
 use Rattle.std.proofs.lemmas.List.Sums.{list_all-from_AllPass, prefix_len-le-length, prefix_len_passes, prefix_len_stops}
 use Rattle.definition_text.specs.Columns.{codes_from, is_white, indent, tab_column, columns_after_tab}
-use Rattle.block_starts.specs.Marks.{width}
+use Rattle.block_starts.specs.Widths.{width}
 
 -- ---- a front of columns that are white
 

@@ -1,6 +1,8 @@
 pub mod Marks
 pub mod View
-pub mod Markers
-pub mod Headings
-pub mod Fences
-pub mod HtmlKinds
+pub mod ListItem
+pub mod HeadingAtx
+pub mod CodeFenced
+pub mod HtmlFlow
+pub mod ThematicBreak
+pub mod Widths

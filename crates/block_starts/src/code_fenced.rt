@@ -7,7 +7,7 @@ ghost use Rattle.std.specs.List.{list_all, position_or_len};
 ghost use Rattle.definition_text.specs.Columns.{is_white};
 ghost use Rattle.definition_block.specs.CodeFenced.{fence_start as fence_at, fence_of as fence_in, fence_by as fence_made_of, is_fence_end as is_end_of_fence, fence_line as line_of_fence, first_word as first_word_of};
 ghost use Rattle.block_starts.specs.View.{rest_of};
-ghost use Rattle.block_starts.specs.Fences.{fence_view, fence_if};
+ghost use Rattle.block_starts.specs.CodeFenced.{fence_view, fence_if};
 
 use crate::cursor::{Cursor, is_space_or_tab};
 use crate::indent::is_small;

@@ -7,7 +7,9 @@ ghost use Rattle.definition_text.specs.Columns.{whole, codes_from, indent, bare,
 ghost use Rattle.definition_text.specs.Indents.{outdented};
 ghost use Rattle.definition_block.specs.ListItem.{is_digit};
 ghost use Rattle.definition_block.specs.ThematicBreak.{is_break_text};
-ghost use Rattle.block_starts.specs.Marks.{NoMark, BreaksWithin, is_mark, width};
+ghost use Rattle.block_starts.specs.Marks.{NoMark, is_mark};
+ghost use Rattle.block_starts.specs.Widths.{width};
+ghost use Rattle.block_starts.specs.ThematicBreak.{BreaksWithin};
 
 use crate::thematic_break::break_tail;
 

@@ -4,7 +4,7 @@
 ghost use Rattle.std.specs.Prelude.{◌≡◌};
 ghost use Rattle.definition_block.specs.HeadingAtx.{heading_atx as heading_at, atx_of as atx_in, begins_apart as begins_apart_at, ends_apart as ends_apart_at, without_run as without_run_at, without_closing as without_closing_at};
 ghost use Rattle.block_starts.specs.View.{rest_of};
-ghost use Rattle.block_starts.specs.Headings.{atx_if};
+ghost use Rattle.block_starts.specs.HeadingAtx.{atx_if};
 
 use crate::cursor::{Cursor, is_space_or_tab};
 use crate::indent::is_small;

@@ -5,7 +5,7 @@ ghost use Rattle.definition_text.specs.Bytes.{begins_with_letter, without_slash,
 ghost use Rattle.definition_block.specs.HtmlFlow.{element_name, after_element_name, ends_name, starts_raw, starts_declaration, begins_with_block_name, starts_basic, stands_alone, starts_complete, html_kind, begins_with_raw_end, html_ends};
 ghost use Rattle.definition_block.specs.HtmlNames.{is_raw_name, is_block_name};
 ghost use Rattle.inline_tags.specs.Views.{rest_of};
-ghost use Rattle.block_starts.specs.HtmlKinds.{number_of, kind_number};
+ghost use Rattle.block_starts.specs.HtmlFlow.{number_of, kind_number};
 
 use inline_tags::tags::{closing_tag, open_tag, tag_name};
 use markdown_options::constants::{HTML_BLOCK_NAMES, HTML_RAW_NAMES};

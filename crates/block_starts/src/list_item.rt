@@ -8,7 +8,7 @@ ghost use Rattle.std.specs.Prelude.{◌≡◌, ◌≤◌, ◌<◌, ◌^◌, ◌=
 ghost use Rattle.std.specs.List.{AllPass};
 ghost use Rattle.definition_block.specs.ListItem.{is_digit, number_of as number_of_digits, bullet as bullet_of, delimiter as delimiter_of, ordered as ordered_of, marker as marker_at, gap as gap_of, is_first as is_first_number, is_item as is_item_after, item as item_of, item_after as item_after_marker, item_start as item_starts, is_inside as is_inside_item, item_continues as item_goes_on};
 ghost use Rattle.block_starts.specs.View.{rest_of, rest_if, started_if};
-ghost use Rattle.block_starts.specs.Markers.{marker_view, marker_if};
+ghost use Rattle.block_starts.specs.ListItem.{marker_view, marker_if};
 ghost use Rattle.definition_block.specs.Started.{started};
 
 use crate::cursor::Cursor;

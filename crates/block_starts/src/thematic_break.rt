@@ -7,7 +7,7 @@ ghost use Rattle.std.specs.List.{list_all, count_by};
 ghost use Rattle.definition_text.specs.Columns.{is_white};
 ghost use Rattle.definition_block.specs.ThematicBreak.{is_break as is_break_line, is_break_text as is_break_of, is_break_by as is_break_made_of, is_break_marker as is_marker};
 ghost use Rattle.block_starts.specs.View.{rest_of};
-ghost use Rattle.block_starts.specs.Marks.{BreaksWithin};
+ghost use Rattle.block_starts.specs.ThematicBreak.{BreaksWithin};
 
 use crate::cursor::{Cursor, is_space_or_tab};
 use crate::indent::is_small;

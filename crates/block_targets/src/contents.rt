@@ -6,8 +6,7 @@ ghost use Rattle.block_rows.specs.Rows.{all_taken, definition_on, lines_taken, p
 ghost use Rattle.definition_page.specs.Targets.{document_definitions};
 ghost use Rattle.block_targets.specs.Read.{HasContents, alone};
 
-use block_definitions::join_lines;
-use block_rows::{Piece, Row};
+use block_rows::{Piece, Row, join_lines};
 use std::alloc::{AllocError, Allocator};
 
 /// The contents of definitions, in the order of the text.

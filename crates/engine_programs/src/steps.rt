@@ -12,10 +12,7 @@ use markdown_engine::tokenizer::Tokenizer;
 use std::alloc::Allocator;
 
 /// Moves over the byte.
-pub fn consume_to<M, T, A: Allocator>(
-    tokenizer: &mut Tokenizer<'_, M, T, A>,
-    state: State,
-) -> State
+pub fn consume_to<M, T, A: Allocator>(tokenizer: &mut Tokenizer<'_, M, T, A>, state: State) -> State
     ensures { Does (Consume (Answer state)) tokenizer.old tokenizer.new result }
 {
     tokenizer.consume();

@@ -7,6 +7,19 @@ ghost use Rattle.html_escape.specs.Tools.{encoded_if};
 use crate::replaced::{Replacement, push_replaced};
 use markdown_options::Message;
 use std::alloc::{AllocError, Allocator};
+use text_search::ByteSet;
+
+/// NUL.
+const NUL: ByteSet = ByteSet {
+    first: [0; 16],
+    second: [1, 0, 0, 0, 0, 0, 0, 0, 0, 0, 0, 0, 0, 0, 0, 0],
+};
+
+/// NUL, `"`, `&`, `<` and `>`.
+const ENCODED: ByteSet = ByteSet {
+    first: [0, 0, b'"', 0, 0, 0, b'&', 0, 0, 0, 0, 0, b'<', 0, b'>', 0],
+    second: [1, 0, 0, 0, 0, 0, 0, 0, 0, 0, 0, 0, 0, 0, 0, 0],
+};
 
 /// How a text is printed.
 #[derive(Clone, Copy)]
@@ -19,6 +32,10 @@ impl Replacement for Text {
     ghost use Rattle.html_escape.specs.Tools.{text_byte};
 
     ghost printed = { λ text. text_byte text.html };
+
+    fn candidates(&self) -> ByteSet {
+        if self.html { ENCODED } else { NUL }
+    }
 
     fn replacement(&self, byte: u8, _after: &[u8]) -> Option<&'static str> {
         match byte {

@@ -17,6 +17,13 @@ use markdown_options::Message;
 use markdown_options::constants::GFM_HTML_TAGFILTER_NAMES;
 use std::alloc::{AllocError, Allocator};
 use text_bytes::{is_one_of, without_slash};
+use text_search::ByteSet;
+
+/// NUL and `<`.
+const OPENINGS: ByteSet = ByteSet {
+    first: [0, 0, 0, 0, 0, 0, 0, 0, 0, 0, 0, 0, b'<', 0, 0, 0],
+    second: [1, 0, 0, 0, 0, 0, 0, 0, 0, 0, 0, 0, 0, 0, 0, 0],
+};
 
 /// The `<` of filtered tags is replaced.
 #[derive(Clone, Copy)]
@@ -26,6 +33,10 @@ impl Replacement for Tags {
     ghost use Rattle.html_escape.specs.Tools.{filtered_byte};
 
     ghost printed = { λ _. filtered_byte };
+
+    fn candidates(&self) -> ByteSet {
+        OPENINGS
+    }
 
     fn replacement(&self, byte: u8, after: &[u8]) -> Option<&'static str> {
         match byte {
@@ -46,6 +57,10 @@ impl Replacement for RawHtml {
     ghost use Rattle.html_escape.specs.Tools.{raw_byte};
 
     ghost printed = { λ html. raw_byte html.filters };
+
+    fn candidates(&self) -> ByteSet {
+        OPENINGS
+    }
 
     fn replacement(&self, byte: u8, after: &[u8]) -> Option<&'static str> {
         match byte {

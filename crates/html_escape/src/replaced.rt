@@ -1,13 +1,19 @@
 //! Texts in which some bytes are printed as something else.
-ghost use Rattle.std.specs.Prelude.{◌≡◌, ◌++◌, ℕ, List, [], ◌∷◌, ◌<◌, OnOk, OnSome, MatchOption, string_bytes};
+ghost use Rattle.std.specs.Prelude.{◌≡◌, ◌++◌, ℕ, List, [], ◌∷◌, ◌<◌, OnOk, OnSome, MatchOption, false, string_bytes};
 ghost use Rattle.html_escape.specs.Replaced.{replaced};
+ghost use Rattle.text_search.specs.Sets.{holds};
 
 use std::alloc::{AllocError, Allocator};
+use text_search::{ByteSet, next_of};
 
 /// What bytes are printed as.
 pub(crate) trait Replacement {
     // What a byte is printed as, given those after it.
     ghost printed: { Self → ℕ → List ℕ → List ℕ };
+
+    /// Bytes of which each that is replaced is one.
+    fn candidates(&self) -> ByteSet
+        ensures { (byte : ℕ) (after : List ℕ) → holds result byte ≡ false → printed self.now byte after ≡ byte ∷ [] };
 
     /// What is printed for a byte before others, if it isn't the byte itself. Only bytes of ASCII
     /// are replaced.
@@ -25,13 +31,17 @@ pub(crate) fn push_replaced<R: Replacement, A: Allocator>(
     ensures { OnOk result (string_bytes out.new ≡ string_bytes out.old ++ replaced (R.printed tool.now) text.now) }
 {
     let bytes = text.as_bytes();
+    let candidates = tool.candidates();
     let mut start = 0;
-    for (i, b) in bytes.iter().enumerate() {
-        if let Some(printed) = tool.replacement(*b, &bytes[i + 1..]) {
-            out.push_str(&text[start..i])?;
+    let mut at = next_of(bytes, candidates);
+    while at < bytes.len() {
+        let after = &bytes[at + 1..];
+        if let Some(printed) = tool.replacement(bytes[at], after) {
+            out.push_str(&text[start..at])?;
             out.push_str(printed)?;
-            start = i + 1;
+            start = at + 1;
         }
+        at += 1 + next_of(after, candidates);
     }
     out.push_str(&text[start..])
 }

@@ -14,7 +14,7 @@ use Rattle.html_page.specs.Loose.{before_ending, before_item, place_at}
 abbrev pub ahead_of : Blocks → Ahead
 ahead_of gs = record {
   some = is_some_block gs;
-  ended = leb 1 (leading gs);
+  ending_first = leb 1 (leading gs);
   apart = leb 2 (leading gs);
   marker = list_marker (after_endings gs);
   loose = is_loose (list_items (after_endings gs));
@@ -24,7 +24,7 @@ ahead_of gs = record {
 -- ---- endings
 
 abbrev with_endings : Ahead → Bool → Bool → Ahead
-with_endings a ended apart = record { some = a.some; ended = ended; apart = apart; marker = a.marker; loose = a.loose; gap = a.gap }
+with_endings a ended apart = record { some = a.some; ending_first = ended; apart = apart; marker = a.marker; loose = a.loose; gap = a.gap }
 
 one_more : (a : Ahead) (n : ℕ) → with_endings a (leb 1 (suc n)) (leb 2 (suc n)) ≡ with_endings a true (leb 1 n)
 one_more a n =
@@ -113,7 +113,7 @@ list_looseness item kids gs f =
     ∙ same_looseness g (leb 2 (leading gs)) (has_gap items) (has_gap_inside items)
 
 abbrev item_ahead : ℕ → Bool → Bool → Ahead
-item_ahead marker loose gap = record { some = true; ended = false; apart = false; marker = marker; loose = loose; gap = gap }
+item_ahead marker loose gap = record { some = true; ending_first = false; apart = false; marker = marker; loose = loose; gap = gap }
 
 ahead_of_listed : (goes_on : Bool) (item : ItemOf) (kids gs : Blocks) → 1 ≤ item.marker → (list_marker (after_endings gs) == item.marker) ≡ goes_on
     → ahead_of (listed goes_on (Holds (Item item) kids) gs)

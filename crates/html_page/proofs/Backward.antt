@@ -10,11 +10,11 @@ use Rattle.definition_text.specs.BlockLines.{BlockLine}
 use Rattle.definition_block.specs.Tree.{is_ending}
 use Rattle.definition_inline.specs.Definition.{Definition}
 use Rattle.block_rows.specs.Rows.{definition_on, definition_shown, row_shown, shown, shown_as, lines_taken}
-use Rattle.html_page.specs.Loose.{Passed, passed_at, nothing_passed, before_if, pass_row, pass_rows, places_of, starts_item}
+use Rattle.html_page.specs.Loose.{PassView, pass_at, pass_start, before_if, pass_row, pass_rows, places_of, starts_item}
 use Rattle.html_page.proofs.RowSteps.{shown_after}
 
 -- a row without its lines
-abbrev pub pass_bare : Passed → Row → Passed
+abbrev pub pass_bare : PassView → Row → PassView
 pass_bare p r = pass_row p (row_shown r [])
 
 -- a definition is no ending, whatever was read off its lines
@@ -22,7 +22,7 @@ no_ending : (o : Option Definition) → is_ending (definition_shown o) ≡ false
 no_ending None = refl
 no_ending (Some d) = refl
 
-same_without_lines : (p : Passed) (r : Row) (ls : List BlockLine) → pass_row p (row_shown r ls) ≡ pass_bare p r
+same_without_lines : (p : PassView) (r : Row) (ls : List BlockLine) → pass_row p (row_shown r ls) ≡ pass_bare p r
 same_without_lines p (row.Paragraph count) ls = refl
 same_without_lines p (row.Heading rank) ls = refl
 same_without_lines p (row.WholeParagraph count) ls = refl
@@ -33,14 +33,14 @@ same_without_lines p (row.FencedCode count) ls = refl
 same_without_lines p (row.UnclosedCode count) ls = refl
 same_without_lines p (row.Html count) ls = refl
 same_without_lines p (row.Definition count) ls =
-    ap (λ ending. passed_at (before_if ending p.ahead) p.outer p.places) (no_ending (definition_on (take count ls)) ∙ sym (no_ending (definition_on (take count []))))
+    ap (λ ending. pass_at (before_if ending p.ahead) p.outer p.places) (no_ending (definition_on (take count ls)) ∙ sym (no_ending (definition_on (take count []))))
 same_without_lines p row.EnterQuote ls = refl
 same_without_lines p (row.EnterItem marker number) ls = refl
 same_without_lines p row.Exit ls = refl
 same_without_lines p (row.Ending ending) ls = refl
 same_without_lines p (row.Blank ending) ls = refl
 
-pub passed_backward : (p : Passed) (rows : List Row) (ls : List BlockLine) → fold pass_bare p (reverse rows) ≡ pass_rows p (shown rows ls).rows
+pub passed_backward : (p : PassView) (rows : List Row) (ls : List BlockLine) → fold pass_bare p (reverse rows) ≡ pass_rows p (shown rows ls).rows
 passed_backward p [] ls = refl
 passed_backward p (r ∷ rows) ls =
     let left = drop (lines_taken r) ls in
@@ -52,7 +52,7 @@ passed_backward p (r ∷ rows) ls =
 
 -- ---- no place where there is no item
 
-same_places : (p : Passed) (r : Row) (ls : List BlockLine) → starts_item r ≡ false → (pass_row p (row_shown r ls)).places ≡ p.places
+same_places : (p : PassView) (r : Row) (ls : List BlockLine) → starts_item r ≡ false → (pass_row p (row_shown r ls)).places ≡ p.places
 same_places p (row.Paragraph count) ls h = refl
 same_places p (row.Heading rank) ls h = refl
 same_places p (row.WholeParagraph count) ls h = refl
@@ -69,7 +69,7 @@ same_places p row.Exit ls h = refl
 same_places p (row.Ending ending) ls h = refl
 same_places p (row.Blank ending) ls h = refl
 
-no_places : (p : Passed) (rows : List Row) (ls : List BlockLine) → list_any starts_item rows ≡ false → (pass_rows p (shown rows ls).rows).places ≡ p.places
+no_places : (p : PassView) (rows : List Row) (ls : List BlockLine) → list_any starts_item rows ≡ false → (pass_rows p (shown rows ls).rows).places ≡ p.places
 no_places p [] ls h = refl
 no_places p (r ∷ rows) ls h =
     let left = drop (lines_taken r) ls in
@@ -79,4 +79,4 @@ no_places p (r ∷ rows) ls h =
     ∙ no_places p rows left none.1
 
 pub no_items : (rows : List Row) (ls : List BlockLine) → list_any starts_item rows ≡ false → places_of (shown rows ls).rows ≡ []
-no_items rows ls h = no_places nothing_passed rows ls h
+no_items rows ls h = no_places pass_start rows ls h

@@ -12,14 +12,14 @@ use Rattle.html_bytes.specs.Document.{Document}
 use Rattle.html_bytes.specs.Html.{block_pieces, children_pieces, ends_tight, fresh_unless, number_tag, number_end}
 use Rattle.block_rows.specs.Rows.{Single, Exit, rows_of, block_rows}
 use Rattle.html_page.specs.declared.level.Level.{Level}
-use Rattle.html_page.specs.declared.level.Kind.{Kind}
-use Rattle.html_page.specs.declared.level.Kind.TheVariants as kind
+use Rattle.html_page.specs.declared.level.Holder.{Holder}
+use Rattle.html_page.specs.declared.level.Holder.TheVariants as holder
 use Rattle.html_page.specs.declared.loose.Place.{Place}
 use Rattle.html_page.specs.declared.loose.Ahead.{Ahead}
 use Rattle.html_page.specs.Printable.{IsPrintable, CanBePrinted}
 use Rattle.html_page.specs.Loose.{place_at}
-use Rattle.html_page.specs.Levels.{is_document, is_list, level_of, new_level, held, level_after}
-use Rattle.html_page.specs.Printed.{Printed, printed_at, in_list, start_item, exit_of, leave_list_if, row_printed, printed, more}
+use Rattle.html_page.specs.Levels.{is_document, is_list, level_of, new_level, after_block, level_after}
+use Rattle.html_page.specs.PrinterView.{PrinterView, printer_at, in_list, start_item, exit_of, leave_list_if, print_row, print_all, more}
 use Rattle.html_page.proofs.Ahead.{ahead_of, ahead_of_item, before_item_is, list_ahead, after_list, on_list, off_list, no_marker}
 use Rattle.html_page.proofs.Places.{places_in, places_within}
 use Rattle.html_page.proofs.Past.{level_past, past_kind, past_plain}
@@ -34,55 +34,55 @@ module _ (d : Document) (default : List ℕ) where
 
   -- what blocks print at a level
   abbrev at_level : Level → Blocks → List Piece
-  at_level l bs = children_pieces d (is_document l.kind) l.tight l.silent bs
+  at_level l bs = children_pieces d (is_document l.holder) l.tight l.silent bs
 
   -- ---- what is to be shown
 
   -- in a container or the document
   abbrev pub ChildrenPrinted : Blocks → Type 0
-  ChildrenPrinted bs = (l : Level) (out : List ℕ) (outer : List Level) (places : List Place) → is_list l.kind ≡ false
-      → printed d default (printed_at out l outer (places_within bs ++ places)) (rows_of bs)
-      ≡ printed_at (lay out (at_level l (grouped bs))) (level_past l (grouped bs)) outer places
+  ChildrenPrinted bs = (l : Level) (out : List ℕ) (outer : List Level) (places : List Place) → is_list l.holder ≡ false
+      → print_all d default (printer_at out l outer (places_within bs ++ places)) (rows_of bs)
+      ≡ printer_at (lay out (at_level l (grouped bs))) (level_past l (grouped bs)) outer places
 
   -- on a list that is open in a level
-  abbrev on_list_at : List ℕ → Option ℕ → Bool → Bool → Level → List Level → List Place → Printed
-  on_list_at out number tight plain l outer places = printed_at out (level_of (kind.List number) tight plain false) (l ∷ outer) places
+  abbrev on_list_at : List ℕ → Option ℕ → Bool → Bool → Level → List Level → List Place → PrinterView
+  on_list_at out number tight plain l outer places = printer_at out (level_of (holder.List number) tight plain false) (l ∷ outer) places
 
   -- after the rest of a list, and what follows it
-  abbrev list_then : List ℕ → Option ℕ → Bool → Level → Blocks → Blocks → List Level → List Place → Printed
+  abbrev list_then : List ℕ → Option ℕ → Bool → Level → Blocks → Blocks → List Level → List Place → PrinterView
   list_then out number tight l items others outer places =
-      printed_at (lay (lay out (children_pieces d false tight false items ++ Eol ∷ Bytes (number_end number) ∷ [])) (at_level l others)) (level_past l others) outer places
+      printer_at (lay (lay out (children_pieces d false tight false items ++ Eol ∷ Bytes (number_end number) ∷ [])) (at_level l others)) (level_past l others) outer places
 
   abbrev pub ListPrinted : Blocks → Type 0
   ListPrinted bs = (number : Option ℕ) (tight plain : Bool) (l : Level) (out : List ℕ) (outer : List Level) (places : List Place)
-      → is_list l.kind ≡ false → 1 ≤ list_marker (after_endings (grouped bs))
-      → printed d default (on_list_at out number tight plain l outer (places_within bs ++ places)) (rows_of bs)
+      → is_list l.holder ≡ false → 1 ≤ list_marker (after_endings (grouped bs))
+      → print_all d default (on_list_at out number tight plain l outer (places_within bs ++ places)) (rows_of bs)
       ≡ list_then out number tight l (list_ahead (grouped bs)) (after_list (grouped bs)) outer places
 
   -- ---- an item
 
   -- the end of an item
-  item_left : (number : Option ℕ) (tight last : Bool) (l inner : Level) (out : List ℕ) (outer : List Level) (places : List Place) → inner.kind ≡ kind.Item last
-      → row_printed d default (printed_at out inner (level_of (kind.List number) tight false false ∷ l ∷ outer) places) Exit
+  item_left : (number : Option ℕ) (tight last : Bool) (l inner : Level) (out : List ℕ) (outer : List Level) (places : List Place) → inner.holder ≡ holder.Item last
+      → print_row d default (printer_at out inner (level_of (holder.List number) tight false false ∷ l ∷ outer) places) Exit
       ≡ leave_list_if default last (on_list_at (lay out (fresh_unless inner.plain ++ Bytes (codes "</li>") ∷ [])) number tight false l outer places)
   item_left number tight last l inner out outer places is =
-      ap (λ (k : Kind). exit_of default k (printed_at out inner (level_of (kind.List number) tight false false ∷ l ∷ outer) places)) is
+      ap (λ (k : Holder). exit_of default k (printer_at out inner (level_of (holder.List number) tight false false ∷ l ∷ outer) places)) is
 
   -- an item on a list that is open
   item_printed : (item : ItemOf) (kids : Blocks) (place : Place) (number : Option ℕ) (tight plain : Bool) (l : Level) (out : List ℕ) (outer : List Level) (places : List Place)
       → ChildrenPrinted kids
-      → printed d default (on_list_at out number tight plain l outer (place ∷ (places_within kids ++ places))) (block_rows (Holds (Item item) kids))
+      → print_all d default (on_list_at out number tight plain l outer (place ∷ (places_within kids ++ places))) (block_rows (Holds (Item item) kids))
       ≡ leave_list_if default (not place.goes_on) (on_list_at (lay out (block_pieces d false tight false (Holds (Item item) (grouped kids)))) number tight false l outer places)
   item_printed item kids place number tight plain l out outer places k =
       let gs = grouped kids in
       let start : List Piece = Fresh ∷ Bytes (codes "<li>") ∷ [] in
-      let new = new_level (kind.Item (not place.goes_on)) tight in
+      let new = new_level (holder.Item (not place.goes_on)) tight in
       let inner = level_past new gs in
-      let around : List Level = level_of (kind.List number) tight false false ∷ l ∷ outer in
+      let around : List Level = level_of (holder.List number) tight false false ∷ l ∷ outer in
       let body = children_pieces d false tight false gs in
       let end : List Piece = Bytes (codes "</li>") ∷ [] in
-      fold-append (row_printed d default) (printed_at (lay out start) new around (places_within kids ++ places)) (rows_of kids) (Exit ∷ [])
-      ∙ ap (λ (p : Printed). row_printed d default p Exit) (k new (lay out start) around places refl)
+      fold-append (print_row d default) (printer_at (lay out start) new around (places_within kids ++ places)) (rows_of kids) (Exit ∷ [])
+      ∙ ap (λ (p : PrinterView). print_row d default p Exit) (k new (lay out start) around places refl)
       ∙ item_left number tight (not place.goes_on) l inner (lay (lay out start) body) outer places (past_kind new gs)
       ∙ ap (λ x. leave_list_if default (not place.goes_on) (on_list_at (lay (lay (lay out start) body) (fresh_unless x ++ end)) number tight false l outer places)) (sym (past_plain new gs))
       ∙ ap (λ x. leave_list_if default (not place.goes_on) (on_list_at x number tight false l outer places)) (lay_more (lay out start) body (fresh_unless (ends_tight tight true gs) ++ end)
@@ -90,8 +90,8 @@ module _ (d : Document) (default : List ℕ) where
 
   -- what follows an item that is printed: more of its list, or what stands after it
   item_then : (goes_on : Bool) (bs : Blocks) (number : Option ℕ) (tight : Bool) (l : Level) (out : List ℕ) (outer : List Level) (places : List Place)
-      → is_list l.kind ≡ false → (goes_on ≡ true → 1 ≤ list_marker (after_endings (grouped bs))) → ChildrenPrinted bs → ListPrinted bs
-      → printed d default (leave_list_if default (not goes_on) (on_list_at out number tight false l outer (places_within bs ++ places))) (rows_of bs)
+      → is_list l.holder ≡ false → (goes_on ≡ true → 1 ≤ list_marker (after_endings (grouped bs))) → ChildrenPrinted bs → ListPrinted bs
+      → print_all d default (leave_list_if default (not goes_on) (on_list_at out number tight false l outer (places_within bs ++ places))) (rows_of bs)
       ≡ list_then out number tight l (on_list goes_on (grouped bs)) (off_list goes_on (grouped bs)) outer places
   item_then true bs number tight l out outer places no_list some children list = list number tight false l out outer places no_list (some refl)
   item_then false bs number tight l out outer places no_list some children list = children l (lay out (Eol ∷ Bytes (number_end number) ∷ [])) outer places no_list
@@ -105,46 +105,46 @@ module _ (d : Document) (default : List ℕ) where
 
   -- a block, and those after it
   abbrev StepPrinted : Block → Blocks → Type 0
-  StepPrinted b bs = (l : Level) (out : List ℕ) (outer : List Level) (places : List Place) → is_list l.kind ≡ false
-      → printed d default (printed d default (printed_at out l outer (places_in b (grouped bs) ++ (places_within bs ++ places))) (block_rows b)) (rows_of bs)
-      ≡ printed_at (lay out (at_level l (before (grouped_block b) (grouped bs)))) (level_past l (before (grouped_block b) (grouped bs))) outer places
+  StepPrinted b bs = (l : Level) (out : List ℕ) (outer : List Level) (places : List Place) → is_list l.holder ≡ false
+      → print_all d default (print_all d default (printer_at out l outer (places_in b (grouped bs) ++ (places_within bs ++ places))) (block_rows b)) (rows_of bs)
+      ≡ printer_at (lay out (at_level l (before (grouped_block b) (grouped bs)))) (level_past l (before (grouped_block b) (grouped bs))) outer places
 
   -- a block that is a row
-  leaf_step : (b : Block) (bs : Blocks) → ChildrenPrinted bs → (l : Level) (out : List ℕ) (outer : List Level) (places : List Place) → is_list l.kind ≡ false
-      → printed d default (row_printed d default (printed_at out l outer (places_within bs ++ places)) (Single b)) (rows_of bs)
-      ≡ printed_at (lay out (at_level l (Cons b (grouped bs)))) (level_past l (Cons b (grouped bs))) outer places
+  leaf_step : (b : Block) (bs : Blocks) → ChildrenPrinted bs → (l : Level) (out : List ℕ) (outer : List Level) (places : List Place) → is_list l.holder ≡ false
+      → print_all d default (print_row d default (printer_at out l outer (places_within bs ++ places)) (Single b)) (rows_of bs)
+      ≡ printer_at (lay out (at_level l (Cons b (grouped bs)))) (level_past l (Cons b (grouped bs))) outer places
   leaf_step b bs children l out outer places no_list =
-      let own = block_pieces d (is_document l.kind) l.tight l.silent b in
+      let own = block_pieces d (is_document l.holder) l.tight l.silent b in
       let after = level_after l (Single b) in
       children after (lay out own) outer places no_list
-      ∙ ap (λ x. printed_at x (level_past after (grouped bs)) outer places) (lay_more out own (at_level after (grouped bs)))
+      ∙ ap (λ x. printer_at x (level_past after (grouped bs)) outer places) (lay_more out own (at_level after (grouped bs)))
 
-  quote_left : (l inner : Level) (out : List ℕ) (outer : List Level) (places : List Place) → inner.kind ≡ kind.Quote
-      → row_printed d default (printed_at out inner (l ∷ outer) places) Exit ≡ printed_at (lay out (Fresh ∷ Bytes (codes "</blockquote>") ∷ [])) l outer places
-  quote_left l inner out outer places is = ap (λ (k : Kind). exit_of default k (printed_at out inner (l ∷ outer) places)) is
+  quote_left : (l inner : Level) (out : List ℕ) (outer : List Level) (places : List Place) → inner.holder ≡ holder.Quote
+      → print_row d default (printer_at out inner (l ∷ outer) places) Exit ≡ printer_at (lay out (Fresh ∷ Bytes (codes "</blockquote>") ∷ [])) l outer places
+  quote_left l inner out outer places is = ap (λ (k : Holder). exit_of default k (printer_at out inner (l ∷ outer) places)) is
 
   quote_step : (kids bs : Blocks) → ChildrenPrinted kids → ChildrenPrinted bs → StepPrinted (Holds Quote kids) bs
   quote_step kids bs k children l out outer places no_list =
       let gs = grouped kids in
       let start : List Piece = Fresh ∷ Bytes (codes "<blockquote>") ∷ [] in
-      let new = new_level kind.Quote false in
+      let new = new_level holder.Quote false in
       let body = children_pieces d false false false gs in
       let end : List Piece = Fresh ∷ Bytes (codes "</blockquote>") ∷ [] in
       let left = places_within bs ++ places in
-      ap (λ (p : Printed). printed d default p (rows_of bs))
-      (fold-append (row_printed d default) (printed_at (lay out start) new (held l ∷ outer) (places_within kids ++ left)) (rows_of kids) (Exit ∷ [])
-      ∙ ap (λ (p : Printed). row_printed d default p Exit) (k new (lay out start) (held l ∷ outer) left refl)
-      ∙ quote_left (held l) (level_past new gs) (lay (lay out start) body) outer left (past_kind new gs)
-      ∙ ap (λ x. printed_at x (held l) outer left) (lay_more (lay out start) body end))
-      ∙ children (held l) (lay (lay out start) (body ++ end)) outer places no_list
-      ∙ ap (λ x. printed_at x (level_past (held l) (grouped bs)) outer places) (lay_more out (start ++ (body ++ end)) (at_level (held l) (grouped bs)))
+      ap (λ (p : PrinterView). print_all d default p (rows_of bs))
+      (fold-append (print_row d default) (printer_at (lay out start) new (after_block l ∷ outer) (places_within kids ++ left)) (rows_of kids) (Exit ∷ [])
+      ∙ ap (λ (p : PrinterView). print_row d default p Exit) (k new (lay out start) (after_block l ∷ outer) left refl)
+      ∙ quote_left (after_block l) (level_past new gs) (lay (lay out start) body) outer left (past_kind new gs)
+      ∙ ap (λ x. printer_at x (after_block l) outer left) (lay_more (lay out start) body end))
+      ∙ children (after_block l) (lay (lay out start) (body ++ end)) outer places no_list
+      ∙ ap (λ x. printer_at x (level_past (after_block l) (grouped bs)) outer places) (lay_more out (start ++ (body ++ end)) (at_level (after_block l) (grouped bs)))
 
   -- the list that an item starts, if none is open
-  list_started : (item : ItemOf) (kids : Blocks) (place : Place) (l : Level) (out : List ℕ) (outer : List Level) (places : List Place) → is_list l.kind ≡ false
-      → printed d default (printed_at out l outer (place ∷ places)) (block_rows (Holds (Item item) kids))
-      ≡ printed d default (on_list_at (lay out (Fresh ∷ Bytes (number_tag item.number) ∷ [])) item.number (not place.loose) true (held l) outer (place ∷ places)) (block_rows (Holds (Item item) kids))
+  list_started : (item : ItemOf) (kids : Blocks) (place : Place) (l : Level) (out : List ℕ) (outer : List Level) (places : List Place) → is_list l.holder ≡ false
+      → print_all d default (printer_at out l outer (place ∷ places)) (block_rows (Holds (Item item) kids))
+      ≡ print_all d default (on_list_at (lay out (Fresh ∷ Bytes (number_tag item.number) ∷ [])) item.number (not place.loose) true (after_block l) outer (place ∷ places)) (block_rows (Holds (Item item) kids))
   list_started item kids place l out outer places no_list =
-      ap (λ x. printed d default (start_item default (not place.goes_on) (in_list default x item.number (not place.loose) (printed_at out l outer places))) (rows_of kids ++ Exit ∷ [])) no_list
+      ap (λ x. print_all d default (start_item default (not place.goes_on) (in_list default x item.number (not place.loose) (printer_at out l outer places))) (rows_of kids ++ Exit ∷ [])) no_list
 
   -- where a list goes on, its next item has a marker
   next_marker : (item : ItemOf) (gs : Blocks) → 1 ≤ item.marker → (list_marker (after_endings gs) == item.marker) ≡ true → 1 ≤ list_marker (after_endings gs)
@@ -170,34 +170,34 @@ module _ (d : Document) (default : List ℕ) where
       let items = on_list goes_on gs in
       let others = off_list goes_on gs in
       let body = λ (t : Bool). children_pieces d false t false (Cons b items) in
-      let at = λ (x : List ℕ). printed_at x (level_past (held l) others) outer places in
-      ap (λ (p : Printed). printed d default p (rows_of bs))
+      let at = λ (x : List ℕ). printer_at x (level_past (after_block l) others) outer places in
+      ap (λ (p : PrinterView). print_all d default p (rows_of bs))
       (list_started item kids place l out outer (places_within kids ++ left) no_list
-      ∙ item_printed item kids place item.number tight true (held l) (lay out start) outer left k)
-      ∙ item_then goes_on bs item.number tight (held l) (lay (lay out start) own) outer places no_list (next_marker item gs some) children list
-      ∙ ap at (split_list (lay out start) own (children_pieces d false tight false items) end (at_level (held l) others))
-      ∙ ap (λ (loose : Bool). at (lay (lay (lay out start) (body (not loose) ++ end)) (at_level (held l) others))) (place_loose item (grouped kids) gs some)
-      ∙ ap at (lay_more out (start ++ (body (not (is_loose (Cons b items))) ++ end)) (at_level (held l) others))
-      ∙ ap (λ (cs : Blocks). printed_at (lay out (at_level l cs)) (level_past l cs) outer places) (sym (before_item_is item (grouped kids) gs some))
+      ∙ item_printed item kids place item.number tight true (after_block l) (lay out start) outer left k)
+      ∙ item_then goes_on bs item.number tight (after_block l) (lay (lay out start) own) outer places no_list (next_marker item gs some) children list
+      ∙ ap at (split_list (lay out start) own (children_pieces d false tight false items) end (at_level (after_block l) others))
+      ∙ ap (λ (loose : Bool). at (lay (lay (lay out start) (body (not loose) ++ end)) (at_level (after_block l) others))) (place_loose item (grouped kids) gs some)
+      ∙ ap at (lay_more out (start ++ (body (not (is_loose (Cons b items))) ++ end)) (at_level (after_block l) others))
+      ∙ ap (λ (cs : Blocks). printer_at (lay out (at_level l cs)) (level_past l cs) outer places) (sym (before_item_is item (grouped kids) gs some))
 
   -- ---- blocks on a list
 
   abbrev OnListPrinted : Block → Blocks → Type 0
   OnListPrinted b bs = (number : Option ℕ) (tight plain : Bool) (l : Level) (out : List ℕ) (outer : List Level) (places : List Place)
-      → is_list l.kind ≡ false → 1 ≤ list_marker (after_endings (before (grouped_block b) (grouped bs)))
-      → printed d default (printed d default (on_list_at out number tight plain l outer (places_in b (grouped bs) ++ (places_within bs ++ places))) (block_rows b)) (rows_of bs)
+      → is_list l.holder ≡ false → 1 ≤ list_marker (after_endings (before (grouped_block b) (grouped bs)))
+      → print_all d default (print_all d default (on_list_at out number tight plain l outer (places_in b (grouped bs) ++ (places_within bs ++ places))) (block_rows b)) (rows_of bs)
       ≡ list_then out number tight l (list_ahead (before (grouped_block b) (grouped bs))) (after_list (before (grouped_block b) (grouped bs))) outer places
 
   -- an ending, by what it prints
   ending_on_list : (own : List Piece) (bs : Blocks) → ListPrinted bs → (number : Option ℕ) (tight plain : Bool) (l : Level) (out : List ℕ) (outer : List Level) (places : List Place)
-      → is_list l.kind ≡ false → 1 ≤ list_marker (after_endings (grouped bs))
-      → printed d default (on_list_at (lay out own) number tight plain l outer (places_within bs ++ places)) (rows_of bs)
-      ≡ printed_at (lay (lay out ((own ++ children_pieces d false tight false (list_ahead (grouped bs))) ++ Eol ∷ Bytes (number_end number) ∷ [])) (at_level l (after_list (grouped bs))))
+      → is_list l.holder ≡ false → 1 ≤ list_marker (after_endings (grouped bs))
+      → print_all d default (on_list_at (lay out own) number tight plain l outer (places_within bs ++ places)) (rows_of bs)
+      ≡ printer_at (lay (lay out ((own ++ children_pieces d false tight false (list_ahead (grouped bs))) ++ Eol ∷ Bytes (number_end number) ∷ [])) (at_level l (after_list (grouped bs))))
       (level_past l (after_list (grouped bs))) outer places
   ending_on_list own bs list number tight plain l out outer places no_list some =
       let others = after_list (grouped bs) in
       list number tight plain l (lay out own) outer places no_list some
-      ∙ ap (λ x. printed_at x (level_past l others) outer places)
+      ∙ ap (λ x. printer_at x (level_past l others) outer places)
       (split_list out own (children_pieces d false tight false (list_ahead (grouped bs))) (Eol ∷ Bytes (number_end number) ∷ []) (at_level l others))
 
   item_on_list : (item : ItemOf) (kids bs : Blocks) → 1 ≤ item.marker → ChildrenPrinted kids → ChildrenPrinted bs → ListPrinted bs → OnListPrinted (Holds (Item item) kids) bs
@@ -210,9 +210,9 @@ module _ (d : Document) (default : List ℕ) where
       let own = block_pieces d false tight false b in
       let items = on_list goes_on gs in
       let others = off_list goes_on gs in
-      ap (λ (p : Printed). printed d default p (rows_of bs)) (item_printed item kids place number tight plain l out outer left k)
+      ap (λ (p : PrinterView). print_all d default p (rows_of bs)) (item_printed item kids place number tight plain l out outer left k)
       ∙ item_then goes_on bs number tight l (lay out own) outer places no_list (next_marker item gs some) children list
-      ∙ ap (λ x. printed_at x (level_past l others) outer places)
+      ∙ ap (λ x. printer_at x (level_past l others) outer places)
       (split_list out own (children_pieces d false tight false items) (Eol ∷ Bytes (number_end number) ∷ []) (at_level l others))
       ∙ ap (λ (cs : Blocks). list_then out number tight l (list_ahead cs) (after_list cs) outer places) (sym (before_item_is item (grouped kids) gs some))
 
@@ -257,15 +257,15 @@ module _ (d : Document) (default : List ℕ) where
 
   more_printed : (b : Block) (bs : Blocks) → IsPrintable b → KidsPrinted b → BlocksPrinted bs → BlocksPrinted (Cons b bs)
   more_printed b bs h k others =
-      let rows = λ (p : Printed). fold-append (row_printed d default) p (block_rows b) (rows_of bs) in
+      let rows = λ (p : PrinterView). fold-append (print_row d default) p (block_rows b) (rows_of bs) in
       let split = λ (places : List Place). append_assoc (places_in b (grouped bs)) (places_within bs) places in
       record {
         children = λ l out outer places no_list.
-            ap (λ ps. printed d default (printed_at out l outer ps) (rows_of (Cons b bs))) (split places)
-            ∙ rows (printed_at out l outer (places_in b (grouped bs) ++ (places_within bs ++ places)))
+            ap (λ ps. print_all d default (printer_at out l outer ps) (rows_of (Cons b bs))) (split places)
+            ∙ rows (printer_at out l outer (places_in b (grouped bs) ++ (places_within bs ++ places)))
             ∙ step b bs h k others.children others.list l out outer places no_list;
         list = λ number tight plain l out outer places no_list some.
-            ap (λ ps. printed d default (on_list_at out number tight plain l outer ps) (rows_of (Cons b bs))) (split places)
+            ap (λ ps. print_all d default (on_list_at out number tight plain l outer ps) (rows_of (Cons b bs))) (split places)
             ∙ rows (on_list_at out number tight plain l outer (places_in b (grouped bs) ++ (places_within bs ++ places)))
             ∙ list_step b bs h k others.children others.list number tight plain l out outer places no_list some;
       }

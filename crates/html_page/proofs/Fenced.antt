@@ -12,12 +12,12 @@ use Rattle.definition_text.specs.Columns.{is_byte, code_byte}
 use Rattle.definition_text.specs.Encode.{encode}
 use Rattle.definition_text.specs.BlockLines.{BlockLine, own_lines, last_ending}
 use Rattle.definition_block.specs.Tree.{FencedCode}
-use Rattle.html_bytes.specs.Pieces.{Piece as Printed, Bytes, Fresh, print}
+use Rattle.html_bytes.specs.Pieces.{Piece as PrinterView, Bytes, Fresh, print}
 use Rattle.html_bytes.specs.Document.{Document, info_of}
 use Rattle.html_bytes.specs.Html.{block_pieces, class_of, code_of, fenced_content, fresh_unless}
 use Rattle.block_rows.specs.Rows.{piece_line, piece_lines, first_codes}
 use Rattle.block_rows.proofs.RowSteps.{no_piece}
-use Rattle.html_page.specs.Printed.{laid}
+use Rattle.html_page.specs.Prints.{layout_after}
 use Rattle.html_page.proofs.Owed.{none_owed}
 use Rattle.block_rows.proofs.OwnLines.{with_last_ending}
 
@@ -39,28 +39,28 @@ content_ending top closed e ls = if top || closed then last_ending ls else Some 
 
 -- content with that ending
 pub content_laid : (e : LineEnding) (out : List ℕ) (top closed : Bool) (ls : List BlockLine) → 0 < length ls
-    → laid e out (fenced_content top closed ls) ≡ print (ending_bytes e) ((out ++ code_of (own_lines ls)) ++ ending_text (content_ending top closed e ls)) Fresh
+    → layout_after e out (fenced_content top closed ls) ≡ print (ending_bytes e) ((out ++ code_of (own_lines ls)) ++ ending_text (content_ending top closed e ls)) Fresh
 content_laid e out top closed [] some = absurd (omega arith)
 content_laid e out true closed (l ∷ ls) some = whole_laid e out (l ∷ ls)
 content_laid e out false true (l ∷ ls) some = whole_laid e out (l ∷ ls)
 content_laid e out false false (l ∷ ls) some = refl
 
 -- what stands after the content of code that isn't closed
-end_laid : (e : LineEnding) (out : List ℕ) (content : List Printed)
-    → print (ending_bytes e) (laid e out content ++ codes "</code></pre>") Fresh ≡ laid e out (content ++ Bytes (codes "</code></pre>") ∷ fresh_unless false)
+end_laid : (e : LineEnding) (out : List ℕ) (content : List PrinterView)
+    → print (ending_bytes e) (layout_after e out content ++ codes "</code></pre>") Fresh ≡ layout_after e out (content ++ Bytes (codes "</code></pre>") ∷ fresh_unless false)
 end_laid e out content = sym (fold-append (print (ending_bytes e)) out content (Bytes (codes "</code></pre>") ∷ Fresh ∷ []))
 
 -- code that isn't closed, step by step
 pub open_laid : (d : Document) (e inner after : LineEnding) (info : List ℕ) (top closed : Bool) (ls : List BlockLine) (out fresh tag class start content end : List ℕ)
     → closed ≡ false → inner ≡ e → after ≡ e
     → fresh ≡ print (ending_bytes e) out Fresh → tag ≡ fresh ++ codes "<pre><code" → class ≡ tag ++ class_of d info → start ≡ class ++ codes ">"
-    → content ≡ laid inner start (fenced_content top closed ls) → end ≡ content ++ codes "</code></pre>"
-    → print (ending_bytes after) end Fresh ≡ laid e out (block_pieces d top false false (FencedCode info closed ls))
+    → content ≡ layout_after inner start (fenced_content top closed ls) → end ≡ content ++ codes "</code></pre>"
+    → print (ending_bytes after) end Fresh ≡ layout_after e out (block_pieces d top false false (FencedCode info closed ls))
 open_laid d e inner after info top closed ls out fresh tag class start content end not_closed same_inner same_after is_fresh is_tag is_class is_start is_content is_end =
     ap (λ x. print (ending_bytes x) end Fresh) same_after
     ∙ ap (λ x. print (ending_bytes e) x Fresh) (is_end ∙ ap (λ x. x ++ codes "</code></pre>") whole)
     ∙ end_laid e first (fenced_content top closed ls)
-    ∙ ap (λ b. laid e first (fenced_content top closed ls ++ Bytes (codes "</code></pre>") ∷ fresh_unless b)) (sym not_closed)
+    ∙ ap (λ b. layout_after e first (fenced_content top closed ls ++ Bytes (codes "</code></pre>") ∷ fresh_unless b)) (sym not_closed)
   where
     line : List ℕ
     line = print (ending_bytes e) out Fresh
@@ -74,8 +74,8 @@ open_laid d e inner after info top closed ls out fresh tag class start content e
         ∙ ap (λ x. x ++ codes ">") (is_class ∙ ap (λ x. x ++ class_of d info) (is_tag ∙ ap (λ x. x ++ codes "<pre><code") is_fresh) ∙ append_assoc line (codes "<pre><code") (class_of d info))
         ∙ append_assoc line (codes "<pre><code" ++ class_of d info) (codes ">")
 
-    whole : content ≡ laid e first (fenced_content top closed ls)
-    whole = is_content ∙ ap (λ x. laid x start (fenced_content top closed ls)) same_inner ∙ ap (λ x. laid e x (fenced_content top closed ls)) started
+    whole : content ≡ layout_after e first (fenced_content top closed ls)
+    whole = is_content ∙ ap (λ x. layout_after x start (fenced_content top closed ls)) same_inner ∙ ap (λ x. layout_after e x (fenced_content top closed ls)) started
 
 -- ---- what a row takes
 
@@ -94,10 +94,10 @@ content_is count pieces =
 
 pub fenced_laid : (d : Document) (e : LineEnding) (out : List ℕ) (top tight silent closed : Bool) (count : ℕ) (pieces : List Piece)
     → 1 + count ≤ length pieces → list_all is_byte (first_codes (piece_lines pieces)) ≡ true
-    → laid e out (block_pieces d top false false (FencedCode (get_or pieces 0 no_piece).text.now closed (piece_lines (take count (take (length pieces - 1) (drop 1 pieces))))))
-    ≡ laid e out (block_pieces d top tight silent (FencedCode (first_codes (piece_lines pieces)) closed (take count (drop 1 (piece_lines pieces)))))
+    → layout_after e out (block_pieces d top false false (FencedCode (get_or pieces 0 no_piece).text.now closed (piece_lines (take count (take (length pieces - 1) (drop 1 pieces))))))
+    ≡ layout_after e out (block_pieces d top tight silent (FencedCode (first_codes (piece_lines pieces)) closed (take count (drop 1 (piece_lines pieces)))))
 fenced_laid d e out top tight silent closed count pieces enough h =
     let info = (get_or pieces 0 no_piece).text.now in
-    ap (λ ls. laid e out (block_pieces d top tight silent (FencedCode info closed ls))) (content_is count pieces)
-    ∙ ap (λ x. laid e out (block_pieces d top tight silent (FencedCode x closed (take count (drop 1 (piece_lines pieces))))))
+    ap (λ ls. layout_after e out (block_pieces d top tight silent (FencedCode info closed ls))) (content_is count pieces)
+    ∙ ap (λ x. layout_after e out (block_pieces d top tight silent (FencedCode x closed (take count (drop 1 (piece_lines pieces))))))
     (sym (info_is pieces (omega arith) h))

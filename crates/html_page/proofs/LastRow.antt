@@ -5,7 +5,7 @@ use Rattle.std.proofs.lemmas.List.Sums.{fold_push}
 use Rattle.block_rows.specs.declared.row.Row.{Row}
 use Rattle.definition_text.specs.BlockLines.{BlockLine}
 use Rattle.block_rows.specs.Rows.{Shown, BlockRow, row_shown, shown}
-use Rattle.html_page.specs.Printed.{is_blank_row, ends_blank_rows}
+use Rattle.html_page.specs.PrinterView.{is_blank_row, ends_blank_rows}
 use Rattle.block_rows.proofs.RowSteps.{shown_more}
 
 -- the last row alone says it

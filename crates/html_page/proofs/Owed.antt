@@ -5,6 +5,7 @@ use Rattle.std.specs.List.{prefix_len, suffix_len, list_all}
 use Rattle.std.proofs.lemmas.Bool.{ne_eqb, cond-true}
 use Rattle.definition_text.specs.Columns.{code_byte, tab_column, is_byte, bytes_of, is_white, trimmed}
 use Rattle.definition_text.specs.Encode.{encode}
+use Rattle.block_rows.proofs.Pieces.{only_bytes}
 use Rattle.definition_text.proofs.CodeBytes.{code_bytes}
 
 -- ---- in text they are dropped
@@ -28,13 +29,6 @@ code_owed zero text h = ap encode (code_bytes text h)
 code_owed (suc n) text h = ap (λ x. 32 ∷ x) (code_owed n text h)
 
 -- ---- in HTML they are left out
-
-only_bytes : (text : List ℕ) → ((k : ℕ) → get_or text k 0 < 256) → bytes_of text ≡ text
-only_bytes [] h = refl
-only_bytes (b ∷ bs) h =
-    let byte : b < 256 = h 0 in
-    let is : is_byte b ≡ true = ap not (ne_eqb b 256 (λ e. omega arith)) in
-    cond-true (is_byte b) (b ∷ bytes_of bs) (bytes_of bs) is ∙ ap (λ xs. b ∷ xs) (only_bytes bs (λ k. h (suc k)))
 
 pub bytes_owed : (n : ℕ) (text : List ℕ) → ((k : ℕ) → get_or text k 0 < 256) → bytes_of (replicate n tab_column ++ text) ≡ text
 bytes_owed zero text h = only_bytes text h

@@ -10,7 +10,7 @@ abbrev pub level_past : Level → Blocks → Level
 level_past l Nil = l
 level_past l (Cons b bs) = level_past (level_after l (Single b)) bs
 
-pub past_kind : (l : Level) (bs : Blocks) → (level_past l bs).kind ≡ l.kind
+pub past_kind : (l : Level) (bs : Blocks) → (level_past l bs).holder ≡ l.holder
 past_kind l Nil = refl
 past_kind l (Cons b bs) = past_kind (level_after l (Single b)) bs
 

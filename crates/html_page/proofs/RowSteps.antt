@@ -9,12 +9,12 @@ use Rattle.html_bytes.specs.Document.{Document}
 use Rattle.definition_text.specs.BlockLines.{BlockLine}
 use Rattle.block_rows.specs.Rows.{BlockRow, Shown, shown, shown_as, show_row, row_shown, lines_taken}
 use Rattle.html_page.specs.Printable.{IsPrintableRow, ArePrintable}
-use Rattle.html_page.specs.Printed.{Printed, row_printed, printed}
+use Rattle.html_page.specs.PrinterView.{PrinterView, print_row, print_all}
 
 -- a row is printed after those before it
-pub printed_more : (d : Document) (default : List ℕ) (p : Printed) (rows : List BlockRow) (row : BlockRow)
-    → printed d default p (rows ++ row ∷ []) ≡ row_printed d default (printed d default p rows) row
-printed_more d default p rows row = fold_push (row_printed d default) p rows row
+pub printed_more : (d : Document) (default : List ℕ) (p : PrinterView) (rows : List BlockRow) (row : BlockRow)
+    → print_all d default p (rows ++ row ∷ []) ≡ print_row d default (print_all d default p rows) row
+printed_more d default p rows row = fold_push (print_row d default) p rows row
 
 -- ---- a row that is shown
 

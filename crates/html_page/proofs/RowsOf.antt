@@ -12,12 +12,12 @@ use Rattle.html_bytes.specs.Document.{Document}
 use Rattle.definition_page.specs.Read.{ends_blank, is_blank_ending}
 use Rattle.html_bytes.specs.Html.{children_pieces, last_piece, document_pieces}
 use Rattle.block_rows.specs.Rows.{BlockRow, Single, Exit, entered, rows_of, block_rows, spaced_definition}
-use Rattle.html_page.specs.declared.level.Kind.TheVariants as kind
+use Rattle.html_page.specs.declared.level.Holder.TheVariants as holder
 use Rattle.html_page.specs.declared.loose.Place.{Place}
 use Rattle.html_page.specs.Printable.{IsPrintable, IsPrintableRow, ArePrintable, CanBePrinted}
-use Rattle.html_page.specs.Loose.{Passed}
+use Rattle.html_page.specs.Loose.{PassView}
 use Rattle.html_page.specs.Levels.{new_level}
-use Rattle.html_page.specs.Printed.{Printed, printed_at, printed, is_blank_row, ends_blank_rows, rows_html}
+use Rattle.html_page.specs.PrinterView.{PrinterView, printer_at, print_all, is_blank_row, ends_blank_rows, rows_html}
 use Rattle.html_page.proofs.Places.{blocks_passed}
 use Rattle.html_page.proofs.Children.{blocks_printed}
 
@@ -52,11 +52,11 @@ rows_end_blank (Cons b bs) blank h =
 pub rows_html_of : (d : Document) (default : List ℕ) (bs : Blocks) → CanBePrinted bs → rows_html d default (rows_of bs) ≡ layout default (document_pieces d bs)
 rows_html_of d default bs h =
     let pieces = children_pieces d true false false (grouped bs) in
-    let start = new_level kind.Document false in
+    let start = new_level holder.Document false in
     let last = λ (out : List ℕ) (blank : Bool). fold (print default) out (last_piece blank) in
     let blank = ends_blank_rows (rows_of bs) in
-    ap (λ (ps : List Place). last (printed d default (printed_at [] start [] ps) (rows_of bs)).out blank) (ap (λ (p : Passed). p.places) (blocks_passed bs h [] []))
-    ∙ ap (λ (p : Printed). last p.out blank) ((blocks_printed d default bs h).children start [] [] [] refl)
+    ap (λ (ps : List Place). last (print_all d default (printer_at [] start [] ps) (rows_of bs)).out blank) (ap (λ (p : PassView). p.places) (blocks_passed bs h [] []))
+    ∙ ap (λ (p : PrinterView). last p.out blank) ((blocks_printed d default bs h).children start [] [] [] refl)
     ∙ ap (last (layout default pieces)) (rows_end_blank bs false h)
     ∙ sym (fold-append (print default) [] pieces (last_piece (ends_blank false bs)))
 

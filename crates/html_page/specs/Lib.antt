@@ -1,4 +1,5 @@
 pub mod Printable
 pub mod Loose
 pub mod Levels
-pub mod Printed
+pub mod PrinterView
+pub mod Prints

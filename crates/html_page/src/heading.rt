@@ -1,15 +1,14 @@
 //! Headings (CommonMark 4.2 and 4.3).
-ghost use Rattle.std.specs.Prelude.{◌≡◌, ◌≤◌, ◌+◌, ◌++◌, ◌∷◌, [], List, OnOk, string_bytes, codes, true, false};
-ghost use Rattle.html_bytes.specs.Document.{document, text_of};
+ghost use Rattle.std.specs.Prelude.{◌≡◌, ◌≤◌, ◌+◌, ◌++◌, ◌∷◌, [], List, OnOk, codes, true, false};
+ghost use Rattle.html_bytes.specs.Document.{text_of};
 ghost use Rattle.definition_inline.specs.Definition.{Definition};
 ghost use Rattle.definition_text.specs.BlockLines.{own_lines};
 ghost use Rattle.definition_block.specs.Tree.{Heading};
 ghost use Rattle.html_bytes.specs.Html.{block_pieces};
 ghost use Rattle.block_rows.specs.Rows.{piece_lines};
-ghost use Rattle.definition_page.specs.TextTables.{text_tables};
-ghost use Rattle.html_text.specs.Texts.{HasDefinitions};
+ghost use Rattle.html_text.specs.Texts.{HasDefinitions, document_by};
 ghost use Rattle.html_page.specs.Printable.{AreHeadingLines};
-ghost use Rattle.html_page.specs.Printed.{laid};
+ghost use Rattle.html_page.specs.Prints.{LaysOut, Prints};
 
 use crate::page::Page;
 use block_rows::Piece;
@@ -27,8 +26,9 @@ impl<A: Allocator + Clone> Page<A> {
     ) -> Result<(), AllocError>
         requires { (1 ≤ rank) × (rank ≤ 6) }
         ensures default { self.new.default_ending ≡ self.old.default_ending }
-        ensures printed { (ds : List Definition) → HasDefinitions texts.now.labels.now texts.now.links.now ds → AreHeadingLines (own_lines (piece_lines lines.now)) →
-            OnOk result (string_bytes self.new.html ≡ laid self.old.default_ending (string_bytes self.old.html) (block_pieces (document texts.now.options.now (text_tables (T.reference_of texts.now.tables.now) (T.punctuation_of texts.now.tables.now)) ds) true false false (Heading rank (own_lines (piece_lines lines.now))))) }
+        ensures printed { (ds : List Definition) → HasDefinitions texts.now.labels.now texts.now.links.now ds →
+            let ls = own_lines (piece_lines lines.now) in AreHeadingLines ls →
+            OnOk result (LaysOut self.old self.new (block_pieces (document_by T.Tables texts.now ds) true false false (Heading rank ls))) }
     {
         self.fresh()?;
         self.heading_tag("<h", rank)?;
@@ -43,8 +43,9 @@ impl<A: Allocator + Clone> Page<A> {
         lines: &[Piece<'_>],
     ) -> Result<(), AllocError>
         ensures default { self.new.default_ending ≡ self.old.default_ending }
-        ensures printed { (ds : List Definition) → HasDefinitions texts.now.labels.now texts.now.links.now ds → AreHeadingLines (own_lines (piece_lines lines.now)) →
-            OnOk result (string_bytes self.new.html ≡ string_bytes self.old.html ++ text_of (document texts.now.options.now (text_tables (T.reference_of texts.now.tables.now) (T.punctuation_of texts.now.tables.now)) ds) (own_lines (piece_lines lines.now))) }
+        ensures printed { (ds : List Definition) → HasDefinitions texts.now.labels.now texts.now.links.now ds →
+            let ls = own_lines (piece_lines lines.now) in AreHeadingLines ls →
+            OnOk result (Prints self.old self.new (text_of (document_by T.Tables texts.now ds) ls)) }
     {
         if lines.len() == 1 {
             texts.push_line(&mut self.html, &mut self.buffers, &lines[0])
@@ -57,7 +58,7 @@ impl<A: Allocator + Clone> Page<A> {
     fn heading_tag(&mut self, name: &str, rank: u8) -> Result<(), AllocError>
         requires { (1 ≤ rank) × (rank ≤ 6) }
         ensures default { self.new.default_ending ≡ self.old.default_ending }
-        ensures printed { OnOk result (string_bytes self.new.html ≡ string_bytes self.old.html ++ (name.now ++ (48 + rank) ∷ codes ">")) }
+        ensures printed { OnOk result (Prints self.old self.new (name.now ++ (48 + rank) ∷ codes ">")) }
     {
         self.html.push_str(name)?;
         self.html.push_str(digit(rank))?;

@@ -2,14 +2,14 @@
 //!
 //! Where raw HTML isn't allowed, it is printed as text. Where it is, the tag filter may print the
 //! `<` of some tags as a reference (GFM 6.11).
-ghost use Rattle.std.specs.Prelude.{◌≡◌, ℕ, replicate, ◌++◌, ◌∷◌, [], OnOk, string_bytes};
+ghost use Rattle.std.specs.Prelude.{◌≡◌, ℕ, replicate, ◌++◌, ◌∷◌, [], OnOk};
 ghost use Rattle.definition_text.specs.BlockLines.{own_lines};
 ghost use Rattle.definition_text.specs.Columns.{bytes_of, tab_column};
 ghost use Rattle.html_bytes.specs.Html.{html_of};
 ghost use Rattle.html_bytes.specs.RawHtml.{raw_html};
 ghost use Rattle.html_bytes.specs.Pieces.{Bytes, Fresh};
 ghost use Rattle.block_rows.specs.Rows.{piece_lines};
-ghost use Rattle.html_page.specs.Printed.{laid};
+ghost use Rattle.html_page.specs.Prints.{LaysOut, Prints};
 
 use crate::page::Page;
 use block_rows::Piece;
@@ -25,7 +25,7 @@ impl<A: Allocator + Clone> Page<A> {
         lines: &[Piece<'_>],
     ) -> Result<(), AllocError>
         ensures default { self.new.default_ending ≡ self.old.default_ending }
-        ensures printed { OnOk result (string_bytes self.new.html ≡ laid self.old.default_ending (string_bytes self.old.html) (Fresh ∷ Bytes (html_of options.now (own_lines (piece_lines lines.now))) ∷ [])) }
+        ensures printed { OnOk result (LaysOut self.old self.new (Fresh ∷ Bytes (html_of options.now (own_lines (piece_lines lines.now))) ∷ [])) }
     {
         self.fresh()?;
         self.html_lines(options, lines)
@@ -38,7 +38,7 @@ impl<A: Allocator + Clone> Page<A> {
         lines: &[Piece<'_>],
     ) -> Result<(), AllocError>
         ensures default { self.new.default_ending ≡ self.old.default_ending }
-        ensures printed { OnOk result (string_bytes self.new.html ≡ string_bytes self.old.html ++ html_of options.now (own_lines (piece_lines lines.now))) }
+        ensures printed { OnOk result (Prints self.old self.new (html_of options.now (own_lines (piece_lines lines.now)))) }
     {
         let mut waiting = None;
         for line in lines {
@@ -52,7 +52,7 @@ impl<A: Allocator + Clone> Page<A> {
     /// Prints a line of HTML. Columns before it that are left of a tab aren't printed.
     fn html_line(&mut self, options: &CompileOptions, text: &str) -> Result<(), AllocError>
         ensures default { self.new.default_ending ≡ self.old.default_ending }
-        ensures printed { (owed : ℕ) → OnOk result (string_bytes self.new.html ≡ string_bytes self.old.html ++ raw_html options.now (bytes_of (replicate owed tab_column ++ text.now))) }
+        ensures printed { (owed : ℕ) → OnOk result (Prints self.old self.new (raw_html options.now (bytes_of (replicate owed tab_column ++ text.now)))) }
     {
         push_html(&mut self.html, options, text)
     }

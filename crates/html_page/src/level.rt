@@ -8,7 +8,7 @@ use block_rows::Row;
 
 /// What holds a row: the document, or the innermost container or list that is open.
 #[derive(Clone, Copy)]
-pub(crate) enum Kind {
+pub(crate) enum Holder {
     Document,
     Quote,
     /// A list, with the number of its first item.
@@ -20,7 +20,7 @@ pub(crate) enum Kind {
 /// What holds a row, and what was printed in it so far.
 #[derive(Clone, Copy)]
 pub(crate) struct Level {
-    pub(crate) kind: Kind,
+    pub(crate) holder: Holder,
     /// Whether paragraphs in it are printed as their text alone (CommonMark 5.3).
     pub(crate) tight: bool,
     /// Whether its last block that prints anything, if it has any, is such a paragraph.
@@ -31,11 +31,11 @@ pub(crate) struct Level {
 
 impl Level {
     /// Nothing was printed yet.
-    pub(crate) fn new(kind: Kind, tight: bool) -> Level
-        ensures { result ≡ new_level kind tight }
+    pub(crate) fn new(holder: Holder, tight: bool) -> Level
+        ensures { result ≡ new_level holder tight }
     {
         Level {
-            kind,
+            holder,
             tight,
             plain: true,
             silent: false,
@@ -63,14 +63,14 @@ impl Level {
     }
 
     pub(crate) fn is_document(self) -> bool
-        ensures { result ≡ is_document self.kind }
+        ensures { result ≡ is_document self.holder }
     {
-        matches!(self.kind, Kind::Document)
+        matches!(self.holder, Holder::Document)
     }
 
     pub(crate) fn is_list(self) -> bool
-        ensures { result ≡ is_list self.kind }
+        ensures { result ≡ is_list self.holder }
     {
-        matches!(self.kind, Kind::List { .. })
+        matches!(self.holder, Holder::List { .. })
     }
 }

@@ -1,14 +1,20 @@
 //! Blocks to HTML.
 #![tactic(auto)]
 
-pub mod code;
+pub mod block_quote;
+pub mod code_fenced;
+pub mod code_indented;
+pub mod code_lines;
 pub mod container;
 pub mod heading;
 pub mod html_flow;
 pub mod level;
 pub mod list;
+pub mod list_item;
 pub mod loose;
 pub mod page;
+pub mod paragraph;
 pub mod printer;
+pub mod thematic_break;
 
 pub use printer::print_rows;

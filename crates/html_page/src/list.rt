@@ -1,15 +1,20 @@
-//! The tags of lists (CommonMark 5.3).
-ghost use Rattle.std.specs.Prelude.{◌≡◌, ◌++◌, OnOk, string_bytes};
+//! Lists (CommonMark 5.3).
+ghost use Rattle.std.specs.Prelude.{◌≡◌, OnOk};
 ghost use Rattle.html_bytes.specs.Html.{number_tag, number_end};
+ghost use Rattle.html_page.specs.Prints.{Prints};
+ghost use Rattle.markdown_options.specs.LineEndings.{ending_bytes};
+ghost use Rattle.html_page.specs.PrinterView.{enter_list, leave_list, printer_view};
 
+use crate::level::Holder;
 use crate::page::Page;
+use crate::printer::Printer;
 use std::alloc::{AllocError, Allocator};
 
 impl<A: Allocator + Clone> Page<A> {
     /// Prints the tag of a list by the number of its first item.
     pub(crate) fn list_tag(&mut self, number: Option<u32>) -> Result<(), AllocError>
         ensures default { self.new.default_ending ≡ self.old.default_ending }
-        ensures printed { OnOk result (string_bytes self.new.html ≡ string_bytes self.old.html ++ number_tag number) }
+        ensures printed { OnOk result (Prints self.old self.new (number_tag number)) }
     {
         match number {
             None => self.html.push_str("<ul>"),
@@ -21,11 +26,36 @@ impl<A: Allocator + Clone> Page<A> {
     /// Prints the end of a list by the number of its first item.
     pub(crate) fn list_end(&mut self, number: Option<u32>) -> Result<(), AllocError>
         ensures default { self.new.default_ending ≡ self.old.default_ending }
-        ensures printed { OnOk result (string_bytes self.new.html ≡ string_bytes self.old.html ++ number_end number) }
+        ensures printed { OnOk result (Prints self.old self.new (number_end number)) }
     {
         match number {
             None => self.html.push_str("</ul>"),
             Some(_) => self.html.push_str("</ol>"),
         }
+    }
+}
+
+impl<A: Allocator + Clone> Printer<A> {
+    /// A list starts (CommonMark 5.3).
+    pub(crate) fn enter_list(&mut self, number: Option<u32>, tight: bool) -> Result<(), AllocError>
+        ensures default { self.new.page.default_ending ≡ self.old.page.default_ending }
+        ensures printed { OnOk result (printer_view self.new ≡ enter_list (ending_bytes self.old.page.default_ending) number tight (printer_view self.old)) }
+    {
+        self.page.fresh()?;
+        self.page.list_tag(number)?;
+        self.enter(Holder::List { number }, tight)
+    }
+
+    /// A list ends, if one is open.
+    pub(crate) fn leave_list(&mut self) -> Result<(), AllocError>
+        ensures default { self.new.page.default_ending ≡ self.old.page.default_ending }
+        ensures printed { OnOk result (printer_view self.new ≡ leave_list (ending_bytes self.old.page.default_ending) (printer_view self.old)) }
+    {
+        if let Holder::List { number } = self.level.holder {
+            self.page.eol()?;
+            self.page.list_end(number)?;
+            self.leave();
+        }
+        Ok(())
     }
 }

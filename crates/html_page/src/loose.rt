@@ -3,7 +3,7 @@ ghost use Rattle.std.specs.Prelude.{◌≡◌, List, IfOk, OnOk, reverse};
 ghost use Rattle.std.specs.List.{list_any};
 ghost use Rattle.definition_text.specs.BlockLines.{BlockLine};
 ghost use Rattle.block_rows.specs.Rows.{row_shown, shown};
-ghost use Rattle.html_page.specs.Loose.{before_block, before_ending, before_item, place_at, passed_of, pass_row, pass_item, left_behind, places_of, starts_item};
+ghost use Rattle.html_page.specs.Loose.{before_block, before_ending, before_item, place_at, pass_view, pass_row, pass_item, leave, places_of, starts_item};
 
 use block_rows::Row;
 use std::alloc::{AllocError, Allocator};
@@ -23,7 +23,7 @@ struct Ahead {
     /// Whether a block does.
     some: bool,
     /// Whether an ending comes first.
-    ended: bool,
+    ending_first: bool,
     /// Whether two endings or more do.
     apart: bool,
     /// The marker of the item that comes first, or after endings, and 0 if no item does.
@@ -51,8 +51,8 @@ impl Ahead {
         ensures { result ≡ before_ending self }
     {
         Ahead {
-            ended: true,
-            apart: self.ended,
+            ending_first: true,
+            apart: self.ending_first,
             ..self
         }
     }
@@ -95,7 +95,7 @@ struct Pass<A: Allocator> {
 impl<A: Allocator> Pass<A> {
     /// One row more, in front of the others.
     fn row(&mut self, row: Row) -> Result<(), AllocError>
-        ensures { OnOk result ((ls : List BlockLine) → passed_of self.new ≡ pass_row (passed_of self.old) (row_shown row ls)) }
+        ensures { OnOk result ((ls : List BlockLine) → pass_view self.new ≡ pass_row (pass_view self.old) (row_shown row ls)) }
     {
         match row {
             Row::Exit => {
@@ -112,7 +112,7 @@ impl<A: Allocator> Pass<A> {
 
     /// The start of an item.
     fn item(&mut self, marker: u8) -> Result<(), AllocError>
-        ensures { OnOk result (passed_of self.new ≡ pass_item (passed_of self.old) marker) }
+        ensures { OnOk result (pass_view self.new ≡ pass_item (pass_view self.old) marker) }
     {
         let gap = self.ahead.gap;
         let after = self.leave();
@@ -124,8 +124,8 @@ impl<A: Allocator> Pass<A> {
 
     /// What stands after the container that starts here.
     fn leave(&mut self) -> Ahead
-        ensures ahead { result ≡ (left_behind (passed_of self.old)).ahead }
-        ensures others { passed_of self.new ≡ record (passed_of self.old) { outer = (left_behind (passed_of self.old)).outer } }
+        ensures ahead { result ≡ (leave (pass_view self.old)).ahead }
+        ensures others { pass_view self.new ≡ record (pass_view self.old) { outer = (leave (pass_view self.old)).outer } }
     {
         self.outer.pop().unwrap_or_default()
     }

@@ -1,24 +1,18 @@
 //! The page, printed piece by piece.
-ghost use Rattle.std.specs.Prelude.{◌≡◌, ◌≤◌, ◌<◌, ℕ, List, slice_index, ◌++◌, OnOk, string_bytes, length, true, false};
+ghost use Rattle.std.specs.Prelude.{◌≡◌, ◌≤◌, ◌<◌, List, OnOk, string_bytes, length, true, false};
 ghost use Rattle.markdown_options.specs.LineEndings.{ending_bytes};
-ghost use Rattle.html_bytes.specs.Document.{Document, document};
 ghost use Rattle.definition_text.specs.Lines.{ending_text};
 ghost use Rattle.definition_inline.specs.Definition.{Definition};
-ghost use Rattle.block_rows.specs.ParagraphLines.{AreLines};
-ghost use Rattle.definition_text.specs.BlockLines.{own_lines};
 ghost use Rattle.definition_block.specs.Tree.{Paragraph, Break};
 ghost use Rattle.definition_page.specs.Pieces.{is_fresh};
 ghost use Rattle.html_bytes.specs.Pieces.{Fresh, print};
-ghost use Rattle.html_bytes.specs.Html.{block_pieces};
-ghost use Rattle.block_rows.specs.Rows.{lines_taken, piece_lines, row_shown, whole_lines};
-ghost use Rattle.definition_page.specs.TextTables.{text_tables};
-ghost use Rattle.html_text.specs.Texts.{HasDefinitions};
+ghost use Rattle.block_rows.specs.Rows.{lines_taken, piece_lines, row_shown};
+ghost use Rattle.html_text.specs.Texts.{HasDefinitions, document_by};
 ghost use Rattle.html_page.specs.Levels.{row_pieces};
 ghost use Rattle.html_page.specs.Printable.{IsPrintableRow};
-ghost use Rattle.html_page.specs.Printed.{laid};
 
 use crate::level::Level;
-use block_rows::{Piece, Row};
+use block_rows::{Piece, Row, push_ending};
 use html_text::{TextBuffers, Texts};
 use markdown_options::{LineEnding, Tables};
 use std::alloc::{AllocError, Allocator};
@@ -32,6 +26,8 @@ pub(crate) struct Page<A: Allocator + Clone> {
 }
 
 impl<A: Allocator + Clone> Page<A> {
+    ghost use Rattle.html_page.specs.Prints.{LaysOut, Prints};
+
     /// Prints a block, or the ending of a line. A block takes its lines from the front of these.
     /// A definition (CommonMark 4.7) prints nothing, nor does any other row here.
     pub(crate) fn block<T: Tables>(
@@ -45,7 +41,7 @@ impl<A: Allocator + Clone> Page<A> {
         requires printable { IsPrintableRow (row_shown row (piece_lines lines.now)) }
         ensures default { self.new.default_ending ≡ self.old.default_ending }
         ensures printed { (ds : List Definition) → HasDefinitions texts.now.labels.now texts.now.links.now ds →
-            OnOk result (string_bytes self.new.html ≡ laid self.old.default_ending (string_bytes self.old.html) (row_pieces (document texts.now.options.now (text_tables (T.reference_of texts.now.tables.now) (T.punctuation_of texts.now.tables.now)) ds) level (row_shown row (piece_lines lines.now)))) }
+            OnOk result (LaysOut self.old self.new (row_pieces (document_by T.Tables texts.now ds) level (row_shown row (piece_lines lines.now)))) }
     {
         let top = level.is_document();
         match row {
@@ -74,66 +70,12 @@ impl<A: Allocator + Clone> Page<A> {
         }
     }
 
-    /// Prints a paragraph (CommonMark 4.8). That of a tight item is its text alone.
-    fn paragraph<T: Tables>(
-        &mut self,
-        texts: &Texts<'_, T, A>,
-        tight: bool,
-        lines: &[Piece<'_>],
-    ) -> Result<(), AllocError>
-        ensures default { self.new.default_ending ≡ self.old.default_ending }
-        ensures printed { (ds : List Definition) → HasDefinitions texts.now.labels.now texts.now.links.now ds → AreLines (piece_lines lines.now) →
-            OnOk result (string_bytes self.new.html ≡ laid self.old.default_ending (string_bytes self.old.html) (block_pieces (document texts.now.options.now (text_tables (T.reference_of texts.now.tables.now) (T.punctuation_of texts.now.tables.now)) ds) true tight false (Paragraph (own_lines (piece_lines lines.now))))) }
-    {
-        if tight {
-            return texts.push_text(&mut self.html, &mut self.buffers, lines);
-        }
-        self.fresh()?;
-        self.html.push_str("<p>")?;
-        texts.push_text(&mut self.html, &mut self.buffers, lines)?;
-        self.html.push_str("</p>")
-    }
-
-    /// Prints a paragraph of the first lines of a text, so many (CommonMark 4.8).
-    fn whole_paragraph<T: Tables>(
-        &mut self,
-        texts: &Texts<'_, T, A>,
-        tight: bool,
-        count: usize,
-        text: &str,
-    ) -> Result<(), AllocError>
-        ensures default { self.new.default_ending ≡ self.old.default_ending }
-        ensures printed { (ds : List Definition) → HasDefinitions texts.now.labels.now texts.now.links.now ds →
-            OnOk result (string_bytes self.new.html ≡ laid self.old.default_ending (string_bytes self.old.html) (block_pieces (document texts.now.options.now (text_tables (T.reference_of texts.now.tables.now) (T.punctuation_of texts.now.tables.now)) ds) true tight false (Paragraph (own_lines (whole_lines count text.now))))) }
-        ensures bytes { (k : ℕ) → slice_index text.now k < 256 }
-    {
-        if tight {
-            return texts.push_whole(&mut self.html, &mut self.buffers, count, text);
-        }
-        self.fresh()?;
-        self.html.push_str("<p>")?;
-        texts.push_whole(&mut self.html, &mut self.buffers, count, text)?;
-        self.html.push_str("</p>")
-    }
-
-    /// Prints a thematic break (CommonMark 4.1).
-    fn thematic_break(&mut self) -> Result<(), AllocError>
-        ensures default { self.new.default_ending ≡ self.old.default_ending }
-        ensures printed { (d : Document) → OnOk result (string_bytes self.new.html ≡ laid self.old.default_ending (string_bytes self.old.html) (block_pieces d true false false Break)) }
-    {
-        self.fresh()?;
-        self.html.push_str("<hr />")
-    }
-
     /// Prints an ending, if there is one.
     pub(crate) fn push_ending(&mut self, ending: Option<LineEnding>) -> Result<(), AllocError>
         ensures default { self.new.default_ending ≡ self.old.default_ending }
-        ensures printed { OnOk result (string_bytes self.new.html ≡ string_bytes self.old.html ++ ending_text ending) }
+        ensures printed { OnOk result (Prints self.old self.new (ending_text ending)) }
     {
-        match ending {
-            Some(ending) => self.html.push_str(ending.as_str()),
-            None => Ok(()),
-        }
+        push_ending(&mut self.html, ending)
     }
 
     /// Asks for a fresh line.
@@ -150,7 +92,7 @@ impl<A: Allocator + Clone> Page<A> {
     /// Prints the default ending.
     pub(crate) fn eol(&mut self) -> Result<(), AllocError>
         ensures default { self.new.default_ending ≡ self.old.default_ending }
-        ensures printed { OnOk result (string_bytes self.new.html ≡ string_bytes self.old.html ++ ending_bytes self.old.default_ending) }
+        ensures printed { OnOk result (Prints self.old self.new (ending_bytes self.old.default_ending)) }
     {
         self.html.push_str(self.default_ending.as_str())
     }

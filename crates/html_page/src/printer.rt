@@ -1,19 +1,17 @@
 //! Rows to HTML.
-ghost use Rattle.std.specs.Prelude.{◌≡◌, ◌≤◌, ◌<◌, ◌^◌, ◌+◌, List, IfOk, OnOk, string_bytes, length};
+ghost use Rattle.std.specs.Prelude.{◌≡◌, ◌≤◌, ◌<◌, ◌+◌, List, IfOk, OnOk, string_bytes, length};
 ghost use Rattle.markdown_options.specs.LineEndings.{ending_bytes};
-ghost use Rattle.html_bytes.specs.Document.{document};
 ghost use Rattle.definition_inline.specs.Definition.{Definition};
 ghost use Rattle.definition_text.specs.BlockLines.{BlockLine};
 ghost use Rattle.definition_block.specs.Tree.{Blocks};
 ghost use Rattle.html_bytes.specs.Pieces.{layout};
 ghost use Rattle.html_bytes.specs.Html.{document_pieces};
 ghost use Rattle.block_rows.specs.Rows.{all_taken, lines_taken, piece_lines, rows_of, row_shown, shown};
-ghost use Rattle.definition_page.specs.TextTables.{text_tables};
-ghost use Rattle.html_text.specs.Texts.{HasDefinitions};
+ghost use Rattle.html_text.specs.Texts.{HasDefinitions, document_by};
 ghost use Rattle.html_page.specs.Printable.{IsPrintableRow, ArePrintable, CanBePrinted};
-ghost use Rattle.html_page.specs.Printed.{ends_blank_rows, is_blank_row, printed_of, row_printed};
+ghost use Rattle.html_page.specs.PrinterView.{ends_blank_rows, is_blank_row, printer_view, print_row};
 
-use crate::level::{Kind, Level};
+use crate::level::{Holder, Level};
 use crate::loose::{Place, places};
 use crate::page::Page;
 use block_rows::{Piece, Row};
@@ -44,7 +42,8 @@ impl<A: Allocator + Clone> Printer<A> {
         requires printable { IsPrintableRow (row_shown row (piece_lines lines.now)) }
         ensures default { self.new.page.default_ending ≡ self.old.page.default_ending }
         ensures printed { (ds : List Definition) → HasDefinitions texts.now.labels.now texts.now.links.now ds →
-            OnOk result (printed_of self.new ≡ row_printed (document texts.now.options.now (text_tables (T.reference_of texts.now.tables.now) (T.punctuation_of texts.now.tables.now)) ds) (ending_bytes self.old.page.default_ending) (printed_of self.old) (row_shown row (piece_lines lines.now))) }
+            let d = document_by T.Tables texts.now ds in let shown = row_shown row (piece_lines lines.now) in
+            OnOk result (printer_view self.new ≡ print_row d (ending_bytes self.old.page.default_ending) (printer_view self.old) shown) }
     {
         match row {
             Row::EnterQuote => self.enter_quote(),
@@ -74,8 +73,9 @@ pub fn print_rows<T: Tables, A: Allocator + Clone>(
 ) -> Result<String<A>, AllocError>
     requires enough { all_taken rows.now ≤ length pieces.now }
     requires printable { ArePrintable (shown rows.now (piece_lines pieces.now)).rows }
-    ensures { (ds : List Definition) → HasDefinitions texts.now.labels.now texts.now.links.now ds → (bs : Blocks) → (shown rows.now (piece_lines pieces.now)).rows ≡ rows_of bs → CanBePrinted bs →
-        IfOk result (λ html. string_bytes html ≡ layout (ending_bytes default_ending) (document_pieces (document texts.now.options.now (text_tables (T.reference_of texts.now.tables.now) (T.punctuation_of texts.now.tables.now)) ds) bs)) }
+    ensures { (ds : List Definition) → HasDefinitions texts.now.labels.now texts.now.links.now ds →
+        (bs : Blocks) → (shown rows.now (piece_lines pieces.now)).rows ≡ rows_of bs → CanBePrinted bs →
+        IfOk result (λ html. string_bytes html ≡ layout (ending_bytes default_ending) (document_pieces (document_by T.Tables texts.now ds) bs)) }
 {
     let mut printer = Printer {
         page: Page {
@@ -83,7 +83,7 @@ pub fn print_rows<T: Tables, A: Allocator + Clone>(
             buffers: TextBuffers::new(alloc.clone()?)?,
             default_ending,
         },
-        level: Level::new(Kind::Document, false),
+        level: Level::new(Holder::Document, false),
         outer: Vec::new(alloc.clone()?),
         places: places(alloc, rows)?,
     };

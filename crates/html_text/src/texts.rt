@@ -1,6 +1,6 @@
 //! The texts of paragraphs, headings and info strings (CommonMark 4.2, 4.3, 4.5 and 4.8).
 ghost use Rattle.std.specs.Prelude.{◌≡◌, ◌++◌, ◌∷◌, [], List, OnOk, string_bytes};
-ghost use Rattle.html_bytes.specs.Document.{context_of, document, meaning_of, text_of, info_of};
+ghost use Rattle.html_bytes.specs.Document.{context_of, meaning_of, text_of, info_of};
 ghost use Rattle.definition_text.specs.Encode.{encode};
 ghost use Rattle.html_bytes.specs.InlineHtml.{inline_html};
 ghost use Rattle.definition_inline.specs.Definition.{Definition};
@@ -9,8 +9,6 @@ ghost use Rattle.block_rows.specs.Rows.{piece_line, piece_lines, whole_lines};
 ghost use Rattle.definition_inline.specs.Scan.{inlines};
 ghost use Rattle.definition_text.specs.BlockLines.{own_lines};
 ghost use Rattle.inline_content.specs.View.{content_view};
-ghost use Rattle.definition_page.specs.TextTables.{text_tables};
-ghost use Rattle.html_text.specs.Texts.{HasDefinitions};
 
 use crate::buffers::TextBuffers;
 use block_rows::Piece;
@@ -34,6 +32,8 @@ pub struct Texts<'a, T, A: Allocator + Clone> {
 }
 
 impl<'a, T: Tables, A: Allocator + Clone> Texts<'a, T, A> {
+    ghost use Rattle.html_text.specs.Texts.{HasDefinitions, document_by};
+
     /// Prints the text of a paragraph's lines, or of a heading's, without the last ending
     /// (CommonMark 4.3 and 4.8).
     pub fn push_text(
@@ -43,7 +43,7 @@ impl<'a, T: Tables, A: Allocator + Clone> Texts<'a, T, A> {
         lines: &[Piece<'_>],
     ) -> Result<(), AllocError>
         ensures { (ds : List Definition) → HasDefinitions self.now.labels.now self.now.links.now ds → AreLines (piece_lines lines.now) →
-            OnOk result (string_bytes out.new ≡ string_bytes out.old ++ text_of (document self.now.options.now (text_tables (T.reference_of self.now.tables.now) (T.punctuation_of self.now.tables.now)) ds) (own_lines (piece_lines lines.now))) }
+            OnOk result (string_bytes out.new ≡ string_bytes out.old ++ text_of (document_by T.Tables self.now ds) (own_lines (piece_lines lines.now))) }
     {
         let alloc = buffers.alloc.clone()?;
         buffers.content.join(lines)?;
@@ -58,7 +58,7 @@ impl<'a, T: Tables, A: Allocator + Clone> Texts<'a, T, A> {
         line: &Piece<'_>,
     ) -> Result<(), AllocError>
         ensures { (ds : List Definition) → HasDefinitions self.now.labels.now self.now.links.now ds → HaveNoEnding (piece_line line.now).codes →
-            OnOk result (string_bytes out.new ≡ string_bytes out.old ++ text_of (document self.now.options.now (text_tables (T.reference_of self.now.tables.now) (T.punctuation_of self.now.tables.now)) ds) (own_lines (piece_line line.now ∷ []))) }
+            OnOk result (string_bytes out.new ≡ string_bytes out.old ++ text_of (document_by T.Tables self.now ds) (own_lines (piece_line line.now ∷ []))) }
     {
         let alloc = buffers.alloc.clone()?;
         let lines = [*line];
@@ -75,7 +75,7 @@ impl<'a, T: Tables, A: Allocator + Clone> Texts<'a, T, A> {
         text: &str,
     ) -> Result<(), AllocError>
         ensures { (ds : List Definition) → HasDefinitions self.now.labels.now self.now.links.now ds →
-            OnOk result (string_bytes out.new ≡ string_bytes out.old ++ text_of (document self.now.options.now (text_tables (T.reference_of self.now.tables.now) (T.punctuation_of self.now.tables.now)) ds) (own_lines (whole_lines count text.now))) }
+            OnOk result (string_bytes out.new ≡ string_bytes out.old ++ text_of (document_by T.Tables self.now ds) (own_lines (whole_lines count text.now))) }
     {
         let alloc = buffers.alloc.clone()?;
         self.push_content(out, &mut buffers.scratch, alloc, whole_content(count, text))
@@ -84,7 +84,7 @@ impl<'a, T: Tables, A: Allocator + Clone> Texts<'a, T, A> {
     /// Prints what an info string, which has no line ending, stands for (CommonMark 4.5).
     pub fn push_info(&self, out: &mut String<A>, info: &str) -> Result<(), AllocError>
         ensures { (ds : List Definition) → HaveNoEnding info.now →
-            OnOk result (string_bytes out.new ≡ string_bytes out.old ++ encode (info_of (document self.now.options.now (text_tables (T.reference_of self.now.tables.now) (T.punctuation_of self.now.tables.now)) ds) info.now)) }
+            OnOk result (string_bytes out.new ≡ string_bytes out.old ++ encode (info_of (document_by T.Tables self.now ds) info.now)) }
     {
         push_encoded_string(out, &self.options.parse.constructs, self.tables, info)
     }
@@ -98,7 +98,7 @@ impl<'a, T: Tables, A: Allocator + Clone> Texts<'a, T, A> {
         content: Content<'_>,
     ) -> Result<(), AllocError>
         ensures { (ds : List Definition) → HasDefinitions self.now.labels.now self.now.links.now ds →
-            let d = document self.now.options.now (text_tables (T.reference_of self.now.tables.now) (T.punctuation_of self.now.tables.now)) ds in
+            let d = document_by T.Tables self.now ds in
             OnOk result (string_bytes out.new ≡ string_bytes out.old ++ inline_html (meaning_of d) (inlines (context_of d) (content_view (T.punctuation_of self.now.tables.now) content.entry))) }
     {
         let constructs = &self.options.parse.constructs;

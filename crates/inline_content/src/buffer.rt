@@ -6,8 +6,7 @@ ghost use Rattle.inline_content.specs.Marks.{mark_place};
 
 use crate::content::Content;
 use crate::mark::{Mark, push_mark};
-use block_definitions::content::{push_ending, push_line};
-use block_rows::Piece;
+use block_rows::{Piece, push_ending, push_line};
 use std::alloc::{AllocError, Allocator};
 
 /// The content of the lines of a block. It can be used again for another block, with no new memory

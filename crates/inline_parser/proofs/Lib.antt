@@ -5,6 +5,7 @@ pub mod Changes
 pub mod Goes
 pub mod Views
 pub mod Texts
+pub mod Fronts
 pub mod Follow
 pub mod Whole
 pub mod Placed

@@ -14,9 +14,9 @@ module _ {M : Type 0} where
   gfm_label_start_footnote_start on =
       Byte (Answer states.Nok)
       (On (λ b. b == 91)
-        (Test (λ c. on)
-          (Enter (Fixed names.GfmFootnoteCallLabel) (around (Fixed names.LabelMarker) (Answer (next inline_states.GfmLabelStartFootnoteOpen))))
-        (Answer states.Nok))
+      (Test (λ c. on)
+      (Enter (Fixed names.GfmFootnoteCallLabel) (around (Fixed names.LabelMarker) (Answer (next inline_states.GfmLabelStartFootnoteOpen))))
+      (Answer states.Nok))
       (Answer states.Nok))
 
   -- after the `[`

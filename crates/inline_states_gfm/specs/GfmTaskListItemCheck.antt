@@ -12,17 +12,17 @@ module _ {M : Type 0} where
   gfm_task_list_item_check_start on =
       Byte (Answer states.Nok)
       (On (λ b. b == 91)
-        (Test (λ c. on)
-          (Enter (Fixed names.GfmTaskListItemCheck)
-            (around (Fixed names.GfmTaskListItemMarker) (Answer (next inline_states.GfmTaskListItemCheckInside))))
-        (Answer states.Nok))
+      (Test (λ c. on)
+      (Enter (Fixed names.GfmTaskListItemCheck)
+      (around (Fixed names.GfmTaskListItemMarker) (Answer (next inline_states.GfmTaskListItemCheckInside))))
+      (Answer states.Nok))
       (Answer states.Nok))
 
   -- after the `[`
   abbrev pub gfm_task_list_item_check_inside : Body M
   gfm_task_list_item_check_inside =
       On (λ b. (b == 9) || (b == 10) || (b == 32))
-        (around (Fixed names.GfmTaskListItemValueUnchecked) (Answer (next inline_states.GfmTaskListItemCheckClose)))
+      (around (Fixed names.GfmTaskListItemValueUnchecked) (Answer (next inline_states.GfmTaskListItemCheckClose)))
       (On (λ b. (b == 120) || (b == 88)) (around (Fixed names.GfmTaskListItemValueChecked) (Answer (next inline_states.GfmTaskListItemCheckClose)))
       (Answer states.Nok))
 
@@ -31,7 +31,7 @@ module _ {M : Type 0} where
   gfm_task_list_item_check_close =
       Byte (Answer states.Nok)
       (On (λ b. b == 93)
-        (around (Fixed names.GfmTaskListItemMarker) (Exit (Fixed names.GfmTaskListItemCheck) (Answer (next inline_states.GfmTaskListItemCheckAfter))))
+      (around (Fixed names.GfmTaskListItemMarker) (Exit (Fixed names.GfmTaskListItemCheck) (Answer (next inline_states.GfmTaskListItemCheckAfter))))
       (Answer states.Nok))
 
   -- after the `]`: looks ahead
@@ -45,6 +45,6 @@ module _ {M : Type 0} where
   gfm_task_list_item_check_after_space_or_tab =
       Byte (Answer states.Nok)
       (On (λ b. (b == 9) || (b == 32))
-        (Keep (λ c. record c.tokenize_state { size_c = 2 ^ 64 - 1 }) (λ c i. refl)
-          (Tries false (next inline_states.GfmTaskListItemCheckAfterSpaceOrTab) states.Nok (retry inline_states.SpaceOrTabStart)))
+      (Keep (λ c. record c.tokenize_state { size_c = 2 ^ 64 - 1 }) (λ c i. refl)
+      (Tries false (next inline_states.GfmTaskListItemCheckAfterSpaceOrTab) states.Nok (retry inline_states.SpaceOrTabStart)))
       (Answer states.Ok))

@@ -11,23 +11,38 @@ ghost use Rattle.engine_programs.specs.Stacks.{Does, IsOpen};
 ghost use Rattle.inline_states_gfm.specs.GfmLabelStartFootnote.{gfm_label_start_footnote_start, gfm_label_start_footnote_open};
 
 use engine_programs::around::{around, leave};
-use engine_programs::steps::{around_to};
-use inline_states_table::{next};
+use engine_programs::steps::around_to;
+use inline_states_labels::start::start_label;
+use inline_states_table::next;
 use markdown_engine::event::Name as EventName;
+use markdown_engine::label::LabelKind;
 use markdown_engine::state::{Inline, State};
 use markdown_engine::tokenizer::Tokenizer;
 use std::alloc::Allocator;
-use inline_states_labels::start::start_label;
-use markdown_engine::label::LabelKind;
 
 /// At a `[`.
 pub fn start<M, T, A: Allocator>(tokenizer: &mut Tokenizer<'_, M, T, A>) -> State
     ensures { Does (gfm_label_start_footnote_start (read_with tokenizer.old).options.constructs.gfm_label_start_footnote) tokenizer.old tokenizer.new result }
 {
-if tokenizer.current != Some(b'[') { return State::Nok; }
-if tokenizer.parse_state.options.constructs.gfm_label_start_footnote { if tokenizer.enter(EventName::GfmFootnoteCallLabel).is_err() { return State::out_of_memory(); }
-return around_to(tokenizer, EventName::LabelMarker, next(Inline::GfmLabelStartFootnoteOpen)); }
-State::Nok
+    if tokenizer.current != Some(b'[') {
+        return State::Nok;
+    }
+    if tokenizer
+        .parse_state
+        .options
+        .constructs
+        .gfm_label_start_footnote
+    {
+        if tokenizer.enter(EventName::GfmFootnoteCallLabel).is_err() {
+            return State::out_of_memory();
+        }
+        return around_to(
+            tokenizer,
+            EventName::LabelMarker,
+            next(Inline::GfmLabelStartFootnoteOpen),
+        );
+    }
+    State::Nok
 }
 
 /// After the `[`.
@@ -35,8 +50,14 @@ pub fn open<M, T, A: Allocator>(tokenizer: &mut Tokenizer<'_, M, T, A>) -> State
     requires { IsOpen (Fixed names.GfmFootnoteCallLabel ∷ []) tokenizer.old }
     ensures { Does gfm_label_start_footnote_open tokenizer.old tokenizer.new result }
 {
-if tokenizer.current != Some(b'^') { return State::Nok; }
-if around(tokenizer, EventName::GfmFootnoteCallMarker).is_err() { return State::out_of_memory(); }
-if leave(tokenizer, EventName::GfmFootnoteCallLabel).is_err() { return State::out_of_memory(); }
-start_label(tokenizer, LabelKind::GfmFootnote, 6)
+    if tokenizer.current != Some(b'^') {
+        return State::Nok;
+    }
+    if around(tokenizer, EventName::GfmFootnoteCallMarker).is_err() {
+        return State::out_of_memory();
+    }
+    if leave(tokenizer, EventName::GfmFootnoteCallLabel).is_err() {
+        return State::out_of_memory();
+    }
+    start_label(tokenizer, LabelKind::GfmFootnote, 6)
 }

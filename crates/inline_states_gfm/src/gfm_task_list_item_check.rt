@@ -12,7 +12,7 @@ ghost use Rattle.engine_programs.specs.Bodies.{Fixed};
 ghost use Rattle.engine_programs.specs.Stacks.{Does, IsOpen};
 ghost use Rattle.inline_states_gfm.specs.GfmTaskListItemCheck.{gfm_task_list_item_check_start, gfm_task_list_item_check_inside, gfm_task_list_item_check_close, gfm_task_list_item_check_after, gfm_task_list_item_check_after_space_or_tab};
 
-use engine_programs::around::{around};
+use engine_programs::around::around;
 use engine_programs::steps::{around_to, attempt_to, check_to, exit_to};
 use inline_states_table::{next, retry};
 use markdown_engine::event::Name as EventName;
@@ -24,21 +24,39 @@ use std::alloc::Allocator;
 pub fn start<M, T, A: Allocator>(tokenizer: &mut Tokenizer<'_, M, T, A>) -> State
     ensures { Does (gfm_task_list_item_check_start (read_with tokenizer.old).options.constructs.gfm_task_list_item) tokenizer.old tokenizer.new result }
 {
-if tokenizer.current != Some(b'[') { return State::Nok; }
-if tokenizer.parse_state.options.constructs.gfm_task_list_item { if tokenizer.enter(EventName::GfmTaskListItemCheck).is_err() { return State::out_of_memory(); }
-return around_to(tokenizer, EventName::GfmTaskListItemMarker, next(Inline::GfmTaskListItemCheckInside)); }
-State::Nok
+    if tokenizer.current != Some(b'[') {
+        return State::Nok;
+    }
+    if tokenizer.parse_state.options.constructs.gfm_task_list_item {
+        if tokenizer.enter(EventName::GfmTaskListItemCheck).is_err() {
+            return State::out_of_memory();
+        }
+        return around_to(
+            tokenizer,
+            EventName::GfmTaskListItemMarker,
+            next(Inline::GfmTaskListItemCheckInside),
+        );
+    }
+    State::Nok
 }
 
 /// After the `[`.
 pub fn inside<M, T, A: Allocator>(tokenizer: &mut Tokenizer<'_, M, T, A>) -> State
     ensures { Does gfm_task_list_item_check_inside tokenizer.old tokenizer.new result }
 {
-match tokenizer.current {
-Some(b'\t' | b'\n' | b' ') => around_to(tokenizer, EventName::GfmTaskListItemValueUnchecked, next(Inline::GfmTaskListItemCheckClose)),
-Some(b'x' | b'X') => around_to(tokenizer, EventName::GfmTaskListItemValueChecked, next(Inline::GfmTaskListItemCheckClose)),
-_ => State::Nok,
-}
+    match tokenizer.current {
+        Some(b'\t' | b'\n' | b' ') => around_to(
+            tokenizer,
+            EventName::GfmTaskListItemValueUnchecked,
+            next(Inline::GfmTaskListItemCheckClose),
+        ),
+        Some(b'x' | b'X') => around_to(
+            tokenizer,
+            EventName::GfmTaskListItemValueChecked,
+            next(Inline::GfmTaskListItemCheckClose),
+        ),
+        _ => State::Nok,
+    }
 }
 
 /// At the `]`.
@@ -46,30 +64,50 @@ pub fn close<M, T, A: Allocator>(tokenizer: &mut Tokenizer<'_, M, T, A>) -> Stat
     requires { IsOpen (Fixed names.GfmTaskListItemCheck ∷ []) tokenizer.old }
     ensures { Does gfm_task_list_item_check_close tokenizer.old tokenizer.new result }
 {
-if tokenizer.current != Some(b']') { return State::Nok; }
-if around(tokenizer, EventName::GfmTaskListItemMarker).is_err() { return State::out_of_memory(); }
-exit_to(tokenizer, EventName::GfmTaskListItemCheck, next(Inline::GfmTaskListItemCheckAfter))
+    if tokenizer.current != Some(b']') {
+        return State::Nok;
+    }
+    if around(tokenizer, EventName::GfmTaskListItemMarker).is_err() {
+        return State::out_of_memory();
+    }
+    exit_to(
+        tokenizer,
+        EventName::GfmTaskListItemCheck,
+        next(Inline::GfmTaskListItemCheckAfter),
+    )
 }
 
 /// After the `]`: looks ahead.
 pub fn after<M, T, A: Allocator>(tokenizer: &mut Tokenizer<'_, M, T, A>) -> State
     ensures { Does gfm_task_list_item_check_after tokenizer.old tokenizer.new result }
 {
-match tokenizer.current {
-Some(b'\n') => State::Ok,
-Some(b'\t' | b' ') => check_to(tokenizer, State::Ok, State::Nok, retry(Inline::GfmTaskListItemCheckAfterSpaceOrTab)),
-_ => State::Nok,
-}
+    match tokenizer.current {
+        Some(b'\n') => State::Ok,
+        Some(b'\t' | b' ') => check_to(
+            tokenizer,
+            State::Ok,
+            State::Nok,
+            retry(Inline::GfmTaskListItemCheckAfterSpaceOrTab),
+        ),
+        _ => State::Nok,
+    }
 }
 
 /// Before or after spaces and tabs, which something follows.
 pub fn after_space_or_tab<M, T, A: Allocator>(tokenizer: &mut Tokenizer<'_, M, T, A>) -> State
     ensures { Does gfm_task_list_item_check_after_space_or_tab tokenizer.old tokenizer.new result }
 {
-match tokenizer.current {
-None => State::Nok,
-Some(b'\t' | b' ') => { tokenizer.tokenize_state.size_c = usize::MAX;
-attempt_to(tokenizer, next(Inline::GfmTaskListItemCheckAfterSpaceOrTab), State::Nok, retry(Inline::SpaceOrTabStart)) },
-Some(_) => State::Ok,
-}
+    match tokenizer.current {
+        None => State::Nok,
+        Some(b'\t' | b' ') => {
+            tokenizer.tokenize_state.size_c = usize::MAX;
+            attempt_to(
+                tokenizer,
+                next(Inline::GfmTaskListItemCheckAfterSpaceOrTab),
+                State::Nok,
+                retry(Inline::SpaceOrTabStart),
+            )
+        },
+        Some(_) => State::Ok,
+    }
 }

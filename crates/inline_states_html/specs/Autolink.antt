@@ -27,10 +27,10 @@ module _ {M : Type 0} where
   autolink_start on =
       Byte (Answer states.Nok)
       (On (λ b. b == 60)
-        (Test (λ c. on)
-          (Enter (Fixed names.Autolink)
-            (around (Fixed names.AutolinkMarker) (Enter (Fixed names.AutolinkProtocol) (Answer (next inline_states.AutolinkOpen)))))
-        (Answer states.Nok))
+      (Test (λ c. on)
+      (Enter (Fixed names.Autolink)
+      (around (Fixed names.AutolinkMarker) (Enter (Fixed names.AutolinkProtocol) (Answer (next inline_states.AutolinkOpen)))))
+      (Answer states.Nok))
       (Answer states.Nok))
 
   -- after the `<`
@@ -45,7 +45,7 @@ module _ {M : Type 0} where
   autolink_scheme_or_email_atext =
       Byte (Answer states.Nok)
       (On (λ b. (b == 43) || (b == 45) || (b == 46) || is_ascii_alphanumeric b)
-        (Keep (λ c. record c.tokenize_state { size = 1 }) (λ c i. refl) (Answer (retry inline_states.AutolinkSchemeInsideOrEmailAtext)))
+      (Keep (λ c. record c.tokenize_state { size = 1 }) (λ c i. refl) (Answer (retry inline_states.AutolinkSchemeInsideOrEmailAtext)))
       (Answer (retry inline_states.AutolinkEmailAtext)))
 
   -- in a scheme or in the name of an email, after two bytes at least
@@ -54,10 +54,10 @@ module _ {M : Type 0} where
       Byte (Answer states.Nok)
       (On (λ b. b == 58) (Consume (Answer (next inline_states.AutolinkUrlInside)))
       (On (λ b. (b == 43) || (b == 45) || (b == 46) || is_ascii_alphanumeric b)
-        (Test (λ c. nat_lt c.tokenize_state.size 32)
-          (Keep (λ c. record c.tokenize_state { size = more c.tokenize_state.size }) (λ c i. refl)
-            (Consume (Answer (next inline_states.AutolinkSchemeInsideOrEmailAtext))))
-        (Answer (retry inline_states.AutolinkEmailAtext)))
+      (Test (λ c. nat_lt c.tokenize_state.size 32)
+      (Keep (λ c. record c.tokenize_state { size = more c.tokenize_state.size }) (λ c i. refl)
+      (Consume (Answer (next inline_states.AutolinkSchemeInsideOrEmailAtext))))
+      (Answer (retry inline_states.AutolinkEmailAtext)))
       (Answer (retry inline_states.AutolinkEmailAtext))))
 
   -- in a URL
@@ -71,7 +71,7 @@ module _ {M : Type 0} where
   autolink_email_atext =
       Byte (Answer states.Nok)
       (On (λ b. b == 64)
-        (Keep (λ c. record c.tokenize_state { size = 0 }) (λ c i. refl) (Consume (Answer (next inline_states.AutolinkEmailAtSignOrDot))))
+      (Keep (λ c. record c.tokenize_state { size = 0 }) (λ c i. refl) (Consume (Answer (next inline_states.AutolinkEmailAtSignOrDot))))
       (On is_atext (Consume (Answer (next inline_states.AutolinkEmailAtext))) (Answer states.Nok)))
 
   -- after the `@` or a dot
@@ -84,7 +84,7 @@ module _ {M : Type 0} where
   autolink_email_label =
       Byte (Answer states.Nok)
       (On (λ b. b == 46)
-        (Keep (λ c. record c.tokenize_state { size = 0 }) (λ c i. refl) (Consume (Answer (next inline_states.AutolinkEmailAtSignOrDot))))
+      (Keep (λ c. record c.tokenize_state { size = 0 }) (λ c i. refl) (Consume (Answer (next inline_states.AutolinkEmailAtSignOrDot))))
       (On (λ b. b == 62) autolink_end (Answer (retry inline_states.AutolinkEmailValue))))
 
   -- in a label, at any byte
@@ -92,13 +92,13 @@ module _ {M : Type 0} where
   autolink_email_value =
       Byte (Answer states.Nok)
       (On (λ b. b == 45)
-        (Test (λ c. nat_lt c.tokenize_state.size 63)
-          (Keep (λ c. record c.tokenize_state { size = more c.tokenize_state.size }) (λ c i. refl)
-            (Consume (Answer (next inline_states.AutolinkEmailValue))))
-        (Answer states.Nok))
+      (Test (λ c. nat_lt c.tokenize_state.size 63)
+      (Keep (λ c. record c.tokenize_state { size = more c.tokenize_state.size }) (λ c i. refl)
+      (Consume (Answer (next inline_states.AutolinkEmailValue))))
+      (Answer states.Nok))
       (On is_ascii_alphanumeric
-        (Test (λ c. nat_lt c.tokenize_state.size 63)
-          (Keep (λ c. record c.tokenize_state { size = more c.tokenize_state.size }) (λ c i. refl)
-            (Consume (Answer (next inline_states.AutolinkEmailLabel))))
-        (Answer states.Nok))
+      (Test (λ c. nat_lt c.tokenize_state.size 63)
+      (Keep (λ c. record c.tokenize_state { size = more c.tokenize_state.size }) (λ c i. refl)
+      (Consume (Answer (next inline_states.AutolinkEmailLabel))))
+      (Answer states.Nok))
       (Answer states.Nok)))

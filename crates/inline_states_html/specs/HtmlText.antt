@@ -22,8 +22,8 @@ module _ {M : Type 0} where
   html_text_start on =
       Byte (Answer states.Nok)
       (On (λ b. b == 60)
-        (Test (λ c. on) (Enter (Fixed names.HtmlText) (Enter (Fixed names.HtmlTextData) (Consume (Answer (next inline_states.HtmlTextOpen)))))
-        (Answer states.Nok))
+      (Test (λ c. on) (Enter (Fixed names.HtmlText) (Enter (Fixed names.HtmlTextData) (Consume (Answer (next inline_states.HtmlTextOpen)))))
+      (Answer states.Nok))
       (Answer states.Nok))
 
   -- after the `<`
@@ -41,7 +41,7 @@ module _ {M : Type 0} where
       Byte (Answer states.Nok)
       (On (λ b. b == 45) (Consume (Answer (next inline_states.HtmlTextCommentOpenInside)))
       (On (λ b. b == 91)
-        (Keep (λ c. record c.tokenize_state { size = 0 }) (λ c i. refl) (Consume (Answer (next inline_states.HtmlTextCdataOpenInside))))
+      (Keep (λ c. record c.tokenize_state { size = 0 }) (λ c i. refl) (Consume (Answer (next inline_states.HtmlTextCdataOpenInside))))
       (On is_ascii_alphabetic (Consume (Answer (next inline_states.HtmlTextDeclaration))) (Answer states.Nok))))
 
   -- after `<!-`
@@ -74,10 +74,10 @@ module _ {M : Type 0} where
   html_text_cdata_open_inside =
       Byte (Answer states.Nok)
       (Test (λ c. has (is_prefix_byte c.tokenize_state.size) c.current)
-        (Keep (λ c. record c.tokenize_state { size = more c.tokenize_state.size }) (λ c i. refl)
-          (Consume
-            (Test (λ c. c.tokenize_state.size == 6) (Answer (next inline_states.HtmlTextCdata))
-            (Answer (next inline_states.HtmlTextCdataOpenInside)))))
+      (Keep (λ c. record c.tokenize_state { size = more c.tokenize_state.size }) (λ c i. refl)
+      (Consume
+      (Test (λ c. c.tokenize_state.size == 6) (Answer (next inline_states.HtmlTextCdata))
+      (Answer (next inline_states.HtmlTextCdataOpenInside)))))
       (Answer states.Nok))
 
   -- in CDATA
@@ -161,7 +161,7 @@ module _ {M : Type 0} where
   html_text_tag_open_attribute_name =
       Byte (Answer states.Nok)
       (On (λ b. (b == 45) || (b == 46) || (b == 58) || (b == 95) || is_ascii_alphanumeric b)
-        (Consume (Answer (next inline_states.HtmlTextTagOpenAttributeName)))
+      (Consume (Answer (next inline_states.HtmlTextTagOpenAttributeName)))
       (Answer (retry inline_states.HtmlTextTagOpenAttributeNameAfter)))
 
   -- after the name of an attribute
@@ -181,11 +181,11 @@ module _ {M : Type 0} where
       (On (λ b. b == 10) (html_text_line inline_states.HtmlTextTagOpenAttributeValueBefore)
       (On (λ b. (b == 9) || (b == 32)) (Consume (Answer (next inline_states.HtmlTextTagOpenAttributeValueBefore)))
       (On (λ b. b == 34)
-        (Keep (λ c. record c.tokenize_state { marker = 34 }) (λ c i. refl)
-          (Consume (Answer (next inline_states.HtmlTextTagOpenAttributeValueQuoted))))
+      (Keep (λ c. record c.tokenize_state { marker = 34 }) (λ c i. refl)
+      (Consume (Answer (next inline_states.HtmlTextTagOpenAttributeValueQuoted))))
       (On (λ b. b == 39)
-        (Keep (λ c. record c.tokenize_state { marker = 39 }) (λ c i. refl)
-          (Consume (Answer (next inline_states.HtmlTextTagOpenAttributeValueQuoted))))
+      (Keep (λ c. record c.tokenize_state { marker = 39 }) (λ c i. refl)
+      (Consume (Answer (next inline_states.HtmlTextTagOpenAttributeValueQuoted))))
       (Consume (Answer (next inline_states.HtmlTextTagOpenAttributeValueUnquoted))))))))
 
   -- in a value between quotes
@@ -229,8 +229,8 @@ module _ {M : Type 0} where
   html_text_line_ending_after =
       Byte (Answer (retry inline_states.HtmlTextLineEndingAfterPrefix))
       (On (λ b. (b == 9) || (b == 32))
-        (Keep (λ c. record c.tokenize_state { size_c = 2 ^ 64 - 1 }) (λ c i. refl)
-          (Tries false (next inline_states.HtmlTextLineEndingAfterPrefix) states.Nok (retry inline_states.SpaceOrTabStart)))
+      (Keep (λ c. record c.tokenize_state { size_c = 2 ^ 64 - 1 }) (λ c i. refl)
+      (Tries false (next inline_states.HtmlTextLineEndingAfterPrefix) states.Nok (retry inline_states.SpaceOrTabStart)))
       (Answer (retry inline_states.HtmlTextLineEndingAfterPrefix)))
 
   -- after a line ending and the spaces and tabs there

@@ -23,8 +23,8 @@ use inline_states_table::{next, retry};
 use markdown_engine::event::Name as EventName;
 use markdown_engine::state::{Inline, State};
 use markdown_engine::tokenizer::Tokenizer;
-use std::alloc::Allocator;
 use markdown_options::constants::{AUTOLINK_DOMAIN_SIZE_MAX, AUTOLINK_SCHEME_SIZE_MAX};
+use std::alloc::Allocator;
 
 /// Whether a byte can't stand in a URL.
 fn ends_url(byte: u8) -> bool
@@ -62,44 +62,74 @@ fn end<M, T, A: Allocator>(tokenizer: &mut Tokenizer<'_, M, T, A>) -> State
 pub fn start<M, T, A: Allocator>(tokenizer: &mut Tokenizer<'_, M, T, A>) -> State
     ensures { Does (autolink_start (read_with tokenizer.old).options.constructs.autolink) tokenizer.old tokenizer.new result }
 {
-if tokenizer.current != Some(b'<') { return State::Nok; }
-if tokenizer.parse_state.options.constructs.autolink { if tokenizer.enter(EventName::Autolink).is_err() { return State::out_of_memory(); }
-if around(tokenizer, EventName::AutolinkMarker).is_err() { return State::out_of_memory(); }
-if tokenizer.enter(EventName::AutolinkProtocol).is_err() { return State::out_of_memory(); }
-return next(Inline::AutolinkOpen); }
-State::Nok
+    if tokenizer.current != Some(b'<') {
+        return State::Nok;
+    }
+    if tokenizer.parse_state.options.constructs.autolink {
+        if tokenizer.enter(EventName::Autolink).is_err() {
+            return State::out_of_memory();
+        }
+        if around(tokenizer, EventName::AutolinkMarker).is_err() {
+            return State::out_of_memory();
+        }
+        if tokenizer.enter(EventName::AutolinkProtocol).is_err() {
+            return State::out_of_memory();
+        }
+        return next(Inline::AutolinkOpen);
+    }
+    State::Nok
 }
 
 /// After the `<`.
 pub fn open<M, T, A: Allocator>(tokenizer: &mut Tokenizer<'_, M, T, A>) -> State
     ensures { Does autolink_open tokenizer.old tokenizer.new result }
 {
-let Some(byte) = tokenizer.current else { return State::Nok; };
-if byte.is_ascii_alphabetic() { return consume_to(tokenizer, next(Inline::AutolinkSchemeOrEmailAtext)); }
-if byte == b'@' { return State::Nok; }
-retry(Inline::AutolinkEmailAtext)
+    let Some(byte) = tokenizer.current else {
+        return State::Nok;
+    };
+    if byte.is_ascii_alphabetic() {
+        return consume_to(tokenizer, next(Inline::AutolinkSchemeOrEmailAtext));
+    }
+    if byte == b'@' {
+        return State::Nok;
+    }
+    retry(Inline::AutolinkEmailAtext)
 }
 
 /// After the first letter.
 pub fn scheme_or_email_atext<M, T, A: Allocator>(tokenizer: &mut Tokenizer<'_, M, T, A>) -> State
     ensures { Does autolink_scheme_or_email_atext tokenizer.old tokenizer.new result }
 {
-let Some(byte) = tokenizer.current else { return State::Nok; };
-if matches!(byte, b'+' | b'-' | b'.') || byte.is_ascii_alphanumeric() { tokenizer.tokenize_state.size = 1;
-return retry(Inline::AutolinkSchemeInsideOrEmailAtext); }
-retry(Inline::AutolinkEmailAtext)
+    let Some(byte) = tokenizer.current else {
+        return State::Nok;
+    };
+    if matches!(byte, b'+' | b'-' | b'.') || byte.is_ascii_alphanumeric() {
+        tokenizer.tokenize_state.size = 1;
+        return retry(Inline::AutolinkSchemeInsideOrEmailAtext);
+    }
+    retry(Inline::AutolinkEmailAtext)
 }
 
 /// In a scheme or in the name of an email, after two bytes at least.
-pub fn scheme_inside_or_email_atext<M, T, A: Allocator>(tokenizer: &mut Tokenizer<'_, M, T, A>) -> State
+pub fn scheme_inside_or_email_atext<M, T, A: Allocator>(
+    tokenizer: &mut Tokenizer<'_, M, T, A>,
+) -> State
     ensures { Does autolink_scheme_inside_or_email_atext tokenizer.old tokenizer.new result }
 {
-let Some(byte) = tokenizer.current else { return State::Nok; };
-if byte == b':' { return consume_to(tokenizer, next(Inline::AutolinkUrlInside)); }
-if matches!(byte, b'+' | b'-' | b'.') || byte.is_ascii_alphanumeric() { if tokenizer.tokenize_state.size < AUTOLINK_SCHEME_SIZE_MAX { tokenizer.tokenize_state.size = tokenizer.tokenize_state.size.saturating_add(1);
-return consume_to(tokenizer, next(Inline::AutolinkSchemeInsideOrEmailAtext)); }
-return retry(Inline::AutolinkEmailAtext); }
-retry(Inline::AutolinkEmailAtext)
+    let Some(byte) = tokenizer.current else {
+        return State::Nok;
+    };
+    if byte == b':' {
+        return consume_to(tokenizer, next(Inline::AutolinkUrlInside));
+    }
+    if matches!(byte, b'+' | b'-' | b'.') || byte.is_ascii_alphanumeric() {
+        if tokenizer.tokenize_state.size < AUTOLINK_SCHEME_SIZE_MAX {
+            tokenizer.tokenize_state.size = tokenizer.tokenize_state.size.saturating_add(1);
+            return consume_to(tokenizer, next(Inline::AutolinkSchemeInsideOrEmailAtext));
+        }
+        return retry(Inline::AutolinkEmailAtext);
+    }
+    retry(Inline::AutolinkEmailAtext)
 }
 
 /// In a URL.
@@ -107,30 +137,46 @@ pub fn url_inside<M, T, A: Allocator>(tokenizer: &mut Tokenizer<'_, M, T, A>) ->
     requires { IsOpen address_tokens tokenizer.old }
     ensures { Does autolink_url_inside tokenizer.old tokenizer.new result }
 {
-let Some(byte) = tokenizer.current else { return State::Nok; };
-if byte == b'>' { return end(tokenizer); }
-if ends_url(byte) { return State::Nok; }
-consume_to(tokenizer, next(Inline::AutolinkUrlInside))
+    let Some(byte) = tokenizer.current else {
+        return State::Nok;
+    };
+    if byte == b'>' {
+        return end(tokenizer);
+    }
+    if ends_url(byte) {
+        return State::Nok;
+    }
+    consume_to(tokenizer, next(Inline::AutolinkUrlInside))
 }
 
 /// In the name of an email.
 pub fn email_atext<M, T, A: Allocator>(tokenizer: &mut Tokenizer<'_, M, T, A>) -> State
     ensures { Does autolink_email_atext tokenizer.old tokenizer.new result }
 {
-let Some(byte) = tokenizer.current else { return State::Nok; };
-if byte == b'@' { tokenizer.tokenize_state.size = 0;
-return consume_to(tokenizer, next(Inline::AutolinkEmailAtSignOrDot)); }
-if is_atext(byte) { return consume_to(tokenizer, next(Inline::AutolinkEmailAtext)); }
-State::Nok
+    let Some(byte) = tokenizer.current else {
+        return State::Nok;
+    };
+    if byte == b'@' {
+        tokenizer.tokenize_state.size = 0;
+        return consume_to(tokenizer, next(Inline::AutolinkEmailAtSignOrDot));
+    }
+    if is_atext(byte) {
+        return consume_to(tokenizer, next(Inline::AutolinkEmailAtext));
+    }
+    State::Nok
 }
 
 /// After the `@` or a dot.
 pub fn email_at_sign_or_dot<M, T, A: Allocator>(tokenizer: &mut Tokenizer<'_, M, T, A>) -> State
     ensures { Does autolink_email_at_sign_or_dot tokenizer.old tokenizer.new result }
 {
-let Some(byte) = tokenizer.current else { return State::Nok; };
-if byte.is_ascii_alphanumeric() { return retry(Inline::AutolinkEmailValue); }
-State::Nok
+    let Some(byte) = tokenizer.current else {
+        return State::Nok;
+    };
+    if byte.is_ascii_alphanumeric() {
+        return retry(Inline::AutolinkEmailValue);
+    }
+    State::Nok
 }
 
 /// In a label, after a letter or a digit.
@@ -138,25 +184,37 @@ pub fn email_label<M, T, A: Allocator>(tokenizer: &mut Tokenizer<'_, M, T, A>) -
     requires { IsOpen address_tokens tokenizer.old }
     ensures { Does autolink_email_label tokenizer.old tokenizer.new result }
 {
-match tokenizer.current {
-None => State::Nok,
-Some(b'.') => { tokenizer.tokenize_state.size = 0;
-consume_to(tokenizer, next(Inline::AutolinkEmailAtSignOrDot)) },
-Some(b'>') => end(tokenizer),
-Some(_) => retry(Inline::AutolinkEmailValue),
-}
+    match tokenizer.current {
+        None => State::Nok,
+        Some(b'.') => {
+            tokenizer.tokenize_state.size = 0;
+            consume_to(tokenizer, next(Inline::AutolinkEmailAtSignOrDot))
+        },
+        Some(b'>') => end(tokenizer),
+        Some(_) => retry(Inline::AutolinkEmailValue),
+    }
 }
 
 /// In a label, at any byte.
 pub fn email_value<M, T, A: Allocator>(tokenizer: &mut Tokenizer<'_, M, T, A>) -> State
     ensures { Does autolink_email_value tokenizer.old tokenizer.new result }
 {
-let Some(byte) = tokenizer.current else { return State::Nok; };
-if byte == b'-' { if tokenizer.tokenize_state.size < AUTOLINK_DOMAIN_SIZE_MAX { tokenizer.tokenize_state.size = tokenizer.tokenize_state.size.saturating_add(1);
-return consume_to(tokenizer, next(Inline::AutolinkEmailValue)); }
-return State::Nok; }
-if byte.is_ascii_alphanumeric() { if tokenizer.tokenize_state.size < AUTOLINK_DOMAIN_SIZE_MAX { tokenizer.tokenize_state.size = tokenizer.tokenize_state.size.saturating_add(1);
-return consume_to(tokenizer, next(Inline::AutolinkEmailLabel)); }
-return State::Nok; }
-State::Nok
+    let Some(byte) = tokenizer.current else {
+        return State::Nok;
+    };
+    if byte == b'-' {
+        if tokenizer.tokenize_state.size < AUTOLINK_DOMAIN_SIZE_MAX {
+            tokenizer.tokenize_state.size = tokenizer.tokenize_state.size.saturating_add(1);
+            return consume_to(tokenizer, next(Inline::AutolinkEmailValue));
+        }
+        return State::Nok;
+    }
+    if byte.is_ascii_alphanumeric() {
+        if tokenizer.tokenize_state.size < AUTOLINK_DOMAIN_SIZE_MAX {
+            tokenizer.tokenize_state.size = tokenizer.tokenize_state.size.saturating_add(1);
+            return consume_to(tokenizer, next(Inline::AutolinkEmailLabel));
+        }
+        return State::Nok;
+    }
+    State::Nok
 }

@@ -21,9 +21,9 @@ enclosed_byte = On (λ b. b == 92) (Consume (Answer (next inline_states.Destinat
 abbrev pub raw_byte : {M : Type 0} → Body M
 raw_byte =
     On (λ b. b == 40)
-      (Test (λ c. nat_lt c.tokenize_state.size c.tokenize_state.size_b)
-        (Keep (λ c. record c.tokenize_state { size = more c.tokenize_state.size }) (λ c i. refl) (Consume (Answer (next inline_states.DestinationRaw))))
-        (Answer states.Nok))
+    (Test (λ c. nat_lt c.tokenize_state.size c.tokenize_state.size_b)
+    (Keep (λ c. record c.tokenize_state { size = more c.tokenize_state.size }) (λ c i. refl) (Consume (Answer (next inline_states.DestinationRaw))))
+    (Answer states.Nok))
     (On (λ b. b == 92) (Consume (Answer (next inline_states.DestinationRawEscape)))
     (Consume (Answer (next inline_states.DestinationRaw))))
 
@@ -35,7 +35,7 @@ enclosed_begun state = Enter (Held 5) (EnterLink (Fixed names.Data) first_link (
 abbrev pub raw_begun : {M : Type 0} → ℕ → State → Body M
 raw_begun size state =
     Keep (λ c. record c.tokenize_state { size = size }) (λ c i. refl)
-      (Enter (Held 1) (Enter (Held 4) (Enter (Held 5) (EnterLink (Fixed names.Data) first_link (Consume (Answer state))))))
+    (Enter (Held 1) (Enter (Held 4) (Enter (Held 5) (EnterLink (Fixed names.Data) first_link (Consume (Answer state))))))
 
 -- at the end of one with none around, if no parenthesis is open
 abbrev pub raw_end : {M : Type 0} → Body M
@@ -79,9 +79,9 @@ module _ {M : Type 0} where
       Byte raw_end
       (On (λ b. (b == 9) || (b == 10) || (b == 32)) raw_end
       (On (λ b. b == 41)
-        (Test (λ c. c.tokenize_state.size == 0) raw_end
-        (Keep (λ c. record c.tokenize_state { size = less c.tokenize_state.size }) (λ c i. refl)
-          (Consume (Answer (next inline_states.DestinationRaw)))))
+      (Test (λ c. c.tokenize_state.size == 0) raw_end
+      (Keep (λ c. record c.tokenize_state { size = less c.tokenize_state.size }) (λ c i. refl)
+      (Consume (Answer (next inline_states.DestinationRaw)))))
       (On is_control (Answer states.Nok) raw_byte)))
 
   -- with no angle brackets around, after a backslash

@@ -29,8 +29,8 @@ module _ {M : Type 0} where
   label_start =
       Byte (Answer states.Nok)
       (On (λ b. b == 91)
-        (Keep (λ c. record c.tokenize_state { size = 0; seen = false; connect = true }) (λ c i. refl)
-          (Enter (Held 1) (around (Held 2) (Enter (Held 3) (Answer (next inline_states.LabelAtBreak))))))
+      (Keep (λ c. record c.tokenize_state { size = 0; seen = false; connect = true }) (λ c i. refl)
+      (Enter (Held 1) (around (Held 2) (Enter (Held 3) (Answer (next inline_states.LabelAtBreak))))))
       (Answer states.Nok))
 
   -- between the parts of the text
@@ -58,7 +58,7 @@ module _ {M : Type 0} where
   label_inside =
       Byte (Exit (Fixed names.Data) (Answer (retry inline_states.LabelAtBreak)))
       (Test (λ c. has (λ b. (b == 10) || (b == 91) || (b == 93)) c.current || nat_lt 999 c.tokenize_state.size)
-        (Exit (Fixed names.Data) (Answer (retry inline_states.LabelAtBreak)))
+      (Exit (Fixed names.Data) (Answer (retry inline_states.LabelAtBreak)))
       label_byte)
 
   -- after a backslash
@@ -66,6 +66,6 @@ module _ {M : Type 0} where
   label_escape =
       Byte (Answer (retry inline_states.LabelInside))
       (Test (λ c. has (λ b. (b == 91) || (b == 92) || (b == 93)) c.current)
-        (Keep (λ c. record c.tokenize_state { size = counted c.tokenize_state.size c.point }) (λ c i. refl)
-          (Consume (Answer (next inline_states.LabelInside))))
+      (Keep (λ c. record c.tokenize_state { size = counted c.tokenize_state.size c.point }) (λ c i. refl)
+      (Consume (Answer (next inline_states.LabelInside))))
       (Answer (retry inline_states.LabelInside)))

@@ -14,8 +14,8 @@ module _ {M : Type 0} where
   label_start_image_start on =
       Byte (Answer states.Nok)
       (On (λ b. b == 33)
-        (Test (λ c. on) (Enter (Fixed names.LabelImage) (around (Fixed names.LabelImageMarker) (Answer (next inline_states.LabelStartImageOpen))))
-        (Answer states.Nok))
+      (Test (λ c. on) (Enter (Fixed names.LabelImage) (around (Fixed names.LabelImageMarker) (Answer (next inline_states.LabelStartImageOpen))))
+      (Answer states.Nok))
       (Answer states.Nok))
 
   -- after the `!`

@@ -12,6 +12,6 @@ module _ {M : Type 0} where
   label_start_link_start on =
       Byte (Answer states.Nok)
       (On (λ b. b == 91)
-        (Test (λ c. on) (Enter (Fixed names.LabelLink) (around (Fixed names.LabelMarker) (Exit (Fixed names.LabelLink) (label_begun kinds.Link 4))))
-        (Answer states.Nok))
+      (Test (λ c. on) (Enter (Fixed names.LabelLink) (around (Fixed names.LabelMarker) (Exit (Fixed names.LabelLink) (label_begun kinds.Link 4))))
+      (Answer states.Nok))
       (Answer states.Nok))

@@ -13,9 +13,9 @@ module _ {M : Type 0} where
   space_or_tab_start =
       Byte (Answer states.Nok)
       (Test (λ c. nat_lt 0 c.tokenize_state.size_c && has is_space_or_tab c.current)
-        (EnterLink (Fixed names.SpaceOrTab) part_link
-          (Keep (λ c. record c.tokenize_state { size_c = less c.tokenize_state.size_c }) (λ c i. refl)
-            (Consume (Answer (next inline_states.SpaceOrTabInside)))))
+      (EnterLink (Fixed names.SpaceOrTab) part_link
+      (Keep (λ c. record c.tokenize_state { size_c = less c.tokenize_state.size_c }) (λ c i. refl)
+      (Consume (Answer (next inline_states.SpaceOrTabInside)))))
       (Answer states.Nok))
 
   -- at the next
@@ -23,8 +23,8 @@ module _ {M : Type 0} where
   space_or_tab_inside =
       Byte (Exit (Fixed names.SpaceOrTab) (Answer (retry inline_states.SpaceOrTabAfter)))
       (Test (λ c. nat_lt 0 c.tokenize_state.size_c && has is_space_or_tab c.current)
-        (Keep (λ c. record c.tokenize_state { size_c = less c.tokenize_state.size_c }) (λ c i. refl)
-          (Consume (Answer (next inline_states.SpaceOrTabInside))))
+      (Keep (λ c. record c.tokenize_state { size_c = less c.tokenize_state.size_c }) (λ c i. refl)
+      (Consume (Answer (next inline_states.SpaceOrTabInside))))
       (Exit (Fixed names.SpaceOrTab) (Answer (retry inline_states.SpaceOrTabAfter))))
 
   -- after them

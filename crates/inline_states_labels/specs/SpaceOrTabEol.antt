@@ -16,8 +16,8 @@ module _ {M : Type 0} where
   abbrev pub space_or_tab_eol_start : Body M
   space_or_tab_eol_start =
       On (λ b. (b == 9) || (b == 32))
-        (Keep (λ c. record c.tokenize_state { size_c = 2 ^ 64 - 1 }) (λ c i. refl)
-          (Tries false (next inline_states.SpaceOrTabEolAfterFirst) (next inline_states.SpaceOrTabEolAtEol) (retry inline_states.SpaceOrTabStart)))
+      (Keep (λ c. record c.tokenize_state { size_c = 2 ^ 64 - 1 }) (λ c i. refl)
+      (Tries false (next inline_states.SpaceOrTabEolAfterFirst) (next inline_states.SpaceOrTabEolAtEol) (retry inline_states.SpaceOrTabStart)))
       (Answer (retry inline_states.SpaceOrTabEolAtEol))
 
   -- after spaces and tabs
@@ -34,8 +34,8 @@ module _ {M : Type 0} where
   abbrev pub space_or_tab_eol_after_eol : Body M
   space_or_tab_eol_after_eol =
       On (λ b. (b == 9) || (b == 32))
-        (Keep (λ c. record c.tokenize_state { size_c = 2 ^ 64 - 1 }) (λ c i. refl)
-          (Tries false (next inline_states.SpaceOrTabEolAfterMore) (next inline_states.SpaceOrTabEolAfterMore) (retry inline_states.SpaceOrTabStart)))
+      (Keep (λ c. record c.tokenize_state { size_c = 2 ^ 64 - 1 }) (λ c i. refl)
+      (Tries false (next inline_states.SpaceOrTabEolAfterMore) (next inline_states.SpaceOrTabEolAfterMore) (retry inline_states.SpaceOrTabStart)))
       (Answer (retry inline_states.SpaceOrTabEolAfterMore))
 
   -- after it all

@@ -64,7 +64,7 @@ module _ {M : Type 0} where
   title_inside =
       Byte (Exit (Fixed names.Data) (Answer (retry inline_states.TitleAtBreak)))
       (Test (λ c. has (λ b. (b == 10) || (b == c.tokenize_state.marker) || is_nested c.tokenize_state.marker b) c.current)
-        (Exit (Fixed names.Data) (Answer (retry inline_states.TitleAtBreak)))
+      (Exit (Fixed names.Data) (Answer (retry inline_states.TitleAtBreak)))
       title_byte)
 
   -- after a backslash

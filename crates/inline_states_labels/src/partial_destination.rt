@@ -17,6 +17,7 @@ ghost use Rattle.std.specs.Prelude.{◌≡◌, Some};
 ghost use Rattle.inline_states_labels.specs.Destination.{enclosed_begun, enclosed_byte, is_control, raw_begun, raw_byte, raw_end};
 ghost use Rattle.inline_states_table.specs.Table.{raw_destination_tokens};
 
+use crate::chunk::FIRST;
 use engine_programs::around::{around, leave};
 use engine_programs::steps::{around_to, consume_to, exit_to};
 use inline_states_table::{next, retry};
@@ -24,7 +25,6 @@ use markdown_engine::event::Name as EventName;
 use markdown_engine::state::{Inline, State};
 use markdown_engine::tokenizer::Tokenizer;
 use std::alloc::Allocator;
-use crate::chunk::FIRST;
 
 /// Whether a byte can't stand in a destination with no angle brackets; NUL may.
 fn is_control(byte: u8) -> bool
@@ -62,10 +62,7 @@ fn over_raw<M, T, A: Allocator>(tokenizer: &mut Tokenizer<'_, M, T, A>, byte: u8
 }
 
 /// Over the first byte between angle brackets.
-fn begin_enclosed<M, T, A: Allocator>(
-    tokenizer: &mut Tokenizer<'_, M, T, A>,
-    state: State,
-) -> State
+fn begin_enclosed<M, T, A: Allocator>(tokenizer: &mut Tokenizer<'_, M, T, A>, state: State) -> State
     ensures { Does (enclosed_begun state) tokenizer.old tokenizer.new result }
 {
     if tokenizer.enter(tokenizer.tokenize_state.token_5).is_err() {
@@ -121,15 +118,39 @@ fn end_raw<M, T, A: Allocator>(tokenizer: &mut Tokenizer<'_, M, T, A>) -> State
 pub fn start<M, T, A: Allocator>(tokenizer: &mut Tokenizer<'_, M, T, A>) -> State
     ensures { Does destination_start tokenizer.old tokenizer.new result }
 {
-let Some(byte) = tokenizer.current else { return State::Nok; };
-if byte == b'<' { if tokenizer.enter(tokenizer.tokenize_state.token_1).is_err() { return State::out_of_memory(); }
-if tokenizer.enter(tokenizer.tokenize_state.token_2).is_err() { return State::out_of_memory(); }
-return around_to(tokenizer, tokenizer.tokenize_state.token_3, next(Inline::DestinationEnclosedBefore)); }
-if is_control(byte) { return State::Nok; }
-if byte == b')' { return State::Nok; }
-if byte == b'(' { return if tokenizer.tokenize_state.size_b > 0 { begin_raw(tokenizer, 1, next(Inline::DestinationRaw)) } else { State::Nok }; }
-if byte == b'\\' { return begin_raw(tokenizer, 0, next(Inline::DestinationRawEscape)); }
-begin_raw(tokenizer, 0, next(Inline::DestinationRaw))
+    let Some(byte) = tokenizer.current else {
+        return State::Nok;
+    };
+    if byte == b'<' {
+        if tokenizer.enter(tokenizer.tokenize_state.token_1).is_err() {
+            return State::out_of_memory();
+        }
+        if tokenizer.enter(tokenizer.tokenize_state.token_2).is_err() {
+            return State::out_of_memory();
+        }
+        return around_to(
+            tokenizer,
+            tokenizer.tokenize_state.token_3,
+            next(Inline::DestinationEnclosedBefore),
+        );
+    }
+    if is_control(byte) {
+        return State::Nok;
+    }
+    if byte == b')' {
+        return State::Nok;
+    }
+    if byte == b'(' {
+        return if tokenizer.tokenize_state.size_b > 0 {
+            begin_raw(tokenizer, 1, next(Inline::DestinationRaw))
+        } else {
+            State::Nok
+        };
+    }
+    if byte == b'\\' {
+        return begin_raw(tokenizer, 0, next(Inline::DestinationRawEscape));
+    }
+    begin_raw(tokenizer, 0, next(Inline::DestinationRaw))
 }
 
 /// After the `<`, or at the `>`.
@@ -137,17 +158,23 @@ pub fn enclosed_before<M, T, A: Allocator>(tokenizer: &mut Tokenizer<'_, M, T, A
     requires { IsOpen (Held 2 ∷ Held 1 ∷ []) tokenizer.old }
     ensures { Does destination_enclosed_before tokenizer.old tokenizer.new result }
 {
-match tokenizer.current {
-None => State::Nok,
-Some(b'>') => { let name = tokenizer.tokenize_state.token_3;
-if around(tokenizer, name).is_err() { return State::out_of_memory(); }
-let name = tokenizer.tokenize_state.token_2;
-if leave(tokenizer, name).is_err() { return State::out_of_memory(); }
-exit_to(tokenizer, tokenizer.tokenize_state.token_1, State::Ok) },
-Some(b'\n' | b'<') => State::Nok,
-Some(b'\\') => begin_enclosed(tokenizer, next(Inline::DestinationEnclosedEscape)),
-Some(_) => begin_enclosed(tokenizer, next(Inline::DestinationEnclosed)),
-}
+    match tokenizer.current {
+        None => State::Nok,
+        Some(b'>') => {
+            let name = tokenizer.tokenize_state.token_3;
+            if around(tokenizer, name).is_err() {
+                return State::out_of_memory();
+            }
+            let name = tokenizer.tokenize_state.token_2;
+            if leave(tokenizer, name).is_err() {
+                return State::out_of_memory();
+            }
+            exit_to(tokenizer, tokenizer.tokenize_state.token_1, State::Ok)
+        },
+        Some(b'\n' | b'<') => State::Nok,
+        Some(b'\\') => begin_enclosed(tokenizer, next(Inline::DestinationEnclosedEscape)),
+        Some(_) => begin_enclosed(tokenizer, next(Inline::DestinationEnclosed)),
+    }
 }
 
 /// Between the angle brackets.
@@ -155,21 +182,33 @@ pub fn enclosed<M, T, A: Allocator>(tokenizer: &mut Tokenizer<'_, M, T, A>) -> S
     requires { IsOpen (Fixed names.Data ∷ Held 5 ∷ Held 2 ∷ Held 1 ∷ []) tokenizer.old }
     ensures { Does destination_enclosed tokenizer.old tokenizer.new result }
 {
-let Some(byte) = tokenizer.current else { return State::Nok; };
-if byte == b'>' { if leave(tokenizer, EventName::Data).is_err() { return State::out_of_memory(); }
-return exit_to(tokenizer, tokenizer.tokenize_state.token_5, retry(Inline::DestinationEnclosedBefore)); }
-if matches!(byte, b'\n' | b'<') { return State::Nok; }
-over_enclosed(tokenizer, byte)
+    let Some(byte) = tokenizer.current else {
+        return State::Nok;
+    };
+    if byte == b'>' {
+        if leave(tokenizer, EventName::Data).is_err() {
+            return State::out_of_memory();
+        }
+        return exit_to(
+            tokenizer,
+            tokenizer.tokenize_state.token_5,
+            retry(Inline::DestinationEnclosedBefore),
+        );
+    }
+    if matches!(byte, b'\n' | b'<') {
+        return State::Nok;
+    }
+    over_enclosed(tokenizer, byte)
 }
 
 /// Between the angle brackets, after a backslash.
 pub fn enclosed_escape<M, T, A: Allocator>(tokenizer: &mut Tokenizer<'_, M, T, A>) -> State
     ensures { Does destination_enclosed_escape tokenizer.old tokenizer.new result }
 {
-match tokenizer.current {
-Some(b'<' | b'>' | b'\\') => consume_to(tokenizer, next(Inline::DestinationEnclosed)),
-_ => retry(Inline::DestinationEnclosed),
-}
+    match tokenizer.current {
+        Some(b'<' | b'>' | b'\\') => consume_to(tokenizer, next(Inline::DestinationEnclosed)),
+        _ => retry(Inline::DestinationEnclosed),
+    }
 }
 
 /// With no angle brackets around.
@@ -177,21 +216,31 @@ pub fn raw<M, T, A: Allocator>(tokenizer: &mut Tokenizer<'_, M, T, A>) -> State
     requires { IsOpen raw_destination_tokens tokenizer.old }
     ensures { Does destination_raw tokenizer.old tokenizer.new result }
 {
-let Some(byte) = tokenizer.current else { return end_raw(tokenizer); };
-if matches!(byte, b'\t' | b'\n' | b' ') { return end_raw(tokenizer); }
-if byte == b')' { if tokenizer.tokenize_state.size == 0 { return end_raw(tokenizer); }
-tokenizer.tokenize_state.size = tokenizer.tokenize_state.size.saturating_sub(1);
-return consume_to(tokenizer, next(Inline::DestinationRaw)); }
-if is_control(byte) { return State::Nok; }
-over_raw(tokenizer, byte)
+    let Some(byte) = tokenizer.current else {
+        return end_raw(tokenizer);
+    };
+    if matches!(byte, b'\t' | b'\n' | b' ') {
+        return end_raw(tokenizer);
+    }
+    if byte == b')' {
+        if tokenizer.tokenize_state.size == 0 {
+            return end_raw(tokenizer);
+        }
+        tokenizer.tokenize_state.size = tokenizer.tokenize_state.size.saturating_sub(1);
+        return consume_to(tokenizer, next(Inline::DestinationRaw));
+    }
+    if is_control(byte) {
+        return State::Nok;
+    }
+    over_raw(tokenizer, byte)
 }
 
 /// With no angle brackets around, after a backslash.
 pub fn raw_escape<M, T, A: Allocator>(tokenizer: &mut Tokenizer<'_, M, T, A>) -> State
     ensures { Does destination_raw_escape tokenizer.old tokenizer.new result }
 {
-match tokenizer.current {
-Some(b'(' | b')' | b'\\') => consume_to(tokenizer, next(Inline::DestinationRaw)),
-_ => retry(Inline::DestinationRaw),
-}
+    match tokenizer.current {
+        Some(b'(' | b')' | b'\\') => consume_to(tokenizer, next(Inline::DestinationRaw)),
+        _ => retry(Inline::DestinationRaw),
+    }
 }

@@ -16,16 +16,16 @@ ghost use Rattle.inline_states_labels.specs.Label.{label_start, label_at_break, 
 ghost use Rattle.std.specs.Prelude.{◌≡◌, Some};
 ghost use Rattle.inline_states_labels.specs.Label.{counted, label_byte, label_close};
 
+use crate::chunk::enter_part;
 use engine_programs::around::{around, leave};
 use engine_programs::steps::{attempt_to, consume_to, exit_to};
 use inline_states_table::{next, retry};
 use markdown_engine::event::Name as EventName;
+use markdown_engine::place::Point;
 use markdown_engine::state::{Inline, State};
 use markdown_engine::tokenizer::Tokenizer;
-use std::alloc::Allocator;
-use crate::chunk::enter_part;
-use markdown_engine::place::Point;
 use markdown_options::constants::LINK_REFERENCE_SIZE_MAX;
+use std::alloc::Allocator;
 
 /// How many bytes were counted: of a tab only the first column.
 fn counted(size: usize, point: Point) -> usize
@@ -78,15 +78,23 @@ fn close<M, T, A: Allocator>(tokenizer: &mut Tokenizer<'_, M, T, A>) -> State
 pub fn start<M, T, A: Allocator>(tokenizer: &mut Tokenizer<'_, M, T, A>) -> State
     ensures { Does label_start tokenizer.old tokenizer.new result }
 {
-if tokenizer.current != Some(b'[') { return State::Nok; }
-tokenizer.tokenize_state.size = 0;
-tokenizer.tokenize_state.seen = false;
-tokenizer.tokenize_state.connect = true;
-if tokenizer.enter(tokenizer.tokenize_state.token_1).is_err() { return State::out_of_memory(); }
-let name = tokenizer.tokenize_state.token_2;
-if around(tokenizer, name).is_err() { return State::out_of_memory(); }
-if tokenizer.enter(tokenizer.tokenize_state.token_3).is_err() { return State::out_of_memory(); }
-next(Inline::LabelAtBreak)
+    if tokenizer.current != Some(b'[') {
+        return State::Nok;
+    }
+    tokenizer.tokenize_state.size = 0;
+    tokenizer.tokenize_state.seen = false;
+    tokenizer.tokenize_state.connect = true;
+    if tokenizer.enter(tokenizer.tokenize_state.token_1).is_err() {
+        return State::out_of_memory();
+    }
+    let name = tokenizer.tokenize_state.token_2;
+    if around(tokenizer, name).is_err() {
+        return State::out_of_memory();
+    }
+    if tokenizer.enter(tokenizer.tokenize_state.token_3).is_err() {
+        return State::out_of_memory();
+    }
+    next(Inline::LabelAtBreak)
 }
 
 /// Between the parts of the text.
@@ -94,28 +102,49 @@ pub fn at_break<M, T, A: Allocator>(tokenizer: &mut Tokenizer<'_, M, T, A>) -> S
     requires { IsOpen label_tokens tokenizer.old }
     ensures { Does label_at_break tokenizer.old tokenizer.new result }
 {
-let Some(byte) = tokenizer.current else { return retry(Inline::LabelNok); };
-if tokenizer.tokenize_state.size > LINK_REFERENCE_SIZE_MAX { return retry(Inline::LabelNok); }
-if byte == b'[' { return retry(Inline::LabelNok); }
-if byte == b']' { return if tokenizer.tokenize_state.seen { close(tokenizer) } else { retry(Inline::LabelNok) }; }
-if byte == b'\n' { return attempt_to(tokenizer, next(Inline::LabelEolAfter), next(Inline::LabelNok), retry(Inline::SpaceOrTabEolStart)); }
-if enter_part(tokenizer, EventName::Data).is_err() { return State::out_of_memory(); }
-over_byte(tokenizer, byte)
+    let Some(byte) = tokenizer.current else {
+        return retry(Inline::LabelNok);
+    };
+    if tokenizer.tokenize_state.size > LINK_REFERENCE_SIZE_MAX {
+        return retry(Inline::LabelNok);
+    }
+    if byte == b'[' {
+        return retry(Inline::LabelNok);
+    }
+    if byte == b']' {
+        return if tokenizer.tokenize_state.seen {
+            close(tokenizer)
+        } else {
+            retry(Inline::LabelNok)
+        };
+    }
+    if byte == b'\n' {
+        return attempt_to(
+            tokenizer,
+            next(Inline::LabelEolAfter),
+            next(Inline::LabelNok),
+            retry(Inline::SpaceOrTabEolStart),
+        );
+    }
+    if enter_part(tokenizer, EventName::Data).is_err() {
+        return State::out_of_memory();
+    }
+    over_byte(tokenizer, byte)
 }
 
 /// After a line ending.
 pub fn eol_after<M, T, A: Allocator>(tokenizer: &mut Tokenizer<'_, M, T, A>) -> State
     ensures { Does label_eol_after tokenizer.old tokenizer.new result }
 {
-retry(Inline::LabelAtBreak)
+    retry(Inline::LabelAtBreak)
 }
 
 /// Where no label is.
 pub fn nok<M, T, A: Allocator>(tokenizer: &mut Tokenizer<'_, M, T, A>) -> State
     ensures { Does label_nok tokenizer.old tokenizer.new result }
 {
-tokenizer.tokenize_state.connect = false;
-State::Nok
+    tokenizer.tokenize_state.connect = false;
+    State::Nok
 }
 
 /// In data.
@@ -123,15 +152,25 @@ pub fn inside<M, T, A: Allocator>(tokenizer: &mut Tokenizer<'_, M, T, A>) -> Sta
     requires { IsOpen (Fixed names.Data ∷ label_tokens) tokenizer.old }
     ensures { Does label_inside tokenizer.old tokenizer.new result }
 {
-if let Some(byte) = tokenizer.current { if !matches!(byte, b'\n' | b'[' | b']') && tokenizer.tokenize_state.size <= LINK_REFERENCE_SIZE_MAX { return over_byte(tokenizer, byte); } }
-exit_to(tokenizer, EventName::Data, retry(Inline::LabelAtBreak))
+    if let Some(byte) = tokenizer.current {
+        if !matches!(byte, b'\n' | b'[' | b']')
+            && tokenizer.tokenize_state.size <= LINK_REFERENCE_SIZE_MAX
+        {
+            return over_byte(tokenizer, byte);
+        }
+    }
+    exit_to(tokenizer, EventName::Data, retry(Inline::LabelAtBreak))
 }
 
 /// After a backslash.
 pub fn escape<M, T, A: Allocator>(tokenizer: &mut Tokenizer<'_, M, T, A>) -> State
     ensures { Does label_escape tokenizer.old tokenizer.new result }
 {
-if let Some(byte) = tokenizer.current { if matches!(byte, b'[' | b'\\' | b']') { tokenizer.tokenize_state.size = counted(tokenizer.tokenize_state.size, tokenizer.point);
-return consume_to(tokenizer, next(Inline::LabelInside)); } }
-retry(Inline::LabelInside)
+    if let Some(byte) = tokenizer.current {
+        if matches!(byte, b'[' | b'\\' | b']') {
+            tokenizer.tokenize_state.size = counted(tokenizer.tokenize_state.size, tokenizer.point);
+            return consume_to(tokenizer, next(Inline::LabelInside));
+        }
+    }
+    retry(Inline::LabelInside)
 }

@@ -12,23 +12,29 @@ ghost use Rattle.engine_programs.specs.Bodies.{Fixed};
 ghost use Rattle.engine_programs.specs.Stacks.{Does, IsOpen};
 ghost use Rattle.inline_states_labels.specs.SpaceOrTab.{space_or_tab_start, space_or_tab_inside, space_or_tab_after};
 
+use crate::chunk::enter_part;
 use engine_programs::steps::{consume_to, exit_to};
 use inline_states_table::{next, retry};
 use markdown_engine::event::Name as EventName;
 use markdown_engine::state::{Inline, State};
 use markdown_engine::tokenizer::Tokenizer;
 use std::alloc::Allocator;
-use crate::chunk::enter_part;
 
 /// At the first.
 pub fn start<M, T, A: Allocator>(tokenizer: &mut Tokenizer<'_, M, T, A>) -> State
     ensures { Does space_or_tab_start tokenizer.old tokenizer.new result }
 {
-let Some(byte) = tokenizer.current else { return State::Nok; };
-if tokenizer.tokenize_state.size_c > 0 && matches!(byte, b'\t' | b' ') { if enter_part(tokenizer, EventName::SpaceOrTab).is_err() { return State::out_of_memory(); }
-tokenizer.tokenize_state.size_c = tokenizer.tokenize_state.size_c.saturating_sub(1);
-return consume_to(tokenizer, next(Inline::SpaceOrTabInside)); }
-State::Nok
+    let Some(byte) = tokenizer.current else {
+        return State::Nok;
+    };
+    if tokenizer.tokenize_state.size_c > 0 && matches!(byte, b'\t' | b' ') {
+        if enter_part(tokenizer, EventName::SpaceOrTab).is_err() {
+            return State::out_of_memory();
+        }
+        tokenizer.tokenize_state.size_c = tokenizer.tokenize_state.size_c.saturating_sub(1);
+        return consume_to(tokenizer, next(Inline::SpaceOrTabInside));
+    }
+    State::Nok
 }
 
 /// At the next.
@@ -36,14 +42,22 @@ pub fn inside<M, T, A: Allocator>(tokenizer: &mut Tokenizer<'_, M, T, A>) -> Sta
     requires { IsOpen (Fixed names.SpaceOrTab ∷ []) tokenizer.old }
     ensures { Does space_or_tab_inside tokenizer.old tokenizer.new result }
 {
-if let Some(byte) = tokenizer.current { if tokenizer.tokenize_state.size_c > 0 && matches!(byte, b'\t' | b' ') { tokenizer.tokenize_state.size_c = tokenizer.tokenize_state.size_c.saturating_sub(1);
-return consume_to(tokenizer, next(Inline::SpaceOrTabInside)); } }
-exit_to(tokenizer, EventName::SpaceOrTab, retry(Inline::SpaceOrTabAfter))
+    if let Some(byte) = tokenizer.current {
+        if tokenizer.tokenize_state.size_c > 0 && matches!(byte, b'\t' | b' ') {
+            tokenizer.tokenize_state.size_c = tokenizer.tokenize_state.size_c.saturating_sub(1);
+            return consume_to(tokenizer, next(Inline::SpaceOrTabInside));
+        }
+    }
+    exit_to(
+        tokenizer,
+        EventName::SpaceOrTab,
+        retry(Inline::SpaceOrTabAfter),
+    )
 }
 
 /// After them.
 pub fn after<M, T, A: Allocator>(tokenizer: &mut Tokenizer<'_, M, T, A>) -> State
     ensures { Does space_or_tab_after tokenizer.old tokenizer.new result }
 {
-State::Ok
+    State::Ok
 }

@@ -8,13 +8,13 @@ ghost use Rattle.engine_programs.specs.Stacks.{Does};
 ghost use Rattle.inline_states_labels.specs.SpaceOrTabEol.{space_or_tab_eol_start, space_or_tab_eol_after_first, space_or_tab_eol_at_eol, space_or_tab_eol_after_eol, space_or_tab_eol_after_more};
 ghost use Rattle.inline_states_labels.specs.SpaceOrTabEol.{over_eol};
 
-use engine_programs::steps::{attempt_to};
+use crate::chunk::around_part;
+use engine_programs::steps::attempt_to;
 use inline_states_table::{next, retry};
 use markdown_engine::event::Name as EventName;
 use markdown_engine::state::{Inline, State};
 use markdown_engine::tokenizer::Tokenizer;
 use std::alloc::Allocator;
-use crate::chunk::around_part;
 
 /// Over a line ending.
 fn over_eol<M, T, A: Allocator>(tokenizer: &mut Tokenizer<'_, M, T, A>) -> State
@@ -30,43 +30,61 @@ fn over_eol<M, T, A: Allocator>(tokenizer: &mut Tokenizer<'_, M, T, A>) -> State
 pub fn start<M, T, A: Allocator>(tokenizer: &mut Tokenizer<'_, M, T, A>) -> State
     ensures { Does space_or_tab_eol_start tokenizer.old tokenizer.new result }
 {
-match tokenizer.current {
-Some(b'\t' | b' ') => { tokenizer.tokenize_state.size_c = usize::MAX;
-attempt_to(tokenizer, next(Inline::SpaceOrTabEolAfterFirst), next(Inline::SpaceOrTabEolAtEol), retry(Inline::SpaceOrTabStart)) },
-_ => retry(Inline::SpaceOrTabEolAtEol),
-}
+    match tokenizer.current {
+        Some(b'\t' | b' ') => {
+            tokenizer.tokenize_state.size_c = usize::MAX;
+            attempt_to(
+                tokenizer,
+                next(Inline::SpaceOrTabEolAfterFirst),
+                next(Inline::SpaceOrTabEolAtEol),
+                retry(Inline::SpaceOrTabStart),
+            )
+        },
+        _ => retry(Inline::SpaceOrTabEolAtEol),
+    }
 }
 
 /// After spaces and tabs.
 pub fn after_first<M, T, A: Allocator>(tokenizer: &mut Tokenizer<'_, M, T, A>) -> State
     ensures { Does space_or_tab_eol_after_first tokenizer.old tokenizer.new result }
 {
-if tokenizer.current != Some(b'\n') { return State::Ok; }
-over_eol(tokenizer)
+    if tokenizer.current != Some(b'\n') {
+        return State::Ok;
+    }
+    over_eol(tokenizer)
 }
 
 /// Where there are none.
 pub fn at_eol<M, T, A: Allocator>(tokenizer: &mut Tokenizer<'_, M, T, A>) -> State
     ensures { Does space_or_tab_eol_at_eol tokenizer.old tokenizer.new result }
 {
-if tokenizer.current != Some(b'\n') { return State::Nok; }
-over_eol(tokenizer)
+    if tokenizer.current != Some(b'\n') {
+        return State::Nok;
+    }
+    over_eol(tokenizer)
 }
 
 /// After the line ending.
 pub fn after_eol<M, T, A: Allocator>(tokenizer: &mut Tokenizer<'_, M, T, A>) -> State
     ensures { Does space_or_tab_eol_after_eol tokenizer.old tokenizer.new result }
 {
-match tokenizer.current {
-Some(b'\t' | b' ') => { tokenizer.tokenize_state.size_c = usize::MAX;
-attempt_to(tokenizer, next(Inline::SpaceOrTabEolAfterMore), next(Inline::SpaceOrTabEolAfterMore), retry(Inline::SpaceOrTabStart)) },
-_ => retry(Inline::SpaceOrTabEolAfterMore),
-}
+    match tokenizer.current {
+        Some(b'\t' | b' ') => {
+            tokenizer.tokenize_state.size_c = usize::MAX;
+            attempt_to(
+                tokenizer,
+                next(Inline::SpaceOrTabEolAfterMore),
+                next(Inline::SpaceOrTabEolAfterMore),
+                retry(Inline::SpaceOrTabStart),
+            )
+        },
+        _ => retry(Inline::SpaceOrTabEolAfterMore),
+    }
 }
 
 /// After it all.
 pub fn after_more<M, T, A: Allocator>(tokenizer: &mut Tokenizer<'_, M, T, A>) -> State
     ensures { Does space_or_tab_eol_after_more tokenizer.old tokenizer.new result }
 {
-State::Ok
+    State::Ok
 }

@@ -16,6 +16,7 @@ ghost use Rattle.inline_states_labels.specs.Title.{title_start, title_begin, tit
 ghost use Rattle.std.specs.Prelude.{◌≡◌, Some};
 ghost use Rattle.inline_states_labels.specs.Title.{is_nested, title_byte, title_fails, title_open, title_part};
 
+use crate::chunk::enter_part;
 use engine_programs::around::{around, leave};
 use engine_programs::steps::{around_to, attempt_to, consume_to, exit_to};
 use inline_states_table::{next, retry};
@@ -23,7 +24,6 @@ use markdown_engine::event::Name as EventName;
 use markdown_engine::state::{Inline, State};
 use markdown_engine::tokenizer::Tokenizer;
 use std::alloc::Allocator;
-use crate::chunk::enter_part;
 
 /// After a first marker.
 fn open<M, T, A: Allocator>(tokenizer: &mut Tokenizer<'_, M, T, A>, marker: u8) -> State
@@ -90,12 +90,12 @@ fn read_part<M, T, A: Allocator>(tokenizer: &mut Tokenizer<'_, M, T, A>, byte: u
 pub fn start<M, T, A: Allocator>(tokenizer: &mut Tokenizer<'_, M, T, A>) -> State
     ensures { Does title_start tokenizer.old tokenizer.new result }
 {
-match tokenizer.current {
-Some(b'"') => open(tokenizer, b'"'),
-Some(b'\'') => open(tokenizer, b'\''),
-Some(b'(') => open(tokenizer, b')'),
-_ => State::Nok,
-}
+    match tokenizer.current {
+        Some(b'"') => open(tokenizer, b'"'),
+        Some(b'\'') => open(tokenizer, b'\''),
+        Some(b'(') => open(tokenizer, b')'),
+        _ => State::Nok,
+    }
 }
 
 /// After the first marker, or at the last.
@@ -103,15 +103,25 @@ pub fn begin<M, T, A: Allocator>(tokenizer: &mut Tokenizer<'_, M, T, A>) -> Stat
     requires { IsOpen (Held 1 ∷ []) tokenizer.old }
     ensures { Does title_begin tokenizer.old tokenizer.new result }
 {
-let Some(byte) = tokenizer.current else { return fail(tokenizer); };
-if byte == tokenizer.tokenize_state.marker { let name = tokenizer.tokenize_state.token_2;
-if around(tokenizer, name).is_err() { return State::out_of_memory(); }
-let name = tokenizer.tokenize_state.token_1;
-if leave(tokenizer, name).is_err() { return State::out_of_memory(); }
-tokenizer.tokenize_state.connect = false;
-return State::Ok; }
-if tokenizer.enter(tokenizer.tokenize_state.token_3).is_err() { return State::out_of_memory(); }
-read_part(tokenizer, byte)
+    let Some(byte) = tokenizer.current else {
+        return fail(tokenizer);
+    };
+    if byte == tokenizer.tokenize_state.marker {
+        let name = tokenizer.tokenize_state.token_2;
+        if around(tokenizer, name).is_err() {
+            return State::out_of_memory();
+        }
+        let name = tokenizer.tokenize_state.token_1;
+        if leave(tokenizer, name).is_err() {
+            return State::out_of_memory();
+        }
+        tokenizer.tokenize_state.connect = false;
+        return State::Ok;
+    }
+    if tokenizer.enter(tokenizer.tokenize_state.token_3).is_err() {
+        return State::out_of_memory();
+    }
+    read_part(tokenizer, byte)
 }
 
 /// Between the parts of the text.
@@ -119,23 +129,31 @@ pub fn at_break<M, T, A: Allocator>(tokenizer: &mut Tokenizer<'_, M, T, A>) -> S
     requires { IsOpen title_tokens tokenizer.old }
     ensures { Does title_at_break tokenizer.old tokenizer.new result }
 {
-let Some(byte) = tokenizer.current else { return retry(Inline::TitleNok); };
-if byte == tokenizer.tokenize_state.marker { return exit_to(tokenizer, tokenizer.tokenize_state.token_3, retry(Inline::TitleBegin)); }
-read_part(tokenizer, byte)
+    let Some(byte) = tokenizer.current else {
+        return retry(Inline::TitleNok);
+    };
+    if byte == tokenizer.tokenize_state.marker {
+        return exit_to(
+            tokenizer,
+            tokenizer.tokenize_state.token_3,
+            retry(Inline::TitleBegin),
+        );
+    }
+    read_part(tokenizer, byte)
 }
 
 /// After a line ending.
 pub fn after_eol<M, T, A: Allocator>(tokenizer: &mut Tokenizer<'_, M, T, A>) -> State
     ensures { Does title_after_eol tokenizer.old tokenizer.new result }
 {
-retry(Inline::TitleAtBreak)
+    retry(Inline::TitleAtBreak)
 }
 
 /// Where no title is.
 pub fn nok<M, T, A: Allocator>(tokenizer: &mut Tokenizer<'_, M, T, A>) -> State
     ensures { Does title_nok tokenizer.old tokenizer.new result }
 {
-fail(tokenizer)
+    fail(tokenizer)
 }
 
 /// In data.
@@ -143,14 +161,25 @@ pub fn inside<M, T, A: Allocator>(tokenizer: &mut Tokenizer<'_, M, T, A>) -> Sta
     requires { IsOpen (Fixed names.Data ∷ title_tokens) tokenizer.old }
     ensures { Does title_inside tokenizer.old tokenizer.new result }
 {
-if let Some(byte) = tokenizer.current { if byte != b'\n' && byte != tokenizer.tokenize_state.marker && !is_nested(tokenizer.tokenize_state.marker, byte) { return over_byte(tokenizer, byte); } }
-exit_to(tokenizer, EventName::Data, retry(Inline::TitleAtBreak))
+    if let Some(byte) = tokenizer.current {
+        if byte != b'\n'
+            && byte != tokenizer.tokenize_state.marker
+            && !is_nested(tokenizer.tokenize_state.marker, byte)
+        {
+            return over_byte(tokenizer, byte);
+        }
+    }
+    exit_to(tokenizer, EventName::Data, retry(Inline::TitleAtBreak))
 }
 
 /// After a backslash.
 pub fn escape<M, T, A: Allocator>(tokenizer: &mut Tokenizer<'_, M, T, A>) -> State
     ensures { Does title_escape tokenizer.old tokenizer.new result }
 {
-if let Some(byte) = tokenizer.current { if byte == tokenizer.tokenize_state.marker || matches!(byte, b'(' | b'\\') { return consume_to(tokenizer, next(Inline::TitleInside)); } }
-retry(Inline::TitleInside)
+    if let Some(byte) = tokenizer.current {
+        if byte == tokenizer.tokenize_state.marker || matches!(byte, b'(' | b'\\') {
+            return consume_to(tokenizer, next(Inline::TitleInside));
+        }
+    }
+    retry(Inline::TitleInside)
 }

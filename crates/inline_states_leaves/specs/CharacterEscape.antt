@@ -13,9 +13,9 @@ module _ {M : Type 0} where
   character_escape_start on =
       Byte (Answer states.Nok)
       (On (λ b. b == 92)
-        (Test (λ c. on)
-          (Enter (Fixed names.CharacterEscape) (around (Fixed names.CharacterEscapeMarker) (Answer (next inline_states.CharacterEscapeInside))))
-        (Answer states.Nok))
+      (Test (λ c. on)
+      (Enter (Fixed names.CharacterEscape) (around (Fixed names.CharacterEscapeMarker) (Answer (next inline_states.CharacterEscapeInside))))
+      (Answer states.Nok))
       (Answer states.Nok))
 
   -- after the backslash

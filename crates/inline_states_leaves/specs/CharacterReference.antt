@@ -34,10 +34,10 @@ module _ {M : Type 0} where
   character_reference_start on =
       Byte (Answer states.Nok)
       (On (λ b. b == 38)
-        (Test (λ c. on)
-          (Enter (Fixed names.CharacterReference)
-            (around (Fixed names.CharacterReferenceMarker) (Answer (next inline_states.CharacterReferenceOpen))))
-        (Answer states.Nok))
+      (Test (λ c. on)
+      (Enter (Fixed names.CharacterReference)
+      (around (Fixed names.CharacterReferenceMarker) (Answer (next inline_states.CharacterReferenceOpen))))
+      (Answer states.Nok))
       (Answer states.Nok))
 
   -- after the `&`
@@ -46,8 +46,8 @@ module _ {M : Type 0} where
       Byte (Answer states.Nok)
       (On (λ b. b == 35) (around (Fixed names.CharacterReferenceMarkerNumeric) (Answer (next inline_states.CharacterReferenceNumeric)))
       (On is_ascii_alphanumeric
-        (Keep (λ c. record c.tokenize_state { marker = 38; size = 1 }) (λ c i. refl)
-          (Enter (Fixed names.CharacterReferenceValue) (Consume (Answer (next inline_states.CharacterReferenceValue)))))
+      (Keep (λ c. record c.tokenize_state { marker = 38; size = 1 }) (λ c i. refl)
+      (Enter (Fixed names.CharacterReferenceValue) (Consume (Answer (next inline_states.CharacterReferenceValue)))))
       (Answer states.Nok)))
 
   -- after the `#`
@@ -55,12 +55,12 @@ module _ {M : Type 0} where
   character_reference_numeric =
       Byte (Answer states.Nok)
       (On (λ b. (b == 120) || (b == 88))
-        (Keep (λ c. record c.tokenize_state { marker = 120; size = 0 }) (λ c i. refl)
-          (around (Fixed names.CharacterReferenceMarkerHexadecimal)
-            (Enter (Fixed names.CharacterReferenceValue) (Answer (next inline_states.CharacterReferenceValue)))))
+      (Keep (λ c. record c.tokenize_state { marker = 120; size = 0 }) (λ c i. refl)
+      (around (Fixed names.CharacterReferenceMarkerHexadecimal)
+      (Enter (Fixed names.CharacterReferenceValue) (Answer (next inline_states.CharacterReferenceValue)))))
       (On is_ascii_digit
-        (Keep (λ c. record c.tokenize_state { marker = 35; size = 1 }) (λ c i. refl)
-          (Enter (Fixed names.CharacterReferenceValue) (Consume (Answer (next inline_states.CharacterReferenceValue)))))
+      (Keep (λ c. record c.tokenize_state { marker = 35; size = 1 }) (λ c i. refl)
+      (Enter (Fixed names.CharacterReferenceValue) (Consume (Answer (next inline_states.CharacterReferenceValue)))))
       (Answer states.Nok)))
 
   -- in the value
@@ -68,9 +68,9 @@ module _ {M : Type 0} where
   character_reference_value texts bytes =
       Byte (Answer states.Nok)
       (Test (λ c. has (λ b. b == 59) c.current && is_known texts bytes c.tokenize_state.marker c.tokenize_state.size c.point.index)
-        (Exit (Fixed names.CharacterReferenceValue)
-          (around (Fixed names.CharacterReferenceMarkerSemi) (Exit (Fixed names.CharacterReference) (Answer states.Ok))))
+      (Exit (Fixed names.CharacterReferenceValue)
+      (around (Fixed names.CharacterReferenceMarkerSemi) (Exit (Fixed names.CharacterReference) (Answer states.Ok))))
       (Test (λ c. has (goes_on c.tokenize_state.marker c.tokenize_state.size) c.current)
-        (Keep (λ c. record c.tokenize_state { size = more c.tokenize_state.size }) (λ c i. refl)
-          (Consume (Answer (next inline_states.CharacterReferenceValue))))
+      (Keep (λ c. record c.tokenize_state { size = more c.tokenize_state.size }) (λ c i. refl)
+      (Consume (Answer (next inline_states.CharacterReferenceValue))))
       (Answer states.Nok)))

@@ -37,5 +37,5 @@ module _ {M : Type 0} where
   data_inside =
       Byte (Exit (Fixed names.Data) (Answer (retry inline_states.DataAtBreak)))
       (Test (λ c. has (λ b. (b == 10) || is_marker c.tokenize_state.seen b) c.current)
-        (Exit (Fixed names.Data) (Answer (retry inline_states.DataAtBreak)))
+      (Exit (Fixed names.Data) (Answer (retry inline_states.DataAtBreak)))
       (Consume (Answer (next inline_states.DataInside))))

@@ -12,7 +12,7 @@ module _ {M : Type 0} where
   hard_break_escape_start on =
       Byte (Answer states.Nok)
       (On (λ b. b == 92)
-        (Test (λ c. on) (Enter (Fixed names.HardBreakEscape) (Consume (Answer (next inline_states.HardBreakEscapeAfter)))) (Answer states.Nok))
+      (Test (λ c. on) (Enter (Fixed names.HardBreakEscape) (Consume (Answer (next inline_states.HardBreakEscapeAfter)))) (Answer states.Nok))
       (Answer states.Nok))
 
   -- after the backslash

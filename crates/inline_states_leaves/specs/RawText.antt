@@ -24,8 +24,8 @@ abbrev pub raw_text_open : {M : Type 0} → ℕ → EventName → EventName → 
 raw_text_open marker raw sequence content =
     Test (begins_run marker)
     (Hold 1 raw (Hold 2 sequence (Hold 3 content
-      (Keep (λ c. record c.tokenize_state { marker = marker; size = 1; size_b = 0 }) (λ c i. refl)
-        (Enter (Held 1) (Enter (Held 2) (Consume (Answer (next inline_states.RawTextSequenceOpen)))))))))
+    (Keep (λ c. record c.tokenize_state { marker = marker; size = 1; size_b = 0 }) (λ c i. refl)
+    (Enter (Held 1) (Enter (Held 2) (Consume (Answer (next inline_states.RawTextSequenceOpen)))))))))
     (Answer states.Nok)
 
 module _ {M : Type 0} where
@@ -42,8 +42,8 @@ module _ {M : Type 0} where
   raw_text_sequence_open single =
       Byte (Answer states.Nok)
       (Test at_marker
-        (Keep (λ c. record c.tokenize_state { size = more c.tokenize_state.size }) (λ c i. refl)
-          (Consume (Answer (next inline_states.RawTextSequenceOpen))))
+      (Keep (λ c. record c.tokenize_state { size = more c.tokenize_state.size }) (λ c i. refl)
+      (Consume (Answer (next inline_states.RawTextSequenceOpen))))
       (Test (λ c. (c.tokenize_state.marker == 36) && (c.tokenize_state.size == 1) && not single) (Answer states.Nok)
       (Exit (Held 2) (Answer (retry inline_states.RawTextBetween)))))
 
@@ -54,8 +54,8 @@ module _ {M : Type 0} where
       (On (λ b. b == 10) (around (Fixed names.LineEnding) (Answer (next inline_states.RawTextBetween)))
       (Byte (Answer states.Nok)
       (Test at_marker
-        (Keep (λ c. record c.tokenize_state { size_b = 1 }) (λ c i. refl)
-          (Enter (Held 2) (Consume (Answer (next inline_states.RawTextSequenceClose)))))
+      (Keep (λ c. record c.tokenize_state { size_b = 1 }) (λ c i. refl)
+      (Enter (Held 2) (Consume (Answer (next inline_states.RawTextSequenceClose)))))
       (Enter (Held 3) (Consume (Answer (next inline_states.RawTextData)))))))
 
   -- in the text
@@ -69,12 +69,12 @@ module _ {M : Type 0} where
   abbrev pub raw_text_sequence_close : Body M
   raw_text_sequence_close =
       Byte
-        (Exit (Held 2)
-          (Test (λ c. c.tokenize_state.size == c.tokenize_state.size_b) (Exit (Held 1) (Answer states.Ok))
-          (Answer (retry inline_states.RawTextBetween))))
-      (Test at_marker
-        (Keep (λ c. record c.tokenize_state { size_b = more c.tokenize_state.size_b }) (λ c i. refl)
-          (Consume (Answer (next inline_states.RawTextSequenceClose))))
       (Exit (Held 2)
-        (Test (λ c. c.tokenize_state.size == c.tokenize_state.size_b) (Exit (Held 1) (Answer states.Ok))
-        (Answer (retry inline_states.RawTextBetween)))))
+      (Test (λ c. c.tokenize_state.size == c.tokenize_state.size_b) (Exit (Held 1) (Answer states.Ok))
+      (Answer (retry inline_states.RawTextBetween))))
+      (Test at_marker
+      (Keep (λ c. record c.tokenize_state { size_b = more c.tokenize_state.size_b }) (λ c i. refl)
+      (Consume (Answer (next inline_states.RawTextSequenceClose))))
+      (Exit (Held 2)
+      (Test (λ c. c.tokenize_state.size == c.tokenize_state.size_b) (Exit (Held 1) (Answer states.Ok))
+      (Answer (retry inline_states.RawTextBetween)))))

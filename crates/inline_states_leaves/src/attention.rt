@@ -14,7 +14,7 @@ ghost use Rattle.inline_states_leaves.specs.Attention.{attention_start, attentio
 ghost use Rattle.inline_states_leaves.specs.Attention.{attention_open};
 
 use engine_programs::steps::{consume_to, enter_to, exit_to};
-use inline_states_table::{next};
+use inline_states_table::next;
 use markdown_engine::event::Name as EventName;
 use markdown_engine::resolve;
 use markdown_engine::state::{Inline, State};
@@ -26,19 +26,41 @@ fn open<M, T, A: Allocator>(tokenizer: &mut Tokenizer<'_, M, T, A>, marker: u8) 
     ensures { Does (attention_open marker) tokenizer.old tokenizer.new result }
 {
     tokenizer.tokenize_state.marker = marker;
-    enter_to(tokenizer, EventName::AttentionSequence, next(Inline::AttentionInside))
+    enter_to(
+        tokenizer,
+        EventName::AttentionSequence,
+        next(Inline::AttentionInside),
+    )
 }
 
 /// At a byte that may begin a run.
 pub fn start<M, T, A: Allocator>(tokenizer: &mut Tokenizer<'_, M, T, A>) -> State
     ensures { Does (attention_start (read_with tokenizer.old).options.constructs.attention (read_with tokenizer.old).options.constructs.gfm_strikethrough) tokenizer.old tokenizer.new result }
 {
-match tokenizer.current {
-Some(b'*') => { if tokenizer.parse_state.options.constructs.attention { open(tokenizer, b'*') } else { State::Nok } },
-Some(b'_') => { if tokenizer.parse_state.options.constructs.attention { open(tokenizer, b'_') } else { State::Nok } },
-Some(b'~') => { if tokenizer.parse_state.options.constructs.gfm_strikethrough { open(tokenizer, b'~') } else { State::Nok } },
-_ => State::Nok,
-}
+    match tokenizer.current {
+        Some(b'*') => {
+            if tokenizer.parse_state.options.constructs.attention {
+                open(tokenizer, b'*')
+            } else {
+                State::Nok
+            }
+        },
+        Some(b'_') => {
+            if tokenizer.parse_state.options.constructs.attention {
+                open(tokenizer, b'_')
+            } else {
+                State::Nok
+            }
+        },
+        Some(b'~') => {
+            if tokenizer.parse_state.options.constructs.gfm_strikethrough {
+                open(tokenizer, b'~')
+            } else {
+                State::Nok
+            }
+        },
+        _ => State::Nok,
+    }
 }
 
 /// In a run.
@@ -46,7 +68,14 @@ pub fn inside<M, T, A: Allocator>(tokenizer: &mut Tokenizer<'_, M, T, A>) -> Sta
     requires { IsOpen (Fixed names.AttentionSequence ∷ []) tokenizer.old }
     ensures { Does attention_inside tokenizer.old tokenizer.new result }
 {
-if tokenizer.current == Some(tokenizer.tokenize_state.marker) { return consume_to(tokenizer, next(Inline::AttentionInside)); }
-if tokenizer.register_resolver_before(resolve::Name::Attention).is_err() { return State::out_of_memory(); }
-exit_to(tokenizer, EventName::AttentionSequence, State::Ok)
+    if tokenizer.current == Some(tokenizer.tokenize_state.marker) {
+        return consume_to(tokenizer, next(Inline::AttentionInside));
+    }
+    if tokenizer
+        .register_resolver_before(resolve::Name::Attention)
+        .is_err()
+    {
+        return State::out_of_memory();
+    }
+    exit_to(tokenizer, EventName::AttentionSequence, State::Ok)
 }

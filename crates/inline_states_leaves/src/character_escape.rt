@@ -10,9 +10,9 @@ ghost use Rattle.engine_programs.specs.Bodies.{Fixed};
 ghost use Rattle.engine_programs.specs.Stacks.{Does, IsOpen};
 ghost use Rattle.inline_states_leaves.specs.CharacterEscape.{character_escape_start, character_escape_inside};
 
-use engine_programs::around::{around};
+use engine_programs::around::around;
 use engine_programs::steps::{around_to, exit_to};
-use inline_states_table::{next};
+use inline_states_table::next;
 use markdown_engine::event::Name as EventName;
 use markdown_engine::state::{Inline, State};
 use markdown_engine::tokenizer::Tokenizer;
@@ -22,10 +22,20 @@ use std::alloc::Allocator;
 pub fn start<M, T, A: Allocator>(tokenizer: &mut Tokenizer<'_, M, T, A>) -> State
     ensures { Does (character_escape_start (read_with tokenizer.old).options.constructs.character_escape) tokenizer.old tokenizer.new result }
 {
-if tokenizer.current != Some(b'\\') { return State::Nok; }
-if tokenizer.parse_state.options.constructs.character_escape { if tokenizer.enter(EventName::CharacterEscape).is_err() { return State::out_of_memory(); }
-return around_to(tokenizer, EventName::CharacterEscapeMarker, next(Inline::CharacterEscapeInside)); }
-State::Nok
+    if tokenizer.current != Some(b'\\') {
+        return State::Nok;
+    }
+    if tokenizer.parse_state.options.constructs.character_escape {
+        if tokenizer.enter(EventName::CharacterEscape).is_err() {
+            return State::out_of_memory();
+        }
+        return around_to(
+            tokenizer,
+            EventName::CharacterEscapeMarker,
+            next(Inline::CharacterEscapeInside),
+        );
+    }
+    State::Nok
 }
 
 /// After the backslash.
@@ -33,8 +43,14 @@ pub fn inside<M, T, A: Allocator>(tokenizer: &mut Tokenizer<'_, M, T, A>) -> Sta
     requires { IsOpen (Fixed names.CharacterEscape ∷ []) tokenizer.old }
     ensures { Does character_escape_inside tokenizer.old tokenizer.new result }
 {
-let Some(byte) = tokenizer.current else { return State::Nok; };
-if byte.is_ascii_punctuation() { if around(tokenizer, EventName::CharacterEscapeValue).is_err() { return State::out_of_memory(); }
-return exit_to(tokenizer, EventName::CharacterEscape, State::Ok); }
-State::Nok
+    let Some(byte) = tokenizer.current else {
+        return State::Nok;
+    };
+    if byte.is_ascii_punctuation() {
+        if around(tokenizer, EventName::CharacterEscapeValue).is_err() {
+            return State::out_of_memory();
+        }
+        return exit_to(tokenizer, EventName::CharacterEscape, State::Ok);
+    }
+    State::Nok
 }

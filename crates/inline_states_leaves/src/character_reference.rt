@@ -17,13 +17,16 @@ ghost use Rattle.inline_states_leaves.specs.CharacterReference.{goes_on, has_tex
 
 use engine_programs::around::{around, leave};
 use engine_programs::steps::{around_to, consume_to, enter_to, exit_to};
-use inline_states_table::{next};
+use inline_states_table::next;
 use markdown_engine::event::Name as EventName;
 use markdown_engine::state::{Inline, State};
 use markdown_engine::tokenizer::Tokenizer;
-use std::alloc::Allocator;
 use markdown_options::Tables;
-use markdown_options::constants::{CHARACTER_REFERENCE_DECIMAL_SIZE_MAX, CHARACTER_REFERENCE_HEXADECIMAL_SIZE_MAX, CHARACTER_REFERENCE_NAMED_SIZE_MAX};
+use markdown_options::constants::{
+    CHARACTER_REFERENCE_DECIMAL_SIZE_MAX, CHARACTER_REFERENCE_HEXADECIMAL_SIZE_MAX,
+    CHARACTER_REFERENCE_NAMED_SIZE_MAX,
+};
+use std::alloc::Allocator;
 
 /// Whether a byte may be the next of a reference, of which so many were read.
 fn goes_on(marker: u8, size: usize, byte: u8) -> bool
@@ -66,45 +69,88 @@ fn is_known<M, T: Tables, A: Allocator>(tokenizer: &Tokenizer<'_, M, T, A>) -> b
         return size != 0;
     }
     let parse_state = tokenizer.parse_state;
-    is_name(parse_state.tables, parse_state.bytes, size, tokenizer.point.index)
+    is_name(
+        parse_state.tables,
+        parse_state.bytes,
+        size,
+        tokenizer.point.index,
+    )
 }
 
 /// At an `&`.
 pub fn start<M, T, A: Allocator>(tokenizer: &mut Tokenizer<'_, M, T, A>) -> State
     ensures { Does (character_reference_start (read_with tokenizer.old).options.constructs.character_reference) tokenizer.old tokenizer.new result }
 {
-if tokenizer.current != Some(b'&') { return State::Nok; }
-if tokenizer.parse_state.options.constructs.character_reference { if tokenizer.enter(EventName::CharacterReference).is_err() { return State::out_of_memory(); }
-return around_to(tokenizer, EventName::CharacterReferenceMarker, next(Inline::CharacterReferenceOpen)); }
-State::Nok
+    if tokenizer.current != Some(b'&') {
+        return State::Nok;
+    }
+    if tokenizer.parse_state.options.constructs.character_reference {
+        if tokenizer.enter(EventName::CharacterReference).is_err() {
+            return State::out_of_memory();
+        }
+        return around_to(
+            tokenizer,
+            EventName::CharacterReferenceMarker,
+            next(Inline::CharacterReferenceOpen),
+        );
+    }
+    State::Nok
 }
 
 /// After the `&`.
 pub fn open<M, T, A: Allocator>(tokenizer: &mut Tokenizer<'_, M, T, A>) -> State
     ensures { Does character_reference_open tokenizer.old tokenizer.new result }
 {
-let Some(byte) = tokenizer.current else { return State::Nok; };
-if byte == b'#' { return around_to(tokenizer, EventName::CharacterReferenceMarkerNumeric, next(Inline::CharacterReferenceNumeric)); }
-if byte.is_ascii_alphanumeric() { tokenizer.tokenize_state.marker = b'&';
-tokenizer.tokenize_state.size = 1;
-return enter_to(tokenizer, EventName::CharacterReferenceValue, next(Inline::CharacterReferenceValue)); }
-State::Nok
+    let Some(byte) = tokenizer.current else {
+        return State::Nok;
+    };
+    if byte == b'#' {
+        return around_to(
+            tokenizer,
+            EventName::CharacterReferenceMarkerNumeric,
+            next(Inline::CharacterReferenceNumeric),
+        );
+    }
+    if byte.is_ascii_alphanumeric() {
+        tokenizer.tokenize_state.marker = b'&';
+        tokenizer.tokenize_state.size = 1;
+        return enter_to(
+            tokenizer,
+            EventName::CharacterReferenceValue,
+            next(Inline::CharacterReferenceValue),
+        );
+    }
+    State::Nok
 }
 
 /// After the `#`.
 pub fn numeric<M, T, A: Allocator>(tokenizer: &mut Tokenizer<'_, M, T, A>) -> State
     ensures { Does character_reference_numeric tokenizer.old tokenizer.new result }
 {
-let Some(byte) = tokenizer.current else { return State::Nok; };
-if matches!(byte, b'x' | b'X') { tokenizer.tokenize_state.marker = b'x';
-tokenizer.tokenize_state.size = 0;
-if around(tokenizer, EventName::CharacterReferenceMarkerHexadecimal).is_err() { return State::out_of_memory(); }
-if tokenizer.enter(EventName::CharacterReferenceValue).is_err() { return State::out_of_memory(); }
-return next(Inline::CharacterReferenceValue); }
-if byte.is_ascii_digit() { tokenizer.tokenize_state.marker = b'#';
-tokenizer.tokenize_state.size = 1;
-return enter_to(tokenizer, EventName::CharacterReferenceValue, next(Inline::CharacterReferenceValue)); }
-State::Nok
+    let Some(byte) = tokenizer.current else {
+        return State::Nok;
+    };
+    if matches!(byte, b'x' | b'X') {
+        tokenizer.tokenize_state.marker = b'x';
+        tokenizer.tokenize_state.size = 0;
+        if around(tokenizer, EventName::CharacterReferenceMarkerHexadecimal).is_err() {
+            return State::out_of_memory();
+        }
+        if tokenizer.enter(EventName::CharacterReferenceValue).is_err() {
+            return State::out_of_memory();
+        }
+        return next(Inline::CharacterReferenceValue);
+    }
+    if byte.is_ascii_digit() {
+        tokenizer.tokenize_state.marker = b'#';
+        tokenizer.tokenize_state.size = 1;
+        return enter_to(
+            tokenizer,
+            EventName::CharacterReferenceValue,
+            next(Inline::CharacterReferenceValue),
+        );
+    }
+    State::Nok
 }
 
 /// In the value.
@@ -112,11 +158,25 @@ pub fn value<M, T: Tables, A: Allocator>(tokenizer: &mut Tokenizer<'_, M, T, A>)
     requires { IsOpen (Fixed names.CharacterReferenceValue ∷ reference_tokens) tokenizer.old }
     ensures { Does (character_reference_value (T.reference_of (read_with tokenizer.old).tables) (read_with tokenizer.old).bytes) tokenizer.old tokenizer.new result }
 {
-let Some(byte) = tokenizer.current else { return State::Nok; };
-if byte == b';' && is_known(tokenizer) { if leave(tokenizer, EventName::CharacterReferenceValue).is_err() { return State::out_of_memory(); }
-if around(tokenizer, EventName::CharacterReferenceMarkerSemi).is_err() { return State::out_of_memory(); }
-return exit_to(tokenizer, EventName::CharacterReference, State::Ok); }
-if goes_on(tokenizer.tokenize_state.marker, tokenizer.tokenize_state.size, byte) { tokenizer.tokenize_state.size = tokenizer.tokenize_state.size.saturating_add(1);
-return consume_to(tokenizer, next(Inline::CharacterReferenceValue)); }
-State::Nok
+    let Some(byte) = tokenizer.current else {
+        return State::Nok;
+    };
+    if byte == b';' && is_known(tokenizer) {
+        if leave(tokenizer, EventName::CharacterReferenceValue).is_err() {
+            return State::out_of_memory();
+        }
+        if around(tokenizer, EventName::CharacterReferenceMarkerSemi).is_err() {
+            return State::out_of_memory();
+        }
+        return exit_to(tokenizer, EventName::CharacterReference, State::Ok);
+    }
+    if goes_on(
+        tokenizer.tokenize_state.marker,
+        tokenizer.tokenize_state.size,
+        byte,
+    ) {
+        tokenizer.tokenize_state.size = tokenizer.tokenize_state.size.saturating_add(1);
+        return consume_to(tokenizer, next(Inline::CharacterReferenceValue));
+    }
+    State::Nok
 }

@@ -11,7 +11,7 @@ ghost use Rattle.engine_programs.specs.Stacks.{Does, IsOpen};
 ghost use Rattle.inline_states_leaves.specs.HardBreakEscape.{hard_break_escape_start, hard_break_escape_after};
 
 use engine_programs::steps::{enter_to, exit_to};
-use inline_states_table::{next};
+use inline_states_table::next;
 use markdown_engine::event::Name as EventName;
 use markdown_engine::state::{Inline, State};
 use markdown_engine::tokenizer::Tokenizer;
@@ -21,8 +21,18 @@ use std::alloc::Allocator;
 pub fn start<M, T, A: Allocator>(tokenizer: &mut Tokenizer<'_, M, T, A>) -> State
     ensures { Does (hard_break_escape_start (read_with tokenizer.old).options.constructs.hard_break_escape) tokenizer.old tokenizer.new result }
 {
-if tokenizer.current != Some(b'\\') { return State::Nok; }
-if tokenizer.parse_state.options.constructs.hard_break_escape { enter_to(tokenizer, EventName::HardBreakEscape, next(Inline::HardBreakEscapeAfter)) } else { State::Nok }
+    if tokenizer.current != Some(b'\\') {
+        return State::Nok;
+    }
+    if tokenizer.parse_state.options.constructs.hard_break_escape {
+        enter_to(
+            tokenizer,
+            EventName::HardBreakEscape,
+            next(Inline::HardBreakEscapeAfter),
+        )
+    } else {
+        State::Nok
+    }
 }
 
 /// After the backslash.
@@ -30,6 +40,8 @@ pub fn after<M, T, A: Allocator>(tokenizer: &mut Tokenizer<'_, M, T, A>) -> Stat
     requires { IsOpen (Fixed names.HardBreakEscape ∷ []) tokenizer.old }
     ensures { Does hard_break_escape_after tokenizer.old tokenizer.new result }
 {
-if tokenizer.current != Some(b'\n') { return State::Nok; }
-exit_to(tokenizer, EventName::HardBreakEscape, State::Ok)
+    if tokenizer.current != Some(b'\n') {
+        return State::Nok;
+    }
+    exit_to(tokenizer, EventName::HardBreakEscape, State::Ok)
 }

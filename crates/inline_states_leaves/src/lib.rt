@@ -20,29 +20,32 @@ use markdown_options::Tables;
 use std::alloc::Allocator;
 
 /// Calls a state of this crate; any other answers that it isn't there.
-pub fn call<M, T: Tables, A: Allocator>(tokenizer: &mut Tokenizer<'_, M, T, A>, state: Inline) -> State
+pub fn call<M, T: Tables, A: Allocator>(
+    tokenizer: &mut Tokenizer<'_, M, T, A>,
+    state: Inline,
+) -> State
     requires { IsOpen (sorts (any_states.Inline state)).open_tokens tokenizer.old }
     ensures { Does (leaf_body (T.reference_of (read_with tokenizer.old).tables) (read_with tokenizer.old) state) tokenizer.old tokenizer.new result }
 {
-match state {
-Inline::AttentionStart => attention::start(tokenizer),
-Inline::AttentionInside => attention::inside(tokenizer),
-Inline::CharacterEscapeStart => character_escape::start(tokenizer),
-Inline::CharacterEscapeInside => character_escape::inside(tokenizer),
-Inline::CharacterReferenceStart => character_reference::start(tokenizer),
-Inline::CharacterReferenceOpen => character_reference::open(tokenizer),
-Inline::CharacterReferenceNumeric => character_reference::numeric(tokenizer),
-Inline::CharacterReferenceValue => character_reference::value(tokenizer),
-Inline::HardBreakEscapeStart => hard_break_escape::start(tokenizer),
-Inline::HardBreakEscapeAfter => hard_break_escape::after(tokenizer),
-Inline::DataStart => partial_data::start(tokenizer),
-Inline::DataAtBreak => partial_data::at_break(tokenizer),
-Inline::DataInside => partial_data::inside(tokenizer),
-Inline::RawTextStart => raw_text::start(tokenizer),
-Inline::RawTextSequenceOpen => raw_text::sequence_open(tokenizer),
-Inline::RawTextBetween => raw_text::between(tokenizer),
-Inline::RawTextData => raw_text::data(tokenizer),
-Inline::RawTextSequenceClose => raw_text::sequence_close(tokenizer),
-_ => State::Nok,
-}
+    match state {
+        Inline::AttentionStart => attention::start(tokenizer),
+        Inline::AttentionInside => attention::inside(tokenizer),
+        Inline::CharacterEscapeStart => character_escape::start(tokenizer),
+        Inline::CharacterEscapeInside => character_escape::inside(tokenizer),
+        Inline::CharacterReferenceStart => character_reference::start(tokenizer),
+        Inline::CharacterReferenceOpen => character_reference::open(tokenizer),
+        Inline::CharacterReferenceNumeric => character_reference::numeric(tokenizer),
+        Inline::CharacterReferenceValue => character_reference::value(tokenizer),
+        Inline::HardBreakEscapeStart => hard_break_escape::start(tokenizer),
+        Inline::HardBreakEscapeAfter => hard_break_escape::after(tokenizer),
+        Inline::DataStart => partial_data::start(tokenizer),
+        Inline::DataAtBreak => partial_data::at_break(tokenizer),
+        Inline::DataInside => partial_data::inside(tokenizer),
+        Inline::RawTextStart => raw_text::start(tokenizer),
+        Inline::RawTextSequenceOpen => raw_text::sequence_open(tokenizer),
+        Inline::RawTextBetween => raw_text::between(tokenizer),
+        Inline::RawTextData => raw_text::data(tokenizer),
+        Inline::RawTextSequenceClose => raw_text::sequence_close(tokenizer),
+        _ => State::Nok,
+    }
 }

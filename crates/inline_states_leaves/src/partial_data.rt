@@ -53,20 +53,26 @@ fn is_marker(in_text: bool, byte: u8) -> bool
 pub fn start<M, T, A: Allocator>(tokenizer: &mut Tokenizer<'_, M, T, A>) -> State
     ensures { Does data_start tokenizer.old tokenizer.new result }
 {
-match tokenizer.current {
-Some(b'\n') => around_to(tokenizer, EventName::LineEnding, next(Inline::DataAtBreak)),
-_ => enter_to(tokenizer, EventName::Data, next(Inline::DataInside)),
-}
+    match tokenizer.current {
+        Some(b'\n') => around_to(tokenizer, EventName::LineEnding, next(Inline::DataAtBreak)),
+        _ => enter_to(tokenizer, EventName::Data, next(Inline::DataInside)),
+    }
 }
 
 /// Between data and line endings.
 pub fn at_break<M, T, A: Allocator>(tokenizer: &mut Tokenizer<'_, M, T, A>) -> State
     ensures { Does data_at_break tokenizer.old tokenizer.new result }
 {
-let Some(byte) = tokenizer.current else { return State::Ok; };
-if byte == b'\n' { return around_to(tokenizer, EventName::LineEnding, next(Inline::DataAtBreak)); }
-if is_marker(tokenizer.tokenize_state.seen, byte) { return State::Ok; }
-enter_to(tokenizer, EventName::Data, next(Inline::DataInside))
+    let Some(byte) = tokenizer.current else {
+        return State::Ok;
+    };
+    if byte == b'\n' {
+        return around_to(tokenizer, EventName::LineEnding, next(Inline::DataAtBreak));
+    }
+    if is_marker(tokenizer.tokenize_state.seen, byte) {
+        return State::Ok;
+    }
+    enter_to(tokenizer, EventName::Data, next(Inline::DataInside))
 }
 
 /// In data.
@@ -74,6 +80,10 @@ pub fn inside<M, T, A: Allocator>(tokenizer: &mut Tokenizer<'_, M, T, A>) -> Sta
     requires { IsOpen (Fixed names.Data ∷ []) tokenizer.old }
     ensures { Does data_inside tokenizer.old tokenizer.new result }
 {
-if let Some(byte) = tokenizer.current { if byte != b'\n' && !is_marker(tokenizer.tokenize_state.seen, byte) { return consume_to(tokenizer, next(Inline::DataInside)); } }
-exit_to(tokenizer, EventName::Data, retry(Inline::DataAtBreak))
+    if let Some(byte) = tokenizer.current {
+        if byte != b'\n' && !is_marker(tokenizer.tokenize_state.seen, byte) {
+            return consume_to(tokenizer, next(Inline::DataInside));
+        }
+    }
+    exit_to(tokenizer, EventName::Data, retry(Inline::DataAtBreak))
 }

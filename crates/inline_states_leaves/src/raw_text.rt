@@ -15,7 +15,7 @@ ghost use Rattle.inline_states_leaves.specs.RawText.{raw_text_start, raw_text_se
 ghost use Rattle.std.specs.Prelude.{◌≡◌};
 ghost use Rattle.inline_states_leaves.specs.RawText.{begins_run, raw_text_open};
 
-use engine_programs::around::{leave};
+use engine_programs::around::leave;
 use engine_programs::steps::{around_to, consume_to, enter_to, exit_to};
 use inline_states_table::{next, retry};
 use markdown_engine::event::Name as EventName;
@@ -75,11 +75,23 @@ const MATH: (EventName, EventName, EventName) = (
 pub fn start<M, T, A: Allocator>(tokenizer: &mut Tokenizer<'_, M, T, A>) -> State
     ensures { Does (raw_text_start (read_with tokenizer.old).options.constructs.code_text (read_with tokenizer.old).options.constructs.math_text) tokenizer.old tokenizer.new result }
 {
-match tokenizer.current {
-Some(b'`') => { if tokenizer.parse_state.options.constructs.code_text { open(tokenizer, b'`', CODE) } else { State::Nok } },
-Some(b'$') => { if tokenizer.parse_state.options.constructs.math_text { open(tokenizer, b'$', MATH) } else { State::Nok } },
-_ => State::Nok,
-}
+    match tokenizer.current {
+        Some(b'`') => {
+            if tokenizer.parse_state.options.constructs.code_text {
+                open(tokenizer, b'`', CODE)
+            } else {
+                State::Nok
+            }
+        },
+        Some(b'$') => {
+            if tokenizer.parse_state.options.constructs.math_text {
+                open(tokenizer, b'$', MATH)
+            } else {
+                State::Nok
+            }
+        },
+        _ => State::Nok,
+    }
 }
 
 /// In the opening run.
@@ -87,21 +99,54 @@ pub fn sequence_open<M, T, A: Allocator>(tokenizer: &mut Tokenizer<'_, M, T, A>)
     requires { IsOpen (Held 2 ∷ raw_tokens) tokenizer.old }
     ensures { Does (raw_text_sequence_open (read_with tokenizer.old).options.math_text_single_dollar) tokenizer.old tokenizer.new result }
 {
-let Some(byte) = tokenizer.current else { return State::Nok; };
-if byte == tokenizer.tokenize_state.marker { tokenizer.tokenize_state.size = tokenizer.tokenize_state.size.saturating_add(1);
-return consume_to(tokenizer, next(Inline::RawTextSequenceOpen)); }
-if tokenizer.tokenize_state.marker == b'$' && tokenizer.tokenize_state.size == 1 && !tokenizer.parse_state.options.math_text_single_dollar { State::Nok } else { exit_to(tokenizer, tokenizer.tokenize_state.token_2, retry(Inline::RawTextBetween)) }
+    let Some(byte) = tokenizer.current else {
+        return State::Nok;
+    };
+    if byte == tokenizer.tokenize_state.marker {
+        tokenizer.tokenize_state.size = tokenizer.tokenize_state.size.saturating_add(1);
+        return consume_to(tokenizer, next(Inline::RawTextSequenceOpen));
+    }
+    if tokenizer.tokenize_state.marker == b'$'
+        && tokenizer.tokenize_state.size == 1
+        && !tokenizer.parse_state.options.math_text_single_dollar
+    {
+        State::Nok
+    } else {
+        exit_to(
+            tokenizer,
+            tokenizer.tokenize_state.token_2,
+            retry(Inline::RawTextBetween),
+        )
+    }
 }
 
 /// Between the parts of the text.
 pub fn between<M, T, A: Allocator>(tokenizer: &mut Tokenizer<'_, M, T, A>) -> State
     ensures { Does raw_text_between tokenizer.old tokenizer.new result }
 {
-let Some(byte) = tokenizer.current else { return State::Nok; };
-if byte == b'\n' { return around_to(tokenizer, EventName::LineEnding, next(Inline::RawTextBetween)); }
-if byte == tokenizer.tokenize_state.marker { tokenizer.tokenize_state.size_b = 1;
-return enter_to(tokenizer, tokenizer.tokenize_state.token_2, next(Inline::RawTextSequenceClose)); }
-enter_to(tokenizer, tokenizer.tokenize_state.token_3, next(Inline::RawTextData))
+    let Some(byte) = tokenizer.current else {
+        return State::Nok;
+    };
+    if byte == b'\n' {
+        return around_to(
+            tokenizer,
+            EventName::LineEnding,
+            next(Inline::RawTextBetween),
+        );
+    }
+    if byte == tokenizer.tokenize_state.marker {
+        tokenizer.tokenize_state.size_b = 1;
+        return enter_to(
+            tokenizer,
+            tokenizer.tokenize_state.token_2,
+            next(Inline::RawTextSequenceClose),
+        );
+    }
+    enter_to(
+        tokenizer,
+        tokenizer.tokenize_state.token_3,
+        next(Inline::RawTextData),
+    )
 }
 
 /// In the text.
@@ -109,8 +154,16 @@ pub fn data<M, T, A: Allocator>(tokenizer: &mut Tokenizer<'_, M, T, A>) -> State
     requires { IsOpen (Held 3 ∷ raw_tokens) tokenizer.old }
     ensures { Does raw_text_data tokenizer.old tokenizer.new result }
 {
-if let Some(byte) = tokenizer.current { if byte != b'\n' && byte != tokenizer.tokenize_state.marker { return consume_to(tokenizer, next(Inline::RawTextData)); } }
-exit_to(tokenizer, tokenizer.tokenize_state.token_3, retry(Inline::RawTextBetween))
+    if let Some(byte) = tokenizer.current {
+        if byte != b'\n' && byte != tokenizer.tokenize_state.marker {
+            return consume_to(tokenizer, next(Inline::RawTextData));
+        }
+    }
+    exit_to(
+        tokenizer,
+        tokenizer.tokenize_state.token_3,
+        retry(Inline::RawTextBetween),
+    )
 }
 
 /// In a run that may close the text.
@@ -118,9 +171,17 @@ pub fn sequence_close<M, T, A: Allocator>(tokenizer: &mut Tokenizer<'_, M, T, A>
     requires { IsOpen (Held 2 ∷ raw_tokens) tokenizer.old }
     ensures { Does raw_text_sequence_close tokenizer.old tokenizer.new result }
 {
-if tokenizer.current == Some(tokenizer.tokenize_state.marker) { tokenizer.tokenize_state.size_b = tokenizer.tokenize_state.size_b.saturating_add(1);
-return consume_to(tokenizer, next(Inline::RawTextSequenceClose)); }
-let name = tokenizer.tokenize_state.token_2;
-if leave(tokenizer, name).is_err() { return State::out_of_memory(); }
-if tokenizer.tokenize_state.size == tokenizer.tokenize_state.size_b { exit_to(tokenizer, tokenizer.tokenize_state.token_1, State::Ok) } else { retry(Inline::RawTextBetween) }
+    if tokenizer.current == Some(tokenizer.tokenize_state.marker) {
+        tokenizer.tokenize_state.size_b = tokenizer.tokenize_state.size_b.saturating_add(1);
+        return consume_to(tokenizer, next(Inline::RawTextSequenceClose));
+    }
+    let name = tokenizer.tokenize_state.token_2;
+    if leave(tokenizer, name).is_err() {
+        return State::out_of_memory();
+    }
+    if tokenizer.tokenize_state.size == tokenizer.tokenize_state.size_b {
+        exit_to(tokenizer, tokenizer.tokenize_state.token_1, State::Ok)
+    } else {
+        retry(Inline::RawTextBetween)
+    }
 }

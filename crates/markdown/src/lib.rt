@@ -11,7 +11,6 @@ mod fault;
 mod transfer;
 mod watched;
 
-pub use markdown_tables::{Builtin, Rows, RowsError};
 pub use command::program;
 pub use convert::{fits, to_html, to_html_with_options, to_html_with_tables};
 pub use entry::start;
@@ -20,6 +19,7 @@ pub use markdown_options::{
     Tables, configuration, constants as constant, line_ending, message, unist,
 };
 pub use markdown_settings::{Settings, SettingsError, settings};
+pub use markdown_tables::{Builtin, Rows, RowsError};
 pub use transfer::{RunError, run};
 pub use watched::Watched;
 

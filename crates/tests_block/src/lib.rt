@@ -2,14 +2,24 @@
 #![tactic(auto)]
 
 #[cfg(test)]
-mod blocks;
+mod block_quote;
+#[cfg(test)]
+mod code_fenced;
+#[cfg(test)]
+mod code_indented;
 #[cfg(test)]
 mod compare;
 #[cfg(test)]
-mod containers;
+mod definition;
 #[cfg(test)]
-mod definitions;
+mod heading_atx;
 #[cfg(test)]
-mod headings;
+mod heading_setext;
 #[cfg(test)]
-mod html_blocks;
+mod html_flow;
+#[cfg(test)]
+mod list_item;
+#[cfg(test)]
+mod paragraph;
+#[cfg(test)]
+mod thematic_break;

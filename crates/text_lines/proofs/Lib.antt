@@ -2,4 +2,3 @@ pub mod Ascii
 pub mod FirstLine
 pub mod MarkBytes
 pub mod Codes
-pub mod FirstEnding

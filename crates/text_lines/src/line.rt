@@ -8,7 +8,13 @@ ghost use Rattle.definition_text.specs.Lines.{ends_line, lines, first_line, text
 ghost use Rattle.text_lines.specs.Endings.{BeginsWithEnding};
 
 use markdown_options::LineEnding;
-use memchr::memchr2;
+use text_search::{ByteSet, next_of};
+
+/// The bytes that begin an ending: LF and CR.
+const ENDS: ByteSet = ByteSet {
+    first: [1, 0, 0, 0, 0, 0, 0, 0, 0, 0, b'\n', 0, 0, b'\r', 0, 0],
+    second: [1, 0, 0, 0, 0, 0, 0, 0, 0, 0, 0, 0, 0, 0, 0, 0],
+};
 
 /// A line: its content, and its ending, which a text's last line may lack.
 #[derive(Clone, Copy)]
@@ -111,7 +117,7 @@ fn split_content(text: &str) -> (&str, &str)
 fn content_len(bytes: &[u8]) -> usize
     ensures { result ≡ position_or_len ends_line bytes.now }
 {
-    memchr2(b'\n', b'\r', bytes).unwrap_or(bytes.len())
+    next_of(bytes, ENDS)
 }
 
 /// The ending that a text begins with, and what follows it.

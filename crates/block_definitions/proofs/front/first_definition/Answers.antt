@@ -8,7 +8,8 @@ use Rattle.block_rows.specs.ParagraphLines.{AreLines}
 use Rattle.block_rows.specs.Rows.{piece_line, piece_lines}
 use Rattle.inline_links.specs.View.{definition_of}
 use Rattle.block_definitions.specs.Ends.{EndsAt}
-use Rattle.block_definitions.proofs.Codes.{AreBytes, later_bytes}
+use Rattle.inline_links.proofs.Texts.{AreBytes}
+use Rattle.block_definitions.proofs.Codes.{later_bytes}
 use Rattle.block_definitions.proofs.Ends.{not_found, ended}
 use Rattle.block_definitions.proofs.front.first_definition.Goals as goal
 

@@ -1,5 +1,6 @@
 use Rattle.std.proofs.Common.{◌≡◌, ◌-◌, ℕ, ltb, List, None, length, drop, take, sym, ap, ◌∙◌, subst, arith}
 use Rattle.std.proofs.lemmas.List.{length-map, drop-map, take_rest}
+use Rattle.block_rows.proofs.Pieces.{lines_from}
 use Rattle.block_rows.specs.declared.row.Piece.{Piece}
 use Rattle.definition_text.specs.BlockLines.{BlockLine, own_lines}
 use Rattle.definition_text.specs.Content.{content_of, content_text}
@@ -12,9 +13,6 @@ use Rattle.block_definitions.specs.Ends.{EndsAt}
 use Rattle.block_definitions.proofs.Cuts.{cut_none, left_after, some_left}
 use Rattle.block_definitions.proofs.front.has_more.Goals as goal
 
-lines_after : (n : ℕ) (pieces : List Piece) → piece_lines (take (length pieces - n) (drop n pieces)) ≡ drop n (piece_lines pieces)
-lines_after n pieces = ap piece_lines (take_rest pieces n) ∙ sym (drop-map piece_line n pieces)
-
 pub loop-end-preserved : goal.loop-end-preserved
 loop-end-preserved c =
     let k = c.loop-end.invariant in
@@ -24,7 +22,7 @@ loop-end-preserved c =
     let first = c.loop-end.first in
     let end = c.in-Some.end in
     let bytes = take_rest content at in
-    let lines = lines_after first c.args.lines.now in
+    let lines = lines_from first c.args.lines.now in
     record {
       bytes_within = omega (arith, k.bytes_within, c.in-Some.ensures.bytes);
       lines_within = omega (arith, k.lines_within, c.in-Some.ensures.lines);
@@ -42,7 +40,7 @@ returns c = λ clean is.
     let ls = piece_lines c.args.lines.now in
     let first = c.loop-end.first in
     let l = k.left clean is in
-    let lines = lines_after first c.args.lines.now in
+    let lines = lines_from first c.args.lines.now in
     let none = c.in_default.ensures.found (subst AreLines (sym lines) l.clean) (take_rest content c.loop-end.at ∙ l.rest ∙ ap content_text (sym lines)) in
     let nothing : definition_at (content_of (own_lines (drop first ls))) ≡ None = ap (λ (x : List BlockLine). definition_at (content_of (own_lines x))) (sym lines) ∙ none in
     let count = length-map c.args.lines.now piece_line in

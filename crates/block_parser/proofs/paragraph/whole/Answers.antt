@@ -1,5 +1,5 @@
 use Rattle.std.proofs.Common.{ℕ, ◌<◌, get_or, arith}
-use Rattle.block_parser.proofs.Leaves.{only_bytes}
+use Rattle.block_rows.proofs.Pieces.{only_bytes}
 use Rattle.block_parser.proofs.paragraph.whole.Goals as goal
 
 pub returns-clause-bytes : goal.returns-clause-bytes

@@ -3,7 +3,7 @@ use Rattle.definition_text.specs.Columns.{bare}
 use Rattle.definition_block.specs.Tree.{kind_after_mark}
 use Rattle.block_starts.specs.View.{rest_of}
 use Rattle.block_starts.specs.Marks.{NoMark}
-use Rattle.block_starts.proofs.Items.{after_byte_none}
+use Rattle.block_starts.proofs.MarkLemmas.{after_byte_none}
 use Rattle.block_starts.proofs.block_quote.kind_after_mark.Goals as goal
 
 pub returns-in_default : goal.returns-in_default

@@ -1,7 +1,7 @@
 use Rattle.std.proofs.Common.{sym, subst}
 use Rattle.block_starts.specs.View.{rest_of}
 use Rattle.block_starts.specs.Marks.{NoMark}
-use Rattle.block_starts.proofs.Items.{quote_none}
+use Rattle.block_starts.proofs.MarkLemmas.{quote_none}
 use Rattle.block_starts.proofs.block_quote.quote_prefix.Goals as goal
 
 pub returns-in_default : goal.returns-in_default

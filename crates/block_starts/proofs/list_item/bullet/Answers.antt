@@ -1,6 +1,6 @@
 use Rattle.std.proofs.Common.{sym}
 use Rattle.block_starts.specs.View.{rest_of}
-use Rattle.block_starts.proofs.Items.{bullet_none}
+use Rattle.block_starts.proofs.MarkLemmas.{bullet_none}
 use Rattle.block_starts.proofs.list_item.bullet.Goals as goal
 
 pub returns-in_default : goal.returns-in_default

@@ -1,6 +1,6 @@
 use Rattle.std.proofs.Common.{sym}
 use Rattle.block_starts.specs.View.{rest_of}
-use Rattle.block_starts.proofs.Items.{delimiter_none}
+use Rattle.block_starts.proofs.MarkLemmas.{delimiter_none}
 use Rattle.block_starts.proofs.list_item.delimiter.Goals as goal
 
 pub returns-in_default : goal.returns-in_default

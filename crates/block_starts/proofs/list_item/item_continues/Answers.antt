@@ -2,7 +2,7 @@ use Rattle.std.proofs.Common.{sym, ap, ◌∙◌, Some, drop}
 use Rattle.std.proofs.lemmas.Bool.{cond-true}
 use Rattle.definition_block.specs.ListItem.{is_inside}
 use Rattle.block_starts.specs.View.{rest_of}
-use Rattle.block_starts.proofs.Items.{outdented_inside}
+use Rattle.block_starts.proofs.MarkLemmas.{outdented_inside}
 use Rattle.block_starts.proofs.list_item.item_continues.Goals as goal
 
 pub returns-then-is_inside : goal.returns-then-is_inside

@@ -1,5 +1,5 @@
 use Rattle.std.proofs.Common.{arith}
-use Rattle.block_starts.proofs.Items.{eight_digits}
+use Rattle.block_starts.proofs.MarkLemmas.{eight_digits}
 use Rattle.block_starts.proofs.list_item.number_of.Goals as goal
 
 pub overflow_mul-number : goal.overflow_mul-number

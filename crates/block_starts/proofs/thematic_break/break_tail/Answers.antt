@@ -3,7 +3,7 @@ use Rattle.std.proofs.lemmas.Bool.{and_cases, and_parts, or_cases, or_parts, eqb
 use Rattle.std.proofs.lemmas.List.{drop_more}
 use Rattle.definition_text.specs.Columns.{is_white}
 use Rattle.definition_block.specs.ThematicBreak.{is_break_marker}
-use Rattle.block_starts.proofs.Tails.{holds, break_holds}
+use Rattle.block_starts.proofs.ThematicBreakLemmas.{holds, break_holds}
 use Rattle.block_starts.proofs.thematic_break.break_tail.Goals as goal
 use Rattle.block_starts.proofs.thematic_break.break_tail.Goals.{then-not-is_space_or_tab+else-not-goes_with, else-not-is_space_or_tab}
 

@@ -1,5 +1,5 @@
 use Rattle.std.proofs.Common.{◌≡◌, ℕ, ◌-◌, length, drop, true}
-use Rattle.block_starts.proofs.Tails.{holds}
+use Rattle.block_starts.proofs.ThematicBreakLemmas.{holds}
 use Rattle.block_starts.proofs.thematic_break.break_tail.Given as goal
 
 -- what holds nothing else holds the marker, once there is one

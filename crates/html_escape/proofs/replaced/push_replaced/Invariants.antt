@@ -1,14 +1,17 @@
-use Rattle.std.proofs.Common.{◌≡◌, ◌++◌, string_bytes, ◌-◌, ◌≤◌, take, drop}
+use Rattle.std.proofs.Common.{◌-◌, ◌≤◌, length, string_bytes}
 use Rattle.std.specs.Str.{IsCharBoundary}
 use Rattle.html_escape.specs.Replaced.{replaced}
+use Rattle.html_escape.proofs.Waiting.{IsPrintedAt}
 use Rattle.html_escape.proofs.replaced.push_replaced.Given as goal
 
 -- what was printed, the bytes that wait to be printed as they are, and what the others are printed as, are what the text is printed as
-abbrev pub invariant-loop-i : goal.invariant-loop-i
-invariant-loop-i g l = record {
-  in_order : l.start ≤ l.i;
+abbrev pub invariant-loop-at : goal.invariant-loop-at
+invariant-loop-at g l = record {
+  within : l.at ≤ length l.text;
+  in_order : l.start ≤ l.at;
   boundary : IsCharBoundary l.text l.start;
-  printed :
-      (string_bytes l.out ++ take (l.i - l.start) (drop l.start l.text)) ++ replaced (g.R.Replacement.printed l.tool) (drop l.i l.text)
-      ≡ string_bytes l.initial.out ++ replaced (g.R.Replacement.printed l.tool) l.text;
+  printed : IsPrintedAt (replaced (g.R.Replacement.printed l.tool)) l.text (string_bytes l.initial.out) (string_bytes l.out) l.start l.at;
 }
+
+abbrev pub decreases-loop-at : goal.decreases-loop-at
+decreases-loop-at g l = length l.bytes - l.at

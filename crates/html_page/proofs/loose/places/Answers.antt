@@ -2,7 +2,7 @@ use Rattle.std.proofs.Common.{◌≡◌, ap, sym, ◌∙◌, map, reverse}
 use Rattle.std.specs.List.{fold}
 use Rattle.std.proofs.lemmas.Iterator.Adapters.{YieldsList-from_rev_slice}
 use Rattle.std.proofs.lemmas.Iterator.Consumers.{YieldsList-end}
-use Rattle.html_page.specs.Loose.{Passed, nothing_passed}
+use Rattle.html_page.specs.Loose.{PassView, pass_start}
 use Rattle.html_page.proofs.Backward.{pass_bare, passed_backward, no_items}
 use Rattle.html_page.proofs.loose.places.Goals as goal
 
@@ -15,4 +15,4 @@ returns g c =
     let rows = c.args.rows.now in
     let all : map (λ y. y.now) c.loop-row.yielded ≡ reverse rows =
     (YieldsList-end (YieldsList-from_rev_slice rows cc) c.loop-row.yielded _ c.loop-row.yielded_by _ _ c.in-None.is c.next.ensures.steps).0 in
-    λ ls. ap (λ (p : Passed). p.places) (c.loop-row.invariant ∙ ap (fold pass_bare nothing_passed) all ∙ passed_backward nothing_passed rows ls)
+    λ ls. ap (λ (p : PassView). p.places) (c.loop-row.invariant ∙ ap (fold pass_bare pass_start) all ∙ passed_backward pass_start rows ls)

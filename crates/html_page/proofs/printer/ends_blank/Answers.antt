@@ -3,7 +3,7 @@ use Rattle.std.specs.List.{slice_get}
 use Rattle.std.proofs.lemmas.Option.{slice_get_within, get_or_from_slice_get}
 use Rattle.block_rows.specs.declared.row.Row.{Row}
 use Rattle.block_rows.specs.Rows.{row_shown, shown}
-use Rattle.html_page.specs.Printed.{is_blank_row}
+use Rattle.html_page.specs.PrinterView.{is_blank_row}
 use Rattle.html_page.proofs.LastRow.{last_row}
 use Rattle.html_page.proofs.printer.ends_blank.Goals as goal
 

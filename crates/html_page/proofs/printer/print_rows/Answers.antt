@@ -10,7 +10,7 @@ use Rattle.definition_page.specs.TextTables.{text_tables}
 use Rattle.definition_text.specs.BlockLines.{BlockLine}
 use Rattle.block_rows.specs.Rows.{Shown, row_shown, piece_lines, piece_line, shown, lines_taken}
 use Rattle.html_page.specs.Printable.{IsPrintableRow}
-use Rattle.html_page.specs.Printed.{Printed, row_printed, printed, blank_page, ends_blank_rows, rows_html, printed_of}
+use Rattle.html_page.specs.PrinterView.{PrinterView, print_row, print_all, blank_page, ends_blank_rows, rows_html, printer_view}
 use Rattle.html_bytes.specs.Pieces.{Fresh, print}
 use Rattle.html_bytes.specs.Html.{last_piece}
 use Rattle.html_page.specs.declared.printer.Printer.{Printer}
@@ -49,10 +49,10 @@ loop-row-preserved g c =
       printed = λ ds has.
           let d = document c.args.texts.now.options.now (text_tables (g.T.Tables.reference_of c.args.texts.now.tables.now) (g.T.Tables.punctuation_of c.args.texts.now.tables.now)) ds in
           c.in_ok-row.ensures.printed ds has
-          ∙ ap (λ (e : LineEnding). row_printed d (ending_bytes e) (printed_of c.loop-row.printer) (row_shown row rest)) k.same_default
-          ∙ ap (λ (ls : List BlockLine). row_printed d default (printed_of c.loop-row.printer) (row_shown row ls)) at
-          ∙ ap (λ (p : Printed). row_printed d default p (row_shown row so_far.left)) (k.printed ds has)
-          ∙ sym (ap (λ (s : Shown). printed d default start s.rows) more ∙ printed_more d default start so_far.rows (row_shown row so_far.left));
+          ∙ ap (λ (e : LineEnding). print_row d (ending_bytes e) (printer_view c.loop-row.printer) (row_shown row rest)) k.same_default
+          ∙ ap (λ (ls : List BlockLine). print_row d default (printer_view c.loop-row.printer) (row_shown row ls)) at
+          ∙ ap (λ (p : PrinterView). print_row d default p (row_shown row so_far.left)) (k.printed ds has)
+          ∙ sym (ap (λ (s : Shown). print_all d default start s.rows) more ∙ printed_more d default start so_far.rows (row_shown row so_far.left));
       left =
           ap (λ (s : Shown). s.left) more
           ∙ ap (drop (lines_taken row)) k.left
@@ -72,8 +72,8 @@ returns g c = λ ds has bs rows_are can.
     let k = c.loop-row.invariant in
     let out = string_bytes c.loop-row.printer.page.html in
     let whole : take c.loop-row.row-index rows ≡ rows = take_all c.loop-row.row-index rows c.loop-row-test.false in
-    let laid_out : out ≡ (printed d default start every).out =
-    ap (λ (p : Printed). p.out) (k.printed ds has ∙ ap (λ (rs : List Row). printed d default start (shown rs all).rows) whole) in
+    let laid_out : out ≡ (print_all d default start every).out =
+    ap (λ (p : PrinterView). p.out) (k.printed ds has ∙ ap (λ (rs : List Row). print_all d default start (shown rs all).rows) whole) in
     let ends = λ (x : List ℕ) (blank : Bool). fold (print default) x (last_piece blank) in
     let ended : string_bytes c.if-ends_blank.printer.page.html ≡ ends out c.ends_blank.result = elim c.if-ends_blank.branch [
       | then-ends_blank+in_ok-fresh w ↦

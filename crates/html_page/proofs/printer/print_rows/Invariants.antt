@@ -5,7 +5,7 @@ use Rattle.definition_inline.specs.Definition.{Definition}
 use Rattle.definition_page.specs.TextTables.{text_tables}
 use Rattle.html_text.specs.Texts.{HasDefinitions}
 use Rattle.block_rows.specs.Rows.{all_taken, piece_lines, shown}
-use Rattle.html_page.specs.Printed.{printed, blank_page, printed_of}
+use Rattle.html_page.specs.PrinterView.{print_all, blank_page, printer_view}
 use Rattle.html_page.proofs.printer.print_rows.Given as goal
 
 -- the rows so far are printed, and the others take their lines from those that are left
@@ -13,7 +13,7 @@ abbrev pub invariant-loop-row : goal.invariant-loop-row
 invariant-loop-row g l = record {
   same_default : l.printer.page.default_ending ≡ l.fn.default_ending;
   printed : (ds : List Definition) → HasDefinitions l.texts.labels.now l.texts.links.now ds →
-      printed_of l.printer ≡ printed (document l.texts.options.now (text_tables (g.T.Tables.reference_of l.texts.tables.now) (g.T.Tables.punctuation_of l.texts.tables.now)) ds) (ending_bytes l.fn.default_ending) (blank_page (shown l.rows (piece_lines l.pieces)).rows) (shown (take l.row-index l.rows) (piece_lines l.pieces)).rows;
+      printer_view l.printer ≡ print_all (document l.texts.options.now (text_tables (g.T.Tables.reference_of l.texts.tables.now) (g.T.Tables.punctuation_of l.texts.tables.now)) ds) (ending_bytes l.fn.default_ending) (blank_page (shown l.rows (piece_lines l.pieces)).rows) (shown (take l.row-index l.rows) (piece_lines l.pieces)).rows;
   left : (shown (take l.row-index l.rows) (piece_lines l.pieces)).left ≡ piece_lines (drop l.taken l.pieces);
   enough : l.taken + all_taken (drop l.row-index l.rows) ≤ length l.pieces;
 }

@@ -1,55 +1,107 @@
-use Rattle.std.proofs.Common.{◌≡◌, ◌+◌, ◌∷◌, true, false, refl, sym, ap, ◌∙◌, drop, get_or, subst}
-use Rattle.std.proofs.lemmas.List.{drop_more}
-use Rattle.definition_text.specs.Content.{content_codes}
-use Rattle.definition_inline.specs.HardBreak.{ends_here}
-use Rattle.inline_leaves.specs.Leaves.{IsWhite}
-use Rattle.inline_parser.specs.Plain.{is_text_at}
-use Rattle.inline_parser.proofs.Texts.{IsText, more_text, byte_text, white_text, white_stop, special_stop, text_end, stops_at}
+use Rattle.std.proofs.Common.{◌≡◌, ℕ, ◌<◌, List, Fits, w8, true, get_or, length, refl, sym, ◌∙◌, arith}
+use Rattle.std.proofs.lemmas.Bool.{or_right}
+use Rattle.std.specs.List.{position_or_len}
+use Rattle.definition_text.specs.Columns.{is_white}
+use Rattle.definition_text.specs.Content.{is_eol}
+use Rattle.text_search.specs.Sets.{holds}
+use Rattle.text_search.proofs.Sets.{first_by}
+use Rattle.inline_parser.specs.declared.plain.TheConstants.{STARTS}
+use Rattle.inline_parser.specs.Plain.{starts}
+use Rattle.inline_parser.proofs.Texts.{IsText, stops_at, text_end}
+use Rattle.inline_parser.proofs.Fronts.{start_stops, white_stops, stop_ascii, stop_within, stop_starts, stop_text, dark_text}
 use Rattle.inline_parser.proofs.plain.text_size.Goals as goal
+use Rattle.inline_parser.proofs.plain.text_size.Goals.{else-stop-bytes-via-then-stop-bytes+else-not-is_ending, else-stop-bytes-via-else-stop-bytes}
 
-pub returns-then-ends_here-clause-stops : goal.returns-then-ends_here-clause-stops
-returns-then-ends_here-clause-stops c = λ lt.
-    let xs = c.args.bytes.now in
-    let at = c.loop-at.at in
-    let size = c.white_size-size.result in
-    let here = drop_more xs at 0 lt in
-    let white = subst (λ s. IsWhite s size) (c.from-rest.ensures ∙ here) c.white_size-size.ensures.codes in
-    let ends : ends_here (content_codes (drop size (get_or xs at 0 ∷ drop (at + 1) xs))) ≡ true =
-    ap (λ s. ends_here (content_codes s)) (sym (c.from.ensures ∙ ap (drop size) (c.from-rest.ensures ∙ here))) ∙ sym c.ends_here.ensures ∙ c.if-ends_here.true in
-    stops_at xs at c.loop-at.invariant
-    (ap (λ s. is_text_at (content_codes s)) here
-    ∙ white_stop (get_or xs at 0) (drop (at + 1) xs) size white (sym c.is_white.ensures ∙ c.if-is_white.true) ends)
+first_start : (bytes : List ℕ) (stop : ℕ) → ((k : ℕ) → Fits w8 (get_or bytes k 0)) → stop ≡ position_or_len (holds STARTS) bytes → stop ≡ position_or_len starts bytes
+first_start bytes stop fits is = is ∙ first_by (holds STARTS) starts bytes refl fits
 
-pub returns-then-ends_here-clause-ending : goal.returns-then-ends_here-clause-ending
-returns-then-ends_here-clause-ending c = text_end c.args.bytes.now c.loop-at.at c.loop-at.invariant
+pub returns-then-not-is_ending-clause-text : goal.returns-then-not-is_ending-clause-text
+returns-then-not-is_ending-clause-text c =
+    let bytes = c.args.bytes.now in
+    let stop = c.next_of-stop.result in
+    let first = first_start bytes stop c.type_inv.bytes c.next_of-stop.ensures in
+    let is : IsText bytes stop = stop_text bytes stop first c.if-stop-bytes.true (sym c.if-not-is_ending.ensures) in
+    is.text
 
-pub loop-at-preserved-then-is_white : goal.loop-at-preserved-then-is_white
-loop-at-preserved-then-is_white c =
-    let xs = c.args.bytes.now in
-    let at = c.loop-at.at in
-    let size = c.white_size-size.result in
-    let white = subst (λ s. IsWhite s size) c.from-rest.ensures c.white_size-size.ensures.codes in
-    let goes_on : ends_here (content_codes (drop size (drop at xs))) ≡ false =
-    ap (λ s. ends_here (content_codes s)) (sym (c.from.ensures ∙ ap (drop size) c.from-rest.ensures)) ∙ sym c.ends_here.ensures ∙ c.if-ends_here.false in
-    more_text xs at size (at + size) refl c.loop-at.invariant (white_text (drop at xs) size white goes_on)
+pub returns-then-not-is_ending-clause-plain : goal.returns-then-not-is_ending-clause-plain
+returns-then-not-is_ending-clause-plain c =
+    let bytes = c.args.bytes.now in
+    let stop = c.next_of-stop.result in
+    let first = first_start bytes stop c.type_inv.bytes c.next_of-stop.ensures in
+    let is : IsText bytes stop = stop_text bytes stop first c.if-stop-bytes.true (sym c.if-not-is_ending.ensures) in
+    is.plain
 
-pub returns-then-starts-clause-stops : goal.returns-then-starts-clause-stops
-returns-then-starts-clause-stops c = λ lt.
-    let xs = c.args.bytes.now in
-    let at = c.loop-at.at in
-    let here = drop_more xs at 0 lt in
-    stops_at xs at c.loop-at.invariant
-    (ap (λ s. is_text_at (content_codes s)) here
-    ∙ special_stop (get_or xs at 0) (drop (at + 1) xs) (sym c.is_white.ensures ∙ c.if-is_white.false) (sym c.starts.ensures ∙ c.if-starts.true))
+pub returns-then-not-is_ending-clause-stops : goal.returns-then-not-is_ending-clause-stops
+returns-then-not-is_ending-clause-stops c lt =
+    let bytes = c.args.bytes.now in
+    let stop = c.next_of-stop.result in
+    let first = first_start bytes stop c.type_inv.bytes c.next_of-stop.ensures in
+    let is : IsText bytes stop = stop_text bytes stop first c.if-stop-bytes.true (sym c.if-not-is_ending.ensures) in
+    stops_at bytes stop is (start_stops bytes stop lt (stop_starts bytes stop first lt))
 
-pub returns-then-starts-clause-ending : goal.returns-then-starts-clause-ending
-returns-then-starts-clause-ending c = text_end c.args.bytes.now c.loop-at.at c.loop-at.invariant
+pub returns-then-not-is_ending-clause-ascii : goal.returns-then-not-is_ending-clause-ascii
+returns-then-not-is_ending-clause-ascii c lt =
+    let bytes = c.args.bytes.now in
+    let stop = c.next_of-stop.result in
+    let first = first_start bytes stop c.type_inv.bytes c.next_of-stop.ensures in
+    stop_ascii (get_or bytes stop 0) (c.type_inv.bytes stop) (or_right (is_white (get_or bytes stop 0)) _ (stop_starts bytes stop first lt))
 
-pub loop-at-preserved : goal.loop-at-preserved
-loop-at-preserved c =
-    let xs = c.args.bytes.now in
-    let at = c.loop-at.at in
-    let here = drop_more xs at 0 c.loop-at-test.true in
-    more_text xs at 1 (at + 1) refl c.loop-at.invariant
-    (subst (λ s. IsText s 1) (sym here)
-    (byte_text (get_or xs at 0) (drop (at + 1) xs) (sym c.is_white.ensures ∙ c.if-is_white.false) (sym c.starts.ensures ∙ c.if-starts.false)))
+pub returns-then-not-is_ending-clause-ending : goal.returns-then-not-is_ending-clause-ending
+returns-then-not-is_ending-clause-ending c =
+    let bytes = c.args.bytes.now in
+    let stop = c.next_of-stop.result in
+    let first = first_start bytes stop c.type_inv.bytes c.next_of-stop.ensures in
+    let is : IsText bytes stop = stop_text bytes stop first c.if-stop-bytes.true (sym c.if-not-is_ending.ensures) in
+    text_end bytes stop is
+
+pub without_white-requires : goal.without_white-requires
+without_white-requires c = stop_within c.args.bytes.now c.next_of-stop.result (first_start c.args.bytes.now c.next_of-stop.result c.type_inv.bytes c.next_of-stop.ensures)
+
+pub returns-clause-within : goal.returns-clause-within
+returns-clause-within c =
+    let bytes = c.args.bytes.now in
+    let stop = c.next_of-stop.result in
+    let first = first_start bytes stop c.type_inv.bytes c.next_of-stop.ensures in
+    let size = c.without_white.result in
+    let is : IsText bytes size = dark_text bytes stop first size c.without_white.ensures.within c.without_white.ensures.dark in
+    is.within
+
+pub returns-clause-text : goal.returns-clause-text
+returns-clause-text c =
+    let bytes = c.args.bytes.now in
+    let stop = c.next_of-stop.result in
+    let first = first_start bytes stop c.type_inv.bytes c.next_of-stop.ensures in
+    let size = c.without_white.result in
+    let is : IsText bytes size = dark_text bytes stop first size c.without_white.ensures.within c.without_white.ensures.dark in
+    is.text
+
+pub returns-clause-plain : goal.returns-clause-plain
+returns-clause-plain c =
+    let bytes = c.args.bytes.now in
+    let stop = c.next_of-stop.result in
+    let first = first_start bytes stop c.type_inv.bytes c.next_of-stop.ensures in
+    let size = c.without_white.result in
+    let is : IsText bytes size = dark_text bytes stop first size c.without_white.ensures.within c.without_white.ensures.dark in
+    is.plain
+
+pub returns-clause-stops : goal.returns-clause-stops
+returns-clause-stops c lt =
+    let bytes = c.args.bytes.now in
+    let stop = c.next_of-stop.result in
+    let first = first_start bytes stop c.type_inv.bytes c.next_of-stop.ensures in
+    let size = c.without_white.result in
+    let is : IsText bytes size = dark_text bytes stop first size c.without_white.ensures.within c.without_white.ensures.dark in
+    let ending : stop < length bytes → is_eol (get_or bytes stop 0) ≡ true = λ inside. elim c.else-stop-bytes.branch [
+      | else-stop-bytes-via-then-stop-bytes+else-not-is_ending w ↦ sym w.if-not-is_ending.ensures
+      | else-stop-bytes-via-else-stop-bytes w ↦ absurd (omega (arith, w.if-stop-bytes.false, inside))
+    ] in
+    stops_at bytes size is (white_stops bytes size stop lt c.without_white.ensures.within (stop_within bytes stop first) c.without_white.ensures.white ending)
+
+pub returns-clause-ending : goal.returns-clause-ending
+returns-clause-ending c =
+    let bytes = c.args.bytes.now in
+    let stop = c.next_of-stop.result in
+    let first = first_start bytes stop c.type_inv.bytes c.next_of-stop.ensures in
+    let size = c.without_white.result in
+    let is : IsText bytes size = dark_text bytes stop first size c.without_white.ensures.within c.without_white.ensures.dark in
+    text_end bytes size is

@@ -1,6 +1,9 @@
-use Rattle.std.proofs.Common.{◌∙◌}
-use Rattle.text_lines.proofs.FirstEnding.{first_ending}
+use Rattle.std.proofs.Common.{◌∙◌, refl}
+use Rattle.definition_text.specs.Lines.{ends_line}
+use Rattle.text_lines.specs.declared.line.TheConstants.{ENDS}
+use Rattle.text_search.specs.Sets.{holds}
+use Rattle.text_search.proofs.Sets.{first_by}
 use Rattle.text_lines.proofs.line.content_len.Goals as goal
 
 pub returns : goal.returns
-returns c = c.unwrap_or.ensures ∙ first_ending c.args.bytes.now c.memchr2.result c.memchr2.ensures
+returns c = c.next_of.ensures ∙ first_by (holds ENDS) ends_line c.args.bytes.now refl c.type_inv.bytes

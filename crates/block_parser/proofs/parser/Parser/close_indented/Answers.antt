@@ -17,22 +17,22 @@ loop-i-preserved g c =
     let piece = c.index.result.now in
     let before = c.loop-i.self.rows.waiting.items in
     record {
-      waiting = leaves.blanks_more c.ending.new.self.waiting.items before c.blank.new.self.waiting.items p.pieces.items (p.taken + c.args.count) i piece
+      waiting = leaves.blanks_more c.ending.new.self.waiting.items before c.blank.new.self.waiting.items p.pieces.items (p.lines_in_rows + c.args.count) i piece
           (omega (arith, c.loop-i.auto.i)) (omega (arith, c.loop-i-test.true, c.len-i-end.ensures, p.pieces.ok.0)) k.waiting
           (c.in_ok-blank.ensures.waiting ∙ ap (λ (x : Piece). before ++ leaves.blank_row x ∷ []) (c.index.ensures ∙ ap (λ (ps : List Piece). get_or ps i piece) k.items));
       rows = c.blank.ensures.rows ∙ k.rows;
       bare = c.blank.ensures.bare ∙ k.bare;
       pieces = k.pieces;
       items = k.items;
-      taken = k.taken;
+      same_count = k.same_count;
       containers = k.containers;
       leaf = k.leaf;
     }
 
 pub returns-clause-read : goal.returns-clause-read
-returns-clause-read g c = λ around kids switches ls pending all last h.
+returns-clause-read g c = λ switches ls pending all last around kids h.
     let p = c.args.self.now in
-    let n = p.taken + c.args.count in
+    let n = p.lines_in_rows + c.args.count in
     let items = p.pieces.items in
     let k = c.loop-i.invariant in
     let blanks_are =
@@ -42,8 +42,8 @@ returns-clause-read g c = λ around kids switches ls pending all last h.
     c.args.count n c.args.ending all last (ap (λ t. t + c.args.count) p.counted)
     c.loop-i.self.rows.rows.items c.block.new.self.waiting.items c.ending.new.self.waiting.items c.loop-i.self.rows.waiting.items c.loop-i.self.rows.bare
     (k.rows ∙ c.ending.ensures.rows ∙ c.in_ok-block.ensures.rows) c.in_ok-block.ensures.waiting c.in_ok-ending.ensures.waiting blanks_are
-    (k.bare ∙ c.ending.ensures.bare ∙ c.in_ok-block.ensures.bare) (sym c.loop-i.self.counted ∙ k.taken) in
-    let pool = ap piece_lines (c.truncate.ensures.items ∙ ap (λ m. take m c.loop-i.self.pieces.items) k.taken ∙ ap (take n) k.items) in
+    (k.bare ∙ c.ending.ensures.bare ∙ c.in_ok-block.ensures.bare) (sym c.loop-i.self.counted ∙ k.same_count) in
+    let pool = ap piece_lines (c.truncate.ensures.items ∙ ap (λ m. take m c.loop-i.self.pieces.items) k.same_count ∙ ap (take n) k.items) in
     record {
       written = leaves.written_as c.loop-i.self.rows.rows.items c.loop-i.self.rows.rows.items c.loop-i.self.rows.waiting.items c.loop-i.self.rows.waiting.items c.loop-i.self.rows.bare c.loop-i.self.rows.bare
           (piece_lines (take n items)) (piece_lines c.truncate.new.self.items) around (join kids (close_leaf switches (Indented ls pending))) [] [] refl refl refl pool refl w;

@@ -5,8 +5,8 @@ use Rattle.definition_block.specs.CodeFenced.{Fence}
 use Rattle.definition_text.specs.BlockLines.{BlockLine, last_ending, last_ending_or}
 use Rattle.definition_block.specs.Tree.{Blocks, join, OpenLeaf, Text, Indented, Fenced, OpenHtml, close_leaf, leaf_text}
 use Rattle.block_rows.specs.ParagraphLines.{AreLines}
-use Rattle.block_starts.specs.Fences.{fence_view}
-use Rattle.block_starts.specs.HtmlKinds.{number_of}
+use Rattle.block_starts.specs.CodeFenced.{fence_view}
+use Rattle.block_starts.specs.HtmlFlow.{number_of}
 use Rattle.block_parser.specs.Spine.{Level, spine}
 use Rattle.block_parser.specs.Shows.{InText, InIndented, InFenced, InHtml, state_of}
 use Rattle.block_parser.specs.Leaves.{leaf_state}
@@ -15,7 +15,7 @@ use Rattle.block_parser.proofs.parser.Parser.close_leaf.Goals as goal
 
 pub returns-in-Text-clause-read : goal.returns-in-Text-clause-read
 returns-in-Text-clause-read g c =
-    on_ok_weaker c.close_text.result (λ reads. λ around kids leaf clean h. text_case reads around kids leaf clean (sym (ap leaf_state c.in-Text.is) ∙ h.same_state) h) c.close_text.ensures.read
+    on_ok_weaker c.close_text.result (λ reads. λ leaf clean around kids h. text_case (λ around kids ls clean. reads ls clean around kids) around kids leaf clean (sym (ap leaf_state c.in-Text.is) ∙ h.same_state) h) c.close_text.ensures.read
   where
     text_case : ((around : List Level) (kids : Blocks) (ls : List BlockLine) → AreLines ls → HasRead c.args.self.now (spine around kids (Text ls)) → HasRead c.close_text.new.self (spine around (join kids (close_leaf c.args.on.now (Text ls))) (Text [])))
         → (around : List Level) (kids : Blocks) (leaf : OpenLeaf) → AreLines (leaf_text leaf) → InText ≡ state_of leaf → HasRead c.args.self.now (spine around kids leaf) → HasRead c.close_text.new.self (spine around (join kids (close_leaf c.args.on.now leaf)) (Text []))
@@ -26,7 +26,7 @@ returns-in-Text-clause-read g c =
 
 pub returns-in-Indented-clause-read : goal.returns-in-Indented-clause-read
 returns-in-Indented-clause-read g c =
-    on_ok_weaker c.close_indented.result (λ reads. λ around kids leaf clean h. indented_case (λ around kids. reads around kids c.args.on.now) around kids leaf (sym (ap leaf_state c.in-Indented.is) ∙ h.same_state) h) c.close_indented.ensures.read
+    on_ok_weaker c.close_indented.result (λ reads. λ leaf clean around kids h. indented_case (λ around kids ls pending all last. reads c.args.on.now ls pending all last around kids) around kids leaf (sym (ap leaf_state c.in-Indented.is) ∙ h.same_state) h) c.close_indented.ensures.read
   where
     indented_case : ((around : List Level) (kids : Blocks) (ls pending : List BlockLine) → c.in-Indented.count ≡ length ls → c.in-Indented.ending ≡ last_ending ls → HasRead c.args.self.now (spine around kids (Indented ls pending)) → HasRead c.close_indented.new.self (spine around (join kids (close_leaf c.args.on.now (Indented ls pending))) (Text [])))
         → (around : List Level) (kids : Blocks) (leaf : OpenLeaf) → InIndented c.in-Indented.count c.in-Indented.ending ≡ state_of leaf → HasRead c.args.self.now (spine around kids leaf) → HasRead c.close_indented.new.self (spine around (join kids (close_leaf c.args.on.now leaf)) (Text []))
@@ -37,7 +37,7 @@ returns-in-Indented-clause-read g c =
 
 pub returns-in-Fenced-clause-read : goal.returns-in-Fenced-clause-read
 returns-in-Fenced-clause-read g c =
-    on_ok_weaker c.close_fenced.result (λ reads. λ around kids leaf clean h. fenced_case (λ around kids. reads around kids c.args.on.now) around kids leaf (sym (ap leaf_state c.in-Fenced.is) ∙ h.same_state) h) c.close_fenced.ensures.read
+    on_ok_weaker c.close_fenced.result (λ reads. λ leaf clean around kids h. fenced_case (λ around kids fence opening ls last. reads c.args.on.now fence opening ls last around kids) around kids leaf (sym (ap leaf_state c.in-Fenced.is) ∙ h.same_state) h) c.close_fenced.ensures.read
   where
     fenced_case : ((around : List Level) (kids : Blocks) (fence : Fence) (opening : Option LineEnding) (ls : List BlockLine) → c.in-Fenced.ending ≡ last_ending_or opening ls → HasRead c.args.self.now (spine around kids (Fenced fence opening ls)) → HasRead c.close_fenced.new.self (spine around (join kids (close_leaf c.args.on.now (Fenced fence opening ls))) (Text [])))
         → (around : List Level) (kids : Blocks) (leaf : OpenLeaf) → InFenced (fence_view c.in-Fenced.fence) c.in-Fenced.ending ≡ state_of leaf → HasRead c.args.self.now (spine around kids leaf) → HasRead c.close_fenced.new.self (spine around (join kids (close_leaf c.args.on.now leaf)) (Text []))
@@ -48,7 +48,7 @@ returns-in-Fenced-clause-read g c =
 
 pub returns-in-Html-clause-read : goal.returns-in-Html-clause-read
 returns-in-Html-clause-read g c =
-    on_ok_weaker c.close_html.result (λ reads. λ around kids leaf clean h. html_case (λ around kids. reads around kids c.args.on.now) around kids leaf (sym (ap leaf_state c.in-Html.is) ∙ h.same_state) h) c.close_html.ensures.read
+    on_ok_weaker c.close_html.result (λ reads. λ leaf clean around kids h. html_case (λ around kids kind ls last. reads c.args.on.now kind ls last around kids) around kids leaf (sym (ap leaf_state c.in-Html.is) ∙ h.same_state) h) c.close_html.ensures.read
   where
     html_case : ((around : List Level) (kids : Blocks) (kind : ℕ) (ls : List BlockLine) → c.in-Html.ending ≡ last_ending ls → HasRead c.args.self.now (spine around kids (OpenHtml kind ls)) → HasRead c.close_html.new.self (spine around (join kids (close_leaf c.args.on.now (OpenHtml kind ls))) (Text [])))
         → (around : List Level) (kids : Blocks) (leaf : OpenLeaf) → InHtml (number_of c.in-Html.kind) c.in-Html.ending ≡ state_of leaf → HasRead c.args.self.now (spine around kids leaf) → HasRead c.close_html.new.self (spine around (join kids (close_leaf c.args.on.now leaf)) (Text []))

@@ -12,7 +12,7 @@ use Rattle.block_parser.proofs.Leaves as leaves
 use Rattle.block_parser.proofs.parser.Parser.close_paragraph.Goals as goal
 
 pub returns-then-count-eq0-clause-read : goal.returns-then-count-eq0-clause-read
-returns-then-count-eq0-clause-read g c = λ around kids ls h.
+returns-then-count-eq0-clause-read g c = λ ls around kids h.
     let p = c.args.self.now in
     let pool = piece_lines p.pieces.items in
     let left = leaves.all_left p.rows.rows.items p.rows.waiting.items p.rows.bare pool around kids ls h.written (leaves.enough_lines p) in
@@ -25,40 +25,40 @@ returns-then-count-eq0-clause-read g c = λ around kids ls h.
 
 pub returns-then-has_whole_lines-clause-read : goal.returns-then-has_whole_lines-clause-read
 returns-then-has_whole_lines-clause-read g c =
-    on_ok_weaker c.close_whole.result (λ reads. λ around kids ls h.
+    on_ok_weaker c.close_whole.result (λ reads. λ ls around kids h.
     let p = c.args.self.now in
     let pool = piece_lines p.pieces.items in
     let left = leaves.all_left p.rows.rows.items p.rows.waiting.items p.rows.bare pool around kids ls h.written (leaves.enough_lines p) in
     let long = length-map p.pieces.items piece_line in
-    let count = c.len.result - p.taken in
+    let count = c.len.result - p.lines_in_rows in
     let all : count ≡ length ls = omega (arith, left, long, p.counted, p.pieces.ok.0, c.len.ensures) in
-    let lines_left : ls ≡ drop p.taken pool = leaves.lines_of p around kids (Text ls) h in
+    let lines_left : ls ≡ drop p.lines_in_rows pool = leaves.lines_of p around kids (Text ls) h in
     let last : c.last_ending-ending.result ≡ last_ending ls = c.last_ending-ending.ensures ∙ ap last_ending (sym (leaves.lines_here p around kids (Text ls) h c.deref.result.now c.deref.ensures.value)) in
-    let same_count : length p.pieces.items - p.taken ≡ count = omega (arith, p.pieces.ok.0, c.len.ensures) in
+    let same_count : length p.pieces.items - p.lines_in_rows ≡ count = omega (arith, p.pieces.ok.0, c.len.ensures) in
     let whole_is : ls ≡ whole_lines count p.paragraph.now = lines_left ∙ c.has_whole_lines.ensures c.if-has_whole_lines.true ∙ ap (λ n. whole_lines n p.paragraph.now) same_count in
-    some_case kids around ls all last (reads around kids ls whole_is h))
+    some_case kids around ls all last (reads ls whole_is around kids h))
     c.close_whole.ensures.read
   where
-    some_case : (kids : Blocks) (around : List Level) (ls : List BlockLine) → c.len.result - c.args.self.now.taken ≡ length ls → c.last_ending-ending.result ≡ last_ending ls
+    some_case : (kids : Blocks) (around : List Level) (ls : List BlockLine) → c.len.result - c.args.self.now.lines_in_rows ≡ length ls → c.last_ending-ending.result ≡ last_ending ls
         → HasRead c.close_whole.new.self (spine around (join kids (ended (Paragraph (own_lines ls)) c.last_ending-ending.result)) (Text [])) → HasRead c.close_whole.new.self (spine around (join kids (paragraph_of ls)) (Text []))
     some_case kids around [] all last h = absurd (c.if-count-eq0.false all)
     some_case kids around (l ∷ ls) all last h = subst (λ (e : Option LineEnding). HasRead c.close_whole.new.self (spine around (join kids (ended (Paragraph (own_lines (l ∷ ls))) e)) (Text []))) last h
 
 pub returns-clause-read : goal.returns-clause-read
 returns-clause-read g c =
-    on_ok_weaker c.end_leaf.result (λ reads. λ around kids ls h.
+    on_ok_weaker c.end_leaf.result (λ reads. λ ls around kids h.
     let p = c.args.self.now in
     let pool = piece_lines p.pieces.items in
     let left = leaves.all_left p.rows.rows.items p.rows.waiting.items p.rows.bare pool around kids ls h.written (leaves.enough_lines p) in
     let long = length-map p.pieces.items piece_line in
-    let count = c.len.result - p.taken in
+    let count = c.len.result - p.lines_in_rows in
     let all : count ≡ length ls = omega (arith, left, long, p.counted, p.pieces.ok.0, c.len.ensures) in
     let last : c.last_ending-ending.result ≡ last_ending ls = c.last_ending-ending.ensures ∙ ap last_ending (sym (leaves.lines_here p around kids (Text ls) h c.deref.result.now c.deref.ensures.value)) in
-    let k = reads around kids (Text ls) (Paragraph (own_lines ls)) h (ap (λ x. Single (Paragraph (own_lines x)) ∷ []) (sym (take_all count ls (omega (arith, all))))) refl in
+    let k = reads (Text ls) (Paragraph (own_lines ls)) (ap (λ x. Single (Paragraph (own_lines x)) ∷ []) (sym (take_all count ls (omega (arith, all))))) refl around kids h in
     some_case kids around ls all last k)
     c.end_leaf.ensures.read
   where
-    some_case : (kids : Blocks) (around : List Level) (ls : List BlockLine) → c.len.result - c.args.self.now.taken ≡ length ls → c.last_ending-ending.result ≡ last_ending ls
+    some_case : (kids : Blocks) (around : List Level) (ls : List BlockLine) → c.len.result - c.args.self.now.lines_in_rows ≡ length ls → c.last_ending-ending.result ≡ last_ending ls
         → HasRead c.end_leaf.new.self (spine around (join kids (ended (Paragraph (own_lines ls)) c.last_ending-ending.result)) (Text [])) → HasRead c.end_leaf.new.self (spine around (join kids (paragraph_of ls)) (Text []))
     some_case kids around [] all last h = absurd (c.if-count-eq0.false all)
     some_case kids around (l ∷ ls) all last h = subst (λ (e : Option LineEnding). HasRead c.end_leaf.new.self (spine around (join kids (ended (Paragraph (own_lines (l ∷ ls))) e)) (Text []))) last h

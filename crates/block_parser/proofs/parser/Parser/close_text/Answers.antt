@@ -9,8 +9,8 @@ use Rattle.block_parser.proofs.parser.Parser.close_text.Goals as goal
 
 pub returns-clause-read : goal.returns-clause-read
 returns-clause-read g c =
-    on_ok_weaker c.close_paragraph.result (λ reads. λ around kids ls clean h.
+    on_ok_weaker c.close_paragraph.result (λ reads. λ ls clean around kids h.
     let parts = cut c.args.on.now ls in
     subst (λ (bs : Blocks). HasRead c.close_paragraph.new.self (spine around bs (Text []))) (join-assoc kids parts.definitions (paragraph_of parts.left))
-    (reads around (join kids parts.definitions) parts.left (c.in_ok-cut_definitions.ensures.read around kids ls clean h)))
+    (reads parts.left around (join kids parts.definitions) (c.in_ok-cut_definitions.ensures.read ls clean around kids h)))
     c.close_paragraph.ensures.read

@@ -9,18 +9,19 @@ use Rattle.block_parser.proofs.parser.Parser.close_whole.Goals as goal
 
 pub returns-clause-read : goal.returns-clause-read
 returns-clause-read g c =
-    on_ok_weaker c.end_leaf.result (λ reads. λ around kids ls is h.
+    on_ok_weaker c.end_leaf.result (λ reads. λ ls is around kids h.
     let p = c.args.self.now in
     let pool = piece_lines p.pieces.items in
     let text = p.paragraph.now in
     let l = spaced_line text None in
-    let front = take p.taken p.pieces.items in
+    let front = take p.lines_in_rows p.pieces.items in
     let cut : piece_lines c.truncate.new.self.items ≡ take (all_taken p.rows.rows.items) pool =
-    ap piece_lines c.truncate.ensures.items ∙ sym (take-map piece_line p.taken p.pieces.items) ∙ ap (λ n. take n pool) p.counted in
+    ap piece_lines c.truncate.ensures.items ∙ sym (take-map piece_line p.lines_in_rows p.pieces.items) ∙ ap (λ n. take n pool) p.counted in
     let pushed = leaves.piece_pushed c.truncate.new.self.items c.whole.result c.push.new.self.items l c.in_ok-push.ensures.items c.whole.ensures.line in
     let w = leaves.whole_written p.rows.rows.items p.rows.waiting.items p.rows.bare pool around kids ls h.written l (leaves.enough_lines p) in
     let mid = leaves.written_as p.rows.rows.items p.rows.rows.items p.rows.waiting.items p.rows.waiting.items p.rows.bare p.rows.bare (take (all_taken p.rows.rows.items) pool ++ l ∷ []) (piece_lines c.push.new.self.items) around kids (l ∷ []) (l ∷ [])
     refl refl refl (pushed ∙ ap (λ x. x ++ l ∷ []) cut) refl w in
-    reads around kids (Text (l ∷ [])) (Paragraph (own_lines ls)) record { written = mid; opened = h.opened; same_state = refl }
-    (ap (λ x. Single (Paragraph (own_lines x)) ∷ []) (is ∙ ap (whole_lines c.args.count) (sym c.whole.ensures.bytes))) refl)
+    reads (Text (l ∷ [])) (Paragraph (own_lines ls))
+    (ap (λ x. Single (Paragraph (own_lines x)) ∷ []) (is ∙ ap (whole_lines c.args.count) (sym c.whole.ensures.bytes))) refl
+    around kids record { written = mid; opened = h.opened; same_state = refl })
     c.end_leaf.ensures.read

@@ -14,7 +14,7 @@ use Rattle.block_parser.proofs.Trees.{join-nil}
 use Rattle.block_parser.proofs.parser.Parser.cut_definitions.Goals as goal
 
 pub returns-then-not-may_define-clause-read : goal.returns-then-not-may_define-clause-read
-returns-then-not-may_define-clause-read g c = λ around kids ls clean h.
+returns-then-not-may_define-clause-read g c = λ ls clean around kids h.
     let p = c.args.self.now in
     subst (λ (x : Cut). HasRead p (spine around (join kids x.definitions) (Text x.left))) (sym (c.may_define.ensures.uncut c.if-not-may_define.true around kids ls clean h))
     (subst (λ (bs : Blocks). HasRead p (spine around bs (Text ls))) (sym (join-nil kids)) h)
@@ -45,13 +45,13 @@ loop-end-preserved g c =
           let here = leaves.lines_here before around (join kids k.definitions) (Text k.left) k.reads c.deref-in-loop-end.result.now c.deref-in-loop-end.ensures.value in
           let found = c.in-Some.ensures.found (subst AreLines here k.clean) (bytes ∙ k.rest ∙ ap content_text here) in
           let ends = ends_as _ content _ k.left end bytes here found in
-          let reads = c.in_ok-define.ensures.read around (join kids k.definitions) k.left (Definition ends.read.label ends.read.destination ends.read.title) k.reads (row_of_definition content k.left end k.clean ends) refl in
+          let reads = c.in_ok-define.ensures.read k.left (Definition ends.read.label ends.read.destination ends.read.title) (row_of_definition content k.left end k.clean ends) refl around (join kids k.definitions) k.reads in
           subst (λ (x : List ℕ). Cutting c.define.new.self x around kids ls) (drop-drop end.bytes at all ∙ ap (drop (at + end.bytes)) (sym same_content))
           (one_more before c.define.new.self content around kids ls k end ends reads);
     }
 
 pub returns-clause-read : goal.returns-clause-read
-returns-clause-read g c = λ around kids ls clean h.
+returns-clause-read g c = λ ls clean around kids h.
     let last = c.loop-end.self in
     let at = c.loop-end.at in
     let k = c.loop-end.invariant.cuts around kids ls clean h in

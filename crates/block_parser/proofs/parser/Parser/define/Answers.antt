@@ -9,11 +9,11 @@ use Rattle.block_parser.proofs.parser.Parser.define.Goals as goal
 
 pub returns-clause-read : goal.returns-clause-read
 returns-clause-read g c =
-    on_ok_weaker c.ending.result (λ waits. λ around kids ls b h is other.
+    on_ok_weaker c.ending.result (λ waits. λ ls b is other around kids h.
     let p = c.args.self.now in
     let pool = piece_lines p.pieces.items in
     let count = c.args.count in
-    let left : ls ≡ drop p.taken pool = leaves.lines_of p around kids (Text ls) h in
+    let left : ls ≡ drop p.lines_in_rows pool = leaves.lines_of p around kids (Text ls) h in
     let last : c.last_ending-ending.result ≡ last_ending (take count ls) = c.last_ending-ending.ensures ∙ ap last_ending (sym (leaves.lines_first p around kids (Text ls) h c.deref.result.now c.deref.ensures.value count _ (omega arith))) in
     record {
       written = leaves.written_ended p.rows.rows.items p.rows.waiting.items p.rows.bare pool around kids ls h.written (row.Definition count) b (last_ending (take count ls)) p.rows.none is other

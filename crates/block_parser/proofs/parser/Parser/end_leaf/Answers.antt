@@ -8,7 +8,7 @@ use Rattle.block_parser.proofs.parser.Parser.end_leaf.Goals as goal
 
 pub returns-clause-read : goal.returns-clause-read
 returns-clause-read g c =
-    on_ok_weaker c.ending.result (λ waits. λ around kids leaf b h is other.
+    on_ok_weaker c.ending.result (λ waits. λ leaf b is other around kids h.
     let p = c.args.self.now in
     let pool = piece_lines p.pieces.items in
     let left = leaves.all_left p.rows.rows.items p.rows.waiting.items p.rows.bare pool around kids (leaf_lines leaf) h.written (leaves.enough_lines p) in

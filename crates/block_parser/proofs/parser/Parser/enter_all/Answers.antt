@@ -3,7 +3,7 @@ use Rattle.definition_text.specs.declared.beside.Kind.{Kind}
 use Rattle.definition_block.specs.Started.{started}
 use Rattle.definition_block.specs.Tree.{Nil, nothing}
 use Rattle.block_starts.specs.View.{rest_of, started_if}
-use Rattle.block_parser.specs.Spine.{level, grown}
+use Rattle.block_parser.specs.Spine.{level, spine_after}
 use Rattle.block_parser.specs.View.{new_inside}
 use Rattle.block_parser.proofs.Starting as starting
 use Rattle.block_parser.proofs.parser.Parser.enter_all.Goals as goal
@@ -23,7 +23,7 @@ loop-container-preserved g c = λ around kids h.
       inner_kids = Nil;
       reads = c.in_ok-enter.ensures k.inner k.inner_kids k.reads;
       grows = k.grows ∙ starting.inside_more on c.loop-container.here k.inner k.inner_kids rest s (sym c.starts.ensures ∙ ap started_if c.in-Some.is)
-          ∙ ap (λ (x : Kind). grown (level c.in-Some.container k.inner_kids ∷ k.inner) Nil (new_inside on record { before = x; ending = c.loop-container.here.ending } s.rest)) (sym c.kind_after-here.ensures);
+          ∙ ap (λ (x : Kind). spine_after (level c.in-Some.container k.inner_kids ∷ k.inner) Nil (new_inside on record { before = x; ending = c.loop-container.here.ending } s.rest)) (sym c.kind_after-here.ensures);
     }
 
 pub returns : goal.returns
@@ -35,5 +35,5 @@ returns g c = λ around kids h.
       inner = k.inner;
       inner_kids = k.inner_kids;
       reads = k.reads;
-      grows = k.grows ∙ ap (grown k.inner k.inner_kids) (starting.new_none on c.loop-container.here (length rest) true nothing rest (sym c.starts.ensures ∙ ap started_if c.in_default.is));
+      grows = k.grows ∙ ap (spine_after k.inner k.inner_kids) (starting.new_none on c.loop-container.here (length rest) true nothing rest (sym c.starts.ensures ∙ ap started_if c.in_default.is));
     }

@@ -2,7 +2,7 @@ use Rattle.std.proofs.Common.{◌∷◌, [], List, ap, length, arith}
 use Rattle.std.proofs.lemmas.List.{length-append}
 use Rattle.definition_block.specs.Tree.{Blocks, OpenLeaf}
 use Rattle.block_rows.specs.Rows.{piece_lines}
-use Rattle.block_parser.specs.Spine.{Level, spine, exited_at}
+use Rattle.block_parser.specs.Spine.{Level, spine, without_innermost_at}
 use Rattle.block_parser.specs.Shows.{leaf_lines, Shows}
 use Rattle.block_parser.specs.Leaves.{leaf_state}
 use Rattle.block_parser.specs.View.{HasRead}
@@ -14,7 +14,7 @@ pub returns-in_ok-exit-in-Some-clause-read : goal.returns-in_ok-exit-in-Some-cla
 returns-in_ok-exit-in-Some-clause-read g c = λ s leaf h. some_case s.around s.kids s.leaf h
   where
     some_case : (around : List Level) (kids : Blocks) (leaf : OpenLeaf) → HasRead c.args.self.now (spine around kids leaf)
-        → Shows c.exit.new.self.rows.items c.exit.new.self.waiting.items c.exit.new.self.bare c.pop.new.self.items (piece_lines c.args.self.now.pieces.items) (leaf_state c.args.self.now.leaf) (exited_at around kids leaf)
+        → Shows c.exit.new.self.rows.items c.exit.new.self.waiting.items c.exit.new.self.bare c.pop.new.self.items (piece_lines c.args.self.now.pieces.items) (leaf_state c.args.self.now.leaf) (without_innermost_at around kids leaf)
     some_case [] kids leaf h = absurd (omega (arith, ap length h.opened, ap length c.in-Some.ensures.items, length-append c.pop.new.self.items (c.in-Some.container ∷ [])))
     some_case (l ∷ ls) kids leaf h =
         let p = c.args.self.now in

@@ -6,8 +6,8 @@ use Rattle.definition_block.specs.CodeFenced.{fence_line}
 use Rattle.definition_block.specs.Tree.{Blocks, FencedCode, Tree, Fenced, rest_line}
 use Rattle.block_rows.specs.Rows.{piece_lines, piece_line, Single}
 use Rattle.block_starts.specs.View.{rest_of}
-use Rattle.block_starts.specs.Fences.{fence_view}
-use Rattle.block_parser.specs.Spine.{spine, grown}
+use Rattle.block_starts.specs.CodeFenced.{fence_view}
+use Rattle.block_parser.specs.Spine.{spine, spine_after}
 use Rattle.block_parser.specs.Shows.{InFenced, leaf_lines, Shows}
 use Rattle.block_parser.specs.Leaves.{leaf_state}
 use Rattle.block_parser.specs.View.{HasRead}
@@ -17,7 +17,7 @@ use Rattle.block_parser.proofs.Steps as steps
 use Rattle.block_parser.proofs.parser.Parser.fenced_line.Goals as goal
 
 pub returns-then-not-is_fence_end : goal.returns-then-not-is_fence_end
-returns-then-not-is_fence_end g c = λ around kids opening ls h.
+returns-then-not-is_fence_end g c = λ opening ls around kids h.
     let p = c.args.self.now in
     let pool = piece_lines p.pieces.items in
     let on = c.args.on.now in
@@ -27,14 +27,14 @@ returns-then-not-is_fence_end g c = λ around kids opening ls h.
     let l = rest_line (fence_line f r) e in
     let leaf = Fenced f opening (ls ++ l ∷ []) in
     let piece_is = c.piece.ensures ∙ ap (λ (x : Rest). rest_line x e) c.fence_line.ensures in
-    subst (λ (t : Tree). Shows p.rows.rows.items p.rows.waiting.items p.rows.bare p.open.items (piece_lines c.push.new.self.items) (InFenced f e.ending) (grown around kids t)) (sym (steps.fenced_goes_on on e r f opening ls (sym c.is_fence_end.ensures ∙ c.if-not-is_fence_end.true)))
+    subst (λ (t : Tree). Shows p.rows.rows.items p.rows.waiting.items p.rows.bare p.open.items (piece_lines c.push.new.self.items) (InFenced f e.ending) (spine_after around kids t)) (sym (steps.fenced_goes_on on e r f opening ls (sym c.is_fence_end.ensures ∙ c.if-not-is_fence_end.true)))
     (subst (λ (bs : Blocks). Shows p.rows.rows.items p.rows.waiting.items p.rows.bare p.open.items (piece_lines c.push.new.self.items) (InFenced f e.ending) (spine around bs leaf)) (sym (join-nil kids))
     (leaves.shows_line p.rows.rows.items p.rows.waiting.items p.rows.bare p.open.items pool (piece_lines c.push.new.self.items) (leaf_state p.leaf) (InFenced f e.ending) around kids (Fenced f opening ls) leaf l
     (leaves.enough_lines p) (leaves.piece_pushed p.pieces.items c.piece.result c.push.new.self.items l c.in_ok-push.ensures.items piece_is) refl (ap (InFenced f) (sym (leaves.last_ending_or-more opening ls l))) h))
 
 pub returns : goal.returns
 returns g c =
-    on_ok_weaker c.end_leaf.result (λ reads. λ around kids opening ls h.
+    on_ok_weaker c.end_leaf.result (λ reads. λ opening ls around kids h.
     let p = c.args.self.now in
     let pool = piece_lines p.pieces.items in
     let on = c.args.on.now in
@@ -43,8 +43,8 @@ returns g c =
     let e = c.args.beside in
     let left = leaves.all_left p.rows.rows.items p.rows.waiting.items p.rows.bare pool around kids (leaf_lines (Fenced f opening ls)) h.written (leaves.enough_lines p) in
     let long = length-map p.pieces.items piece_line in
-    let count = c.len.result - p.taken - 1 in
+    let count = c.len.result - p.lines_in_rows - 1 in
     let all : count ≡ length ls = omega (arith, left, long, p.counted, p.pieces.ok.0, c.len.ensures) in
-    subst (λ (t : Tree). HasRead c.end_leaf.new.self (grown around kids t)) (sym (steps.fenced_end on e r f opening ls (sym c.is_fence_end.ensures ∙ c.if-not-is_fence_end.false)))
-    (reads around kids (Fenced f opening ls) (FencedCode f.info true ls) h (ap (λ x. Single (FencedCode f.info true x) ∷ []) (sym (take_all count ls (omega (arith, all))))) refl))
+    subst (λ (t : Tree). HasRead c.end_leaf.new.self (spine_after around kids t)) (sym (steps.fenced_end on e r f opening ls (sym c.is_fence_end.ensures ∙ c.if-not-is_fence_end.false)))
+    (reads (Fenced f opening ls) (FencedCode f.info true ls) (ap (λ x. Single (FencedCode f.info true x) ∷ []) (sym (take_all count ls (omega (arith, all))))) refl around kids h))
     c.end_leaf.ensures.read

@@ -11,10 +11,10 @@ returns-then-lines-ge-WHOLE_LINES_MIN g c = λ is.
     let items = p.pieces.items in
     let viewed = c.deref.result.now in
     let text = p.paragraph.now in
-    let rest = take_rest viewed p.taken in
-    drop-map piece_line p.taken items
-    ∙ ap (λ (ps : List Piece). piece_lines (drop p.taken ps)) (sym c.deref.ensures.value)
+    let rest = take_rest viewed p.lines_in_rows in
+    drop-map piece_line p.lines_in_rows items
+    ∙ ap (λ (ps : List Piece). piece_lines (drop p.lines_in_rows ps)) (sym c.deref.ensures.value)
     ∙ ap piece_lines (sym rest) ∙ c.are_whole.ensures is
     ∙ ap (λ (ps : List Piece). whole_lines (length ps) text) rest
-    ∙ ap (λ n. whole_lines n text) (length-drop p.taken viewed)
-    ∙ ap (λ (ps : List Piece). whole_lines (length ps - p.taken) text) c.deref.ensures.value
+    ∙ ap (λ n. whole_lines n text) (length-drop p.lines_in_rows viewed)
+    ∙ ap (λ (ps : List Piece). whole_lines (length ps - p.lines_in_rows) text) c.deref.ensures.value

@@ -2,8 +2,8 @@ use Rattle.std.proofs.Common.{◌≡◌, true, ◌==◌, sym, ap, ◌∙◌, sub
 use Rattle.std.proofs.lemmas.Result.{on_ok_weaker}
 use Rattle.definition_block.specs.Tree.{Tree, OpenHtml, Leaf, new}
 use Rattle.block_starts.specs.View.{rest_of}
-use Rattle.block_starts.specs.HtmlKinds.{number_of}
-use Rattle.block_parser.specs.Spine.{grown}
+use Rattle.block_starts.specs.HtmlFlow.{number_of}
+use Rattle.block_parser.specs.Spine.{spine_after}
 use Rattle.block_parser.specs.View.{HasRead}
 use Rattle.block_parser.proofs.Steps as steps
 use Rattle.block_parser.proofs.Closing as closing
@@ -12,7 +12,7 @@ use Rattle.block_parser.proofs.parser.Parser.html_line.Goals as goal
 
 pub returns-then-html_stops : goal.returns-then-html_stops
 returns-then-html_stops g c =
-    on_ok_weaker c.start_line.result (λ grows. λ around kids ls h.
+    on_ok_weaker c.start_line.result (λ grows. λ ls around kids h.
     let p = c.args.self.now in
     let on = c.args.on.now in
     let r = rest_of c.args.rest in
@@ -21,18 +21,18 @@ returns-then-html_stops g c =
     let leaf = Leaf (OpenHtml kind ls) in
     let last : (c.len-depth.result == vec_len p.open) ≡ true = eq-eqb c.len-depth.result (vec_len p.open) c.len-depth.ensures in
     let deep : c.len-depth.result ≡ length around = omega (arith, c.len-depth.ensures, p.open.ok.0, ap length h.opened, closing.length-containers around) in
-    subst (λ (t : Tree). HasRead c.start_line.new.self (grown around kids t))
+    subst (λ (t : Tree). HasRead c.start_line.new.self (spine_after around kids t))
     (ap (λ all. new (length r) on all leaf e r) last ∙ sym (steps.html_stops on e r kind ls (sym c.html_stops.ensures ∙ c.if-html_stops.true)))
     (grows around kids leaf deep tt h))
     c.start_line.ensures
 
 pub returns : goal.returns
 returns g c =
-    on_ok_weaker c.html_with.result (λ reads. λ around kids ls h.
+    on_ok_weaker c.html_with.result (λ reads. λ ls around kids h.
     let on = c.args.on.now in
     let r = rest_of c.args.rest in
     let e = c.args.beside in
     let kind = number_of c.args.kind in
-    subst (λ (t : Tree). HasRead c.html_with.new.self (grown around kids t)) (sym (steps.html_goes_on on e r kind ls (sym c.html_stops.ensures ∙ c.if-html_stops.false)))
-    (reads around kids (OpenHtml kind ls) ls refl h))
+    subst (λ (t : Tree). HasRead c.html_with.new.self (spine_after around kids t)) (sym (steps.html_goes_on on e r kind ls (sym c.html_stops.ensures ∙ c.if-html_stops.false)))
+    (reads (OpenHtml kind ls) ls refl around kids h))
     c.html_with.ensures

@@ -6,7 +6,7 @@ use Rattle.definition_text.specs.Indents.{outdented}
 use Rattle.definition_block.specs.Tree.{Blocks, Tree, Indented, Leaf, rest_line, new}
 use Rattle.block_rows.specs.Rows.{piece_lines, piece_line}
 use Rattle.block_starts.specs.View.{rest_of}
-use Rattle.block_parser.specs.Spine.{spine, grown}
+use Rattle.block_parser.specs.Spine.{spine, spine_after}
 use Rattle.block_parser.specs.Shows.{InIndented, Shows}
 use Rattle.block_parser.specs.Leaves.{leaf_state}
 use Rattle.block_parser.specs.View.{HasRead}
@@ -19,7 +19,7 @@ use Rattle.std.proofs.lemmas.Bool.{eq-eqb}
 use Rattle.block_parser.proofs.parser.Parser.indented_line.Goals as goal
 
 pub returns-then-is_blank : goal.returns-then-is_blank
-returns-then-is_blank g c = λ around kids ls pending h.
+returns-then-is_blank g c = λ ls pending around kids h.
     let p = c.args.self.now in
     let pool = piece_lines p.pieces.items in
     let on = c.args.on.now in
@@ -28,13 +28,13 @@ returns-then-is_blank g c = λ around kids ls pending h.
     let l = rest_line (outdented 4 r) e in
     let leaf = Indented ls (pending ++ l ∷ []) in
     let piece_is = c.piece.ensures ∙ ap (λ (x : Rest). rest_line x e) c.outdented.ensures in
-    subst (λ (t : Tree). Shows p.rows.rows.items p.rows.waiting.items p.rows.bare p.open.items (piece_lines c.push.new.self.items) (leaf_state p.leaf) (grown around kids t)) (sym (steps.indented_blank on e r ls pending (sym c.is_blank.ensures ∙ c.if-is_blank.true)))
+    subst (λ (t : Tree). Shows p.rows.rows.items p.rows.waiting.items p.rows.bare p.open.items (piece_lines c.push.new.self.items) (leaf_state p.leaf) (spine_after around kids t)) (sym (steps.indented_blank on e r ls pending (sym c.is_blank.ensures ∙ c.if-is_blank.true)))
     (subst (λ (bs : Blocks). Shows p.rows.rows.items p.rows.waiting.items p.rows.bare p.open.items (piece_lines c.push.new.self.items) (leaf_state p.leaf) (spine around bs leaf)) (sym (join-nil kids))
     (leaves.shows_line p.rows.rows.items p.rows.waiting.items p.rows.bare p.open.items pool (piece_lines c.push.new.self.items) (leaf_state p.leaf) (leaf_state p.leaf) around kids (Indented ls pending) leaf l
     (leaves.enough_lines p) (leaves.piece_pushed p.pieces.items c.piece.result c.push.new.self.items l c.in_ok-push.ensures.items piece_is) (sym (append_assoc ls pending (l ∷ []))) h.same_state h))
 
 pub returns-then-starts_code_indented : goal.returns-then-starts_code_indented
-returns-then-starts_code_indented g c = λ around kids ls pending h.
+returns-then-starts_code_indented g c = λ ls pending around kids h.
     let p = c.args.self.now in
     let pool = piece_lines p.pieces.items in
     let on = c.args.on.now in
@@ -44,12 +44,12 @@ returns-then-starts_code_indented g c = λ around kids ls pending h.
     let all = ls ++ pending ++ l ∷ [] in
     let leaf = Indented all [] in
     let new_pool = piece_lines c.push-then-starts_code_indented.new.self.items in
-    let count = c.len.result - p.taken in
+    let count = c.len.result - p.lines_in_rows in
     let piece_is = c.piece-then-starts_code_indented.ensures ∙ ap (λ (x : Rest). rest_line x e) c.outdented-then-starts_code_indented.ensures in
     let left = leaves.all_left p.rows.rows.items p.rows.waiting.items p.rows.bare pool around kids (ls ++ pending) h.written (leaves.enough_lines p) in
     let many : count ≡ length all =
     omega (arith, left, length-append (ls ++ pending) (l ∷ []), length-map p.pieces.items piece_line, p.counted, p.pieces.ok.0, c.len.ensures, c.in_ok-push-2.ensures.len) in
-    subst (λ (t : Tree). Shows p.rows.rows.items p.rows.waiting.items p.rows.bare p.open.items new_pool (InIndented count e.ending) (grown around kids t)) (sym (steps.indented_code on e r ls pending (sym c.is_blank.ensures ∙ c.if-is_blank.false) (sym c.starts_code_indented.ensures ∙ c.if-starts_code_indented.true)))
+    subst (λ (t : Tree). Shows p.rows.rows.items p.rows.waiting.items p.rows.bare p.open.items new_pool (InIndented count e.ending) (spine_after around kids t)) (sym (steps.indented_code on e r ls pending (sym c.is_blank.ensures ∙ c.if-is_blank.false) (sym c.starts_code_indented.ensures ∙ c.if-starts_code_indented.true)))
     (subst (λ (bs : Blocks). Shows p.rows.rows.items p.rows.waiting.items p.rows.bare p.open.items new_pool (InIndented count e.ending) (spine around bs leaf)) (sym (join-nil kids))
     (leaves.shows_line p.rows.rows.items p.rows.waiting.items p.rows.bare p.open.items pool new_pool (leaf_state p.leaf) (InIndented count e.ending) around kids (Indented ls pending) leaf l
     (leaves.enough_lines p) (leaves.piece_pushed p.pieces.items c.piece-then-starts_code_indented.result c.push-then-starts_code_indented.new.self.items l c.in_ok-push-2.ensures.items piece_is) (append-nil all)
@@ -57,7 +57,7 @@ returns-then-starts_code_indented g c = λ around kids ls pending h.
 
 pub returns : goal.returns
 returns g c =
-    on_ok_weaker c.start_line.result (λ grows. λ around kids ls pending h.
+    on_ok_weaker c.start_line.result (λ grows. λ ls pending around kids h.
     let p = c.args.self.now in
     let on = c.args.on.now in
     let r = rest_of c.args.rest in
@@ -65,7 +65,7 @@ returns g c =
     let leaf = Leaf (Indented ls pending) in
     let last : (c.len-depth.result == vec_len p.open) ≡ true = eq-eqb c.len-depth.result (vec_len p.open) c.len-depth.ensures in
     let deep : c.len-depth.result ≡ length around = omega (arith, c.len-depth.ensures, p.open.ok.0, ap length h.opened, closing.length-containers around) in
-    subst (λ (t : Tree). HasRead c.start_line.new.self (grown around kids t))
+    subst (λ (t : Tree). HasRead c.start_line.new.self (spine_after around kids t))
     (ap (λ all. new (length r) on all leaf e r) last ∙ sym (steps.indented_other on e r ls pending (sym c.is_blank.ensures ∙ c.if-is_blank.false) (sym c.starts_code_indented.ensures ∙ c.if-starts_code_indented.false)))
     (grows around kids leaf deep tt h))
     c.start_line.ensures

@@ -20,4 +20,4 @@ returns-clause-left g c = λ around kids ls clean h.
     let here = leaves.lines_here p around kids (Text ls) h c.deref-2.result.now c.deref-2.ensures.value in
     let content = c.as_bytes.ensures.value ∙ c.in_ok-join_lines.ensures ∙ ap content_text (sym same ∙ here) in
     c.has_more.ensures (subst AreLines here clean) content
-    ∙ more_left on ls (take (length c.deref-2.result.now - p.taken) (drop p.taken c.deref-2.result.now)) (c.may_define.ensures.on c.if-not-may_define.false) here
+    ∙ more_left on ls (take (length c.deref-2.result.now - p.lines_in_rows) (drop p.lines_in_rows c.deref-2.result.now)) (c.may_define.ensures.on c.if-not-may_define.false) here

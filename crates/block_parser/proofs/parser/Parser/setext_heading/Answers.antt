@@ -13,18 +13,18 @@ use Rattle.block_parser.proofs.parser.Parser.setext_heading.Goals as goal
 
 pub returns : goal.returns
 returns g c =
-    on_ok_weaker c.end_leaf.result (λ reads. λ around kids ls clean h.
+    on_ok_weaker c.end_leaf.result (λ reads. λ ls clean around kids h.
     let p = c.cut_definitions.new.self in
     let parts = cut c.args.on.now ls in
     let kids2 = join kids parts.definitions in
     let left_lines = parts.left in
-    let k = c.in_ok-cut_definitions.ensures.read around kids ls clean h in
+    let k = c.in_ok-cut_definitions.ensures.read ls clean around kids h in
     let pool = piece_lines p.pieces.items in
     let left = leaves.all_left p.rows.rows.items p.rows.waiting.items p.rows.bare pool around kids2 left_lines k.written (leaves.enough_lines p) in
     let long = length-map p.pieces.items piece_line in
-    let count = c.len.result - p.taken in
+    let count = c.len.result - p.lines_in_rows in
     let all : count ≡ length left_lines = omega (arith, left, long, p.counted, p.pieces.ok.0, c.len.ensures) in
     let heading = Heading c.args.rank (own_lines left_lines) in
     subst (λ (bs : Blocks). HasRead c.end_leaf.new.self (spine around bs (Text []))) (join-assoc kids parts.definitions (ended heading c.args.ending))
-    (reads around kids2 (Text left_lines) heading k (ap (λ x. Single (Heading c.args.rank (own_lines x)) ∷ []) (sym (take_all count left_lines (omega (arith, all))))) refl))
+    (reads (Text left_lines) heading (ap (λ x. Single (Heading c.args.rank (own_lines x)) ∷ []) (sym (take_all count left_lines (omega (arith, all))))) refl around kids2 k))
     c.end_leaf.ensures.read

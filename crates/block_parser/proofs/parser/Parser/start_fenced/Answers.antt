@@ -2,7 +2,7 @@ use Rattle.std.proofs.Common.{[], None, sym, subst, refl}
 use Rattle.definition_text.specs.BlockLines.{spaced_line}
 use Rattle.definition_block.specs.Tree.{Blocks, Text, Fenced}
 use Rattle.block_rows.specs.Rows.{piece_lines}
-use Rattle.block_starts.specs.Fences.{fence_view}
+use Rattle.block_starts.specs.CodeFenced.{fence_view}
 use Rattle.block_parser.specs.Spine.{spine}
 use Rattle.block_parser.specs.Shows.{InFenced, Shows}
 use Rattle.block_parser.specs.Leaves.{leaf_state}

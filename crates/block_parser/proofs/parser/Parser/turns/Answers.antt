@@ -3,7 +3,7 @@ use Rattle.std.proofs.lemmas.Bool.{and_parts, eqb-true, eq-eqb}
 use Rattle.block_rows.specs.ParagraphLines.{AreLines}
 use Rattle.definition_block.specs.Tree.{has_text, open_text, turns}
 use Rattle.block_starts.specs.View.{rest_of}
-use Rattle.block_parser.specs.Turns.{IsText, turned_by}
+use Rattle.block_parser.specs.HeadingSetext.{IsText, heading_tree}
 use Rattle.block_parser.specs.Spine.{spine_at}
 use Rattle.block_parser.specs.View.{HasRead}
 use Rattle.block_parser.proofs.Steps as steps
@@ -27,7 +27,7 @@ returns-then-branch-clause-turned g c = λ around kids away e deep clean h.
     let is = sym c.underline.ensures ∙ c.in-Some.is in
     let both = and_parts (c.args.depth == vec_len p.open) (has_text away) (sym (c.interrupts.ensures around kids away deep h) ∙ c.if-not-interrupts.false) in
     let none = descending.no_deeper p.open.items around kids away h.opened (omega (arith, deep, eqb-true c.args.depth (vec_len p.open) both.0, p.open.ok.0)) in
-    steps.text_leaf_here (λ x. AreLines (open_text x) → HasRead p (spine_at around kids x) → turns on x r e ≡ turned_by on (Some rank) x e) away none both.1
+    steps.text_leaf_here (λ x. AreLines (open_text x) → HasRead p (spine_at around kids x) → turns on x r e ≡ heading_tree on (Some rank) x e) away none both.1
     (λ l ls are reads. steps.turns_some on r e (l ∷ ls) rank is (sym (c.in_ok-leaves_text.ensures.left around kids (l ∷ ls) are reads) ∙ c.if-branch.true)) clean h
 
 pub returns-then-branch-clause-here : goal.returns-then-branch-clause-here

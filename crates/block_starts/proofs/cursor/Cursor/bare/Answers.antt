@@ -1,10 +1,10 @@
 use Rattle.std.proofs.Common.{◌+◌, sym, ap, ◌∙◌, subst, drop, length, arith}
 use Rattle.std.proofs.lemmas.List.{length-drop}
 use Rattle.definition_text.specs.Columns.{codes_from, indent}
-use Rattle.block_starts.specs.Marks.{BreaksWithin}
+use Rattle.block_starts.specs.ThematicBreak.{BreaksWithin}
 use Rattle.block_starts.specs.View.{rest_of}
 use Rattle.block_starts.proofs.Views.{bare_view, white_view}
-use Rattle.block_starts.proofs.Tails.{breaks_after}
+use Rattle.block_starts.proofs.ThematicBreakLemmas.{breaks_after}
 use Rattle.block_starts.proofs.cursor.Cursor.bare.Goals as goal
 
 pub overflow_add-self : goal.overflow_add-self

@@ -4,9 +4,10 @@ use Rattle.std.proofs.lemmas.Bool.{eqb-true, eqb-false}
 use Rattle.std.proofs.lemmas.Str.{IsCharBoundary-after_ascii}
 use Rattle.definition_text.specs.Columns.{codes_from}
 use Rattle.block_starts.specs.View.{rest_of}
-use Rattle.block_starts.specs.Marks.{NoMark, BreaksWithin, is_mark}
+use Rattle.block_starts.specs.Marks.{NoMark, is_mark}
+use Rattle.block_starts.specs.ThematicBreak.{BreaksWithin}
 use Rattle.block_starts.proofs.Views.{no_mark_owed, no_mark_nothing, no_mark_byte, mark_ascii, mark_first, view_none}
-use Rattle.block_starts.proofs.Tails.{breaks_after}
+use Rattle.block_starts.proofs.ThematicBreakLemmas.{breaks_after}
 use Rattle.block_starts.proofs.cursor.Cursor.split_first.Goals as goal
 use Rattle.block_starts.proofs.cursor.Cursor.split_first.Goals.{then-self-gt0-via-then-self-gt0, then-self-gt0-via-else-self-gt0+then-is_empty}
 

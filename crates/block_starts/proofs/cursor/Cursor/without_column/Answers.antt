@@ -3,11 +3,12 @@ use Rattle.std.specs.List.{prefix_len}
 use Rattle.std.proofs.lemmas.List.{length-drop}
 use Rattle.std.proofs.lemmas.List.Sums.{prefix_len-le-length}
 use Rattle.definition_text.specs.Columns.{codes_from, indent, is_white, tab_column}
-use Rattle.block_starts.specs.Marks.{BreaksWithin, width}
+use Rattle.block_starts.specs.Widths.{width}
+use Rattle.block_starts.specs.ThematicBreak.{BreaksWithin}
 use Rattle.block_starts.specs.View.{rest_of}
 use Rattle.block_starts.proofs.White.{column_taken, white_taken, indent_taken}
 use Rattle.block_starts.proofs.Views.{column_owed, some_white, view_none}
-use Rattle.block_starts.proofs.Tails.{breaks_after}
+use Rattle.block_starts.proofs.ThematicBreakLemmas.{breaks_after}
 use Rattle.block_starts.proofs.cursor.Cursor.without_column.Goals as goal
 
 pub returns-then-self-gt0 : goal.returns-then-self-gt0

@@ -11,7 +11,7 @@ use Rattle.definition_page.specs.TextTables.{text_tables}
 use Rattle.html_bytes.specs.Html.{block_pieces}
 use Rattle.block_rows.specs.Rows.{whole_lines, row_shown, lines_taken, first_codes, piece_line, piece_lines}
 use Rattle.html_page.specs.Levels.{row_pieces, is_document}
-use Rattle.html_page.specs.Printed.{laid}
+use Rattle.html_page.specs.Prints.{layout_after}
 use Rattle.html_page.specs.Printable.{AreHeadingLines, IsPrintableRow}
 use Rattle.html_page.proofs.Lines.{first_codes_of, with_ending}
 use Rattle.html_page.proofs.Owed.{bytes_owed}
@@ -29,8 +29,8 @@ returns-in-Paragraph-clause-printed g c = λ ds has.
     let clean : AreLines (piece_lines (take c.in-Paragraph.count lines)) =
     with_ending _ (subst (λ (ls : List BlockLine). AreLines (own_lines ls)) (take-map piece_line c.in-Paragraph.count lines)
     (subst (λ (row : Row). IsPrintableRow (row_shown row (piece_lines lines))) c.in-Paragraph.is c.requires.printable)) in
-    subst (λ (row : Row). OnOk c.paragraph.result (after ≡ laid page.default_ending before (row_pieces d c.args.level (row_shown row (piece_lines lines))))) (sym c.in-Paragraph.is)
-    (subst (λ (ls : List BlockLine). OnOk c.paragraph.result (after ≡ laid page.default_ending before (block_pieces d true c.args.level.tight false (Paragraph (own_lines ls)))))
+    subst (λ (row : Row). OnOk c.paragraph.result (after ≡ layout_after page.default_ending before (row_pieces d c.args.level (row_shown row (piece_lines lines))))) (sym c.in-Paragraph.is)
+    (subst (λ (ls : List BlockLine). OnOk c.paragraph.result (after ≡ layout_after page.default_ending before (block_pieces d true c.args.level.tight false (Paragraph (own_lines ls)))))
     (sym (take-map piece_line c.in-Paragraph.count lines)) (c.paragraph.ensures.printed ds has clean))
 
 pub returns-in-WholeParagraph-clause-printed : goal.returns-in-WholeParagraph-clause-printed
@@ -44,8 +44,8 @@ returns-in-WholeParagraph-clause-printed g c = λ ds has.
     let count = c.in-WholeParagraph.count in
     let some : 1 ≤ length lines = subst (λ (row : Row). lines_taken row ≤ length lines) c.in-WholeParagraph.is c.requires.enough in
     let bytes : (k : ℕ) → get_or piece.text.now k 0 < 256 = c.whole_paragraph.ensures.bytes in
-    subst (λ (row : Row). OnOk c.whole_paragraph.result (after ≡ laid page.default_ending before (row_pieces d c.args.level (row_shown row (piece_lines lines))))) (sym c.in-WholeParagraph.is)
-    (subst (λ (text : List ℕ). OnOk c.whole_paragraph.result (after ≡ laid page.default_ending before (block_pieces d true c.args.level.tight false (Paragraph (own_lines (whole_lines count text))))))
+    subst (λ (row : Row). OnOk c.whole_paragraph.result (after ≡ layout_after page.default_ending before (row_pieces d c.args.level (row_shown row (piece_lines lines))))) (sym c.in-WholeParagraph.is)
+    (subst (λ (text : List ℕ). OnOk c.whole_paragraph.result (after ≡ layout_after page.default_ending before (block_pieces d true c.args.level.tight false (Paragraph (own_lines (whole_lines count text))))))
     (sym (ap bytes_of (first_codes_of lines no_piece some) ∙ bytes_owed piece.owed piece.text.now bytes)) (c.whole_paragraph.ensures.printed ds has))
 
 pub returns-in-Heading-clause-printed : goal.returns-in-Heading-clause-printed
@@ -59,8 +59,8 @@ returns-in-Heading-clause-printed g c = λ ds has.
     subst (λ (row : Row). IsPrintableRow (row_shown row (piece_lines lines))) c.in-Heading.is c.requires.printable in
     let front = take-map piece_line 1 lines in
     let clean = subst (λ (ls : List BlockLine). AreHeadingLines (own_lines ls)) front fits.1 in
-    subst (λ (row : Row). OnOk c.heading.result (after ≡ laid page.default_ending before (row_pieces d c.args.level (row_shown row (piece_lines lines))))) (sym c.in-Heading.is)
-    (subst (λ (ls : List BlockLine). OnOk c.heading.result (after ≡ laid page.default_ending before (block_pieces d true false false (Heading c.in-Heading.rank (own_lines ls)))))
+    subst (λ (row : Row). OnOk c.heading.result (after ≡ layout_after page.default_ending before (row_pieces d c.args.level (row_shown row (piece_lines lines))))) (sym c.in-Heading.is)
+    (subst (λ (ls : List BlockLine). OnOk c.heading.result (after ≡ layout_after page.default_ending before (block_pieces d true false false (Heading c.in-Heading.rank (own_lines ls)))))
     (sym front) (c.heading.ensures.printed ds has clean))
 
 pub returns-in-SetextHeading-clause-printed : goal.returns-in-SetextHeading-clause-printed
@@ -74,8 +74,8 @@ returns-in-SetextHeading-clause-printed g c = λ ds has.
     subst (λ (row : Row). IsPrintableRow (row_shown row (piece_lines lines))) c.in-SetextHeading.is c.requires.printable in
     let front = take-map piece_line c.in-SetextHeading.count lines in
     let clean = subst (λ (ls : List BlockLine). AreHeadingLines (own_lines ls)) front fits.1 in
-    subst (λ (row : Row). OnOk c.heading-in-SetextHeading.result (after ≡ laid page.default_ending before (row_pieces d c.args.level (row_shown row (piece_lines lines))))) (sym c.in-SetextHeading.is)
-    (subst (λ (ls : List BlockLine). OnOk c.heading-in-SetextHeading.result (after ≡ laid page.default_ending before (block_pieces d true false false (Heading c.in-SetextHeading.rank (own_lines ls)))))
+    subst (λ (row : Row). OnOk c.heading-in-SetextHeading.result (after ≡ layout_after page.default_ending before (row_pieces d c.args.level (row_shown row (piece_lines lines))))) (sym c.in-SetextHeading.is)
+    (subst (λ (ls : List BlockLine). OnOk c.heading-in-SetextHeading.result (after ≡ layout_after page.default_ending before (block_pieces d true false false (Heading c.in-SetextHeading.rank (own_lines ls)))))
     (sym front) (c.heading-in-SetextHeading.ensures.printed ds has clean))
 
 pub returns-in-Break-clause-printed : goal.returns-in-Break-clause-printed
@@ -85,7 +85,7 @@ returns-in-Break-clause-printed g c = λ ds has.
     let before = string_bytes page.html in
     let after = string_bytes c.thematic_break.new.self.html in
     let lines = c.args.lines.now in
-    subst (λ (row : Row). OnOk c.thematic_break.result (after ≡ laid page.default_ending before (row_pieces d c.args.level (row_shown row (piece_lines lines))))) (sym c.in-Break.is)
+    subst (λ (row : Row). OnOk c.thematic_break.result (after ≡ layout_after page.default_ending before (row_pieces d c.args.level (row_shown row (piece_lines lines))))) (sym c.in-Break.is)
     (c.thematic_break.ensures.printed d)
 
 pub returns-in-Html-clause-printed : goal.returns-in-Html-clause-printed
@@ -95,8 +95,8 @@ returns-in-Html-clause-printed g c = λ ds has.
     let before = string_bytes page.html in
     let after = string_bytes c.html_block.new.self.html in
     let lines = c.args.lines.now in
-    subst (λ (row : Row). OnOk c.html_block.result (after ≡ laid page.default_ending before (row_pieces d c.args.level (row_shown row (piece_lines lines))))) (sym c.in-Html.is)
-    (subst (λ (ls : List BlockLine). OnOk c.html_block.result (after ≡ laid page.default_ending before (block_pieces d true false false (Html (own_lines ls)))))
+    subst (λ (row : Row). OnOk c.html_block.result (after ≡ layout_after page.default_ending before (row_pieces d c.args.level (row_shown row (piece_lines lines))))) (sym c.in-Html.is)
+    (subst (λ (ls : List BlockLine). OnOk c.html_block.result (after ≡ layout_after page.default_ending before (block_pieces d true false false (Html (own_lines ls)))))
     (sym (take-map piece_line c.in-Html.count lines)) c.html_block.ensures.printed)
 
 pub returns-in-IndentedCode-clause-printed : goal.returns-in-IndentedCode-clause-printed
@@ -106,8 +106,8 @@ returns-in-IndentedCode-clause-printed g c = λ ds has.
     let before = string_bytes page.html in
     let after = string_bytes c.indented_code.new.self.html in
     let lines = c.args.lines.now in
-    subst (λ (row : Row). OnOk c.indented_code.result (after ≡ laid page.default_ending before (row_pieces d c.args.level (row_shown row (piece_lines lines))))) (sym c.in-IndentedCode.is)
-    (subst (λ (ls : List BlockLine). OnOk c.indented_code.result (after ≡ laid page.default_ending before (block_pieces d true false false (IndentedCode (own_lines ls)))))
+    subst (λ (row : Row). OnOk c.indented_code.result (after ≡ layout_after page.default_ending before (row_pieces d c.args.level (row_shown row (piece_lines lines))))) (sym c.in-IndentedCode.is)
+    (subst (λ (ls : List BlockLine). OnOk c.indented_code.result (after ≡ layout_after page.default_ending before (block_pieces d true false false (IndentedCode (own_lines ls)))))
     (sym (take-map piece_line c.in-IndentedCode.count lines)) (c.indented_code.ensures.printed d))
 
 pub returns-in-FencedCode-clause-printed : goal.returns-in-FencedCode-clause-printed
@@ -124,9 +124,9 @@ returns-in-FencedCode-clause-printed g c = λ ds has.
     subst (λ (row : Row). IsPrintableRow (row_shown row (piece_lines lines))) c.in-FencedCode.is c.requires.printable in
     let bytes = fits.0 in
     let clear : HaveNoEnding (get_or lines 0 no_piece).text.now = subst HaveNoEnding (info_is lines (omega (arith, enough)) bytes) fits.1 in
-    subst (λ (row : Row). OnOk c.fenced_code.result (after ≡ laid page.default_ending before (row_pieces d c.args.level (row_shown row (piece_lines lines))))) (sym c.in-FencedCode.is)
-    (subst (λ x. OnOk c.fenced_code.result (after ≡ x)) (ap (λ (top : Bool). laid page.default_ending before (block_pieces d top false false (FencedCode (get_or lines 0 no_piece).text.now true (piece_lines (take count (take (length lines - 1) (drop 1 lines))))))) c.is_document-top.ensures
-    ∙ fenced_laid d page.default_ending before (is_document l.kind) l.tight l.silent true count lines enough bytes) (c.fenced_code.ensures.printed ds clear))
+    subst (λ (row : Row). OnOk c.fenced_code.result (after ≡ layout_after page.default_ending before (row_pieces d c.args.level (row_shown row (piece_lines lines))))) (sym c.in-FencedCode.is)
+    (subst (λ x. OnOk c.fenced_code.result (after ≡ x)) (ap (λ (top : Bool). layout_after page.default_ending before (block_pieces d top false false (FencedCode (get_or lines 0 no_piece).text.now true (piece_lines (take count (take (length lines - 1) (drop 1 lines))))))) c.is_document-top.ensures
+    ∙ fenced_laid d page.default_ending before (is_document l.holder) l.tight l.silent true count lines enough bytes) (c.fenced_code.ensures.printed ds clear))
 
 pub returns-in-UnclosedCode-clause-printed : goal.returns-in-UnclosedCode-clause-printed
 returns-in-UnclosedCode-clause-printed g c = λ ds has.
@@ -142,6 +142,6 @@ returns-in-UnclosedCode-clause-printed g c = λ ds has.
     subst (λ (row : Row). IsPrintableRow (row_shown row (piece_lines lines))) c.in-UnclosedCode.is c.requires.printable in
     let bytes = fits.0 in
     let clear : HaveNoEnding (get_or lines 0 no_piece).text.now = subst HaveNoEnding (info_is lines (omega (arith, enough)) bytes) fits.1 in
-    subst (λ (row : Row). OnOk c.fenced_code-in-UnclosedCode.result (after ≡ laid page.default_ending before (row_pieces d c.args.level (row_shown row (piece_lines lines))))) (sym c.in-UnclosedCode.is)
-    (subst (λ x. OnOk c.fenced_code-in-UnclosedCode.result (after ≡ x)) (ap (λ (top : Bool). laid page.default_ending before (block_pieces d top false false (FencedCode (get_or lines 0 no_piece).text.now false (piece_lines (take count (take (length lines - 1) (drop 1 lines))))))) c.is_document-top.ensures
-    ∙ fenced_laid d page.default_ending before (is_document l.kind) l.tight l.silent false count lines enough bytes) (c.fenced_code-in-UnclosedCode.ensures.printed ds clear))
+    subst (λ (row : Row). OnOk c.fenced_code-in-UnclosedCode.result (after ≡ layout_after page.default_ending before (row_pieces d c.args.level (row_shown row (piece_lines lines))))) (sym c.in-UnclosedCode.is)
+    (subst (λ x. OnOk c.fenced_code-in-UnclosedCode.result (after ≡ x)) (ap (λ (top : Bool). layout_after page.default_ending before (block_pieces d top false false (FencedCode (get_or lines 0 no_piece).text.now false (piece_lines (take count (take (length lines - 1) (drop 1 lines))))))) c.is_document-top.ensures
+    ∙ fenced_laid d page.default_ending before (is_document l.holder) l.tight l.silent false count lines enough bytes) (c.fenced_code-in-UnclosedCode.ensures.printed ds clear))

@@ -1,0 +1,38 @@
+//! ATX headings (CommonMark 4.2).
+//!
+//!     atx ::= a line by itself
+
+use crate::parser::Parser;
+use block_rows::{Piece, Row};
+use block_starts::heading_atx::Atx;
+use definition_text::Kind;
+use markdown_options::LineEnding;
+use std::alloc::{AllocError, Allocator};
+
+impl<'a, A: Allocator> Parser<'a, A> {
+    ghost use Rattle.std.specs.Prelude.{OnOk, Option, None, ◌∷◌, []};
+    ghost use Rattle.markdown_options.specs.declared.line_ending.LineEnding.{LineEnding};
+    ghost use Rattle.definition_text.specs.BlockLines.{spaced_line};
+    ghost use Rattle.definition_block.specs.Tree.{tree, nothing, ended, Heading as HeadingBlock};
+    ghost use Rattle.block_parser.specs.View.{Adds};
+
+    /// An ATX heading, where no leaf is open.
+    pub(crate) fn heading(
+        &mut self,
+        atx: Atx<'a>,
+        ending: Option<LineEnding>,
+    ) -> Result<(), AllocError>
+        ensures { OnOk result (Adds self.old self.new
+            (tree (ended (HeadingBlock atx.entry.rank (spaced_line atx.entry.content.now None ∷ [])) ending) nothing)) }
+    {
+        self.pieces.push(Piece {
+            text: atx.content,
+            owed: 0,
+            ending: None,
+            before: Kind::Whitespace,
+        })?;
+        self.rows.block(Row::Heading(atx.rank))?;
+        self.lines_in_rows += 1;
+        self.rows.ending(ending)
+    }
+}

@@ -1,0 +1,65 @@
+//! Setext headings (CommonMark 4.3).
+//!
+//!     setext ::= paragraph underline, where the underline is in all containers of the paragraph
+
+use crate::parser::Parser;
+use block_rows::Row;
+use block_starts::Cursor;
+use block_starts::heading_setext::underline;
+use markdown_options::{Constructs, LineEnding};
+use std::alloc::{AllocError, Allocator};
+
+impl<'a, A: Allocator> Parser<'a, A> {
+    ghost use Rattle.std.specs.Prelude.{◌≡◌, IfOk, OnOk, List, Option, ℕ, Some, None, length};
+    ghost use Rattle.markdown_options.specs.declared.line_ending.LineEnding.{LineEnding};
+    ghost use Rattle.definition_text.specs.BlockLines.{BlockLine};
+    ghost use Rattle.definition_block.specs.Tree.{Blocks, open_text, turns, Opening, Text as TextLeaf};
+    ghost use Rattle.block_rows.specs.ParagraphLines.{AreLines};
+    ghost use Rattle.block_parser.specs.HeadingSetext.{IsText, heading_blocks, heading_tree};
+    ghost use Rattle.block_parser.specs.Spine.{Level, Spine, spine_at};
+    ghost use Rattle.block_parser.specs.View.{Closes, HasRead};
+    ghost use Rattle.block_starts.specs.View.{rest_of};
+
+    /// The rank of the heading that an underline makes of what is left of the open paragraph after
+    /// its definitions, where the line is in so many containers, which are all of them.
+    pub(crate) fn turns(
+        &mut self,
+        on: &Constructs,
+        depth: usize,
+        rest: Cursor<'a>,
+    ) -> Result<Option<u8>, AllocError>
+        ensures turned { IfOk result (λ rank. (around : List Level) (kids : Blocks) (away : Opening) (ending : Option LineEnding) → depth ≡ length around →
+            AreLines (open_text away) → HasRead self.old (spine_at around kids away) →
+            turns on.now away (rest_of rest.entry) ending ≡ heading_tree on.now rank away ending) }
+        ensures here { IfOk result (λ found. (rank : ℕ) (around : List Level) (kids : Blocks) (away : Opening) → depth ≡ length around →
+            HasRead self.old (spine_at around kids away) → found ≡ Some rank → IsText away) }
+        ensures kept { (s : Spine) → HasRead self.old s → HasRead self.new s }
+        ensures containers { self.new.open ≡ self.old.open }
+    {
+        if !self.interrupts(depth) {
+            return Ok(None);
+        }
+        let Some(rank) = underline(on, rest) else {
+            return Ok(None);
+        };
+        if self.leaves_text(on)? {
+            Ok(Some(rank))
+        } else {
+            Ok(None)
+        }
+    }
+
+    /// What is left of the open paragraph after its definitions becomes a heading.
+    pub(crate) fn setext_heading(
+        &mut self,
+        on: &Constructs,
+        rank: u8,
+        ending: Option<LineEnding>,
+    ) -> Result<(), AllocError>
+        ensures { OnOk result ((ls : List BlockLine) → AreLines ls → Closes self.old self.new (TextLeaf ls) (heading_blocks on.now rank ls ending)) }
+    {
+        self.cut_definitions(on)?;
+        let count = self.pieces.len() - self.lines_in_rows;
+        self.end_leaf(Row::SetextHeading { rank, count }, ending)
+    }
+}

@@ -1,0 +1,22 @@
+//! Thematic breaks (CommonMark 4.1).
+//!
+//!     break ::= a line by itself
+
+use crate::parser::Parser;
+use block_rows::Row;
+use markdown_options::LineEnding;
+use std::alloc::{AllocError, Allocator};
+
+impl<'a, A: Allocator> Parser<'a, A> {
+    ghost use Rattle.std.specs.Prelude.{OnOk};
+    ghost use Rattle.definition_block.specs.Tree.{tree, nothing, ended, Break as BreakBlock};
+    ghost use Rattle.block_parser.specs.View.{Adds};
+
+    /// A thematic break, where no leaf is open.
+    pub(crate) fn thematic_break(&mut self, ending: Option<LineEnding>) -> Result<(), AllocError>
+        ensures { OnOk result (Adds self.old self.new (tree (ended BreakBlock ending) nothing)) }
+    {
+        self.rows.block(Row::Break)?;
+        self.rows.ending(ending)
+    }
+}

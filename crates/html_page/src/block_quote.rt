@@ -1,0 +1,31 @@
+//! Block quotes (CommonMark 5.1).
+ghost use Rattle.std.specs.Prelude.{◌≡◌, OnOk};
+ghost use Rattle.markdown_options.specs.LineEndings.{ending_bytes};
+ghost use Rattle.html_page.specs.PrinterView.{enter_quote, leave_quote, printer_view};
+
+use crate::level::Holder;
+use crate::printer::Printer;
+use std::alloc::{AllocError, Allocator};
+
+impl<A: Allocator + Clone> Printer<A> {
+    /// A block quote starts (CommonMark 5.1).
+    pub(crate) fn enter_quote(&mut self) -> Result<(), AllocError>
+        ensures default { self.new.page.default_ending ≡ self.old.page.default_ending }
+        ensures printed { OnOk result (printer_view self.new ≡ enter_quote (ending_bytes self.old.page.default_ending) (printer_view self.old)) }
+    {
+        self.page.fresh()?;
+        self.page.html.push_str("<blockquote>")?;
+        self.enter(Holder::Quote, false)
+    }
+
+    /// A block quote ends.
+    pub(crate) fn leave_quote(&mut self) -> Result<(), AllocError>
+        ensures default { self.new.page.default_ending ≡ self.old.page.default_ending }
+        ensures printed { OnOk result (printer_view self.new ≡ leave_quote (ending_bytes self.old.page.default_ending) (printer_view self.old)) }
+    {
+        self.page.fresh()?;
+        self.page.html.push_str("</blockquote>")?;
+        self.leave();
+        Ok(())
+    }
+}

@@ -1,0 +1,95 @@
+//! Fenced code (CommonMark 4.5).
+ghost use Rattle.std.specs.Prelude.{◌≡◌, ◌++◌, List, OnOk, string_bytes, false};
+ghost use Rattle.markdown_options.specs.LineEndings.{ending_bytes};
+ghost use Rattle.definition_text.specs.Lines.{ending_text};
+ghost use Rattle.html_bytes.specs.Pieces.{Fresh, print};
+ghost use Rattle.definition_inline.specs.Definition.{Definition};
+ghost use Rattle.block_rows.specs.ParagraphLines.{HaveNoEnding};
+ghost use Rattle.definition_block.specs.Tree.{FencedCode};
+ghost use Rattle.html_bytes.specs.Html.{block_pieces, class_of, fenced_content};
+ghost use Rattle.block_rows.specs.Rows.{piece_lines};
+ghost use Rattle.html_text.specs.Texts.{document_by};
+ghost use Rattle.html_page.specs.Prints.{LaysOut, Prints};
+
+use crate::page::Page;
+use block_rows::Piece;
+use html_text::Texts;
+use markdown_options::{LineEnding, Tables};
+use std::alloc::{AllocError, Allocator};
+
+impl<A: Allocator + Clone> Page<A> {
+    /// Prints fenced code (CommonMark 4.5), at the top or in a container. Its info has no line ending.
+    pub(crate) fn fenced_code<T: Tables>(
+        &mut self,
+        texts: &Texts<'_, T, A>,
+        info: &str,
+        closed: bool,
+        top: bool,
+        lines: &[Piece<'_>],
+    ) -> Result<(), AllocError>
+        ensures default { self.new.default_ending ≡ self.old.default_ending }
+        ensures printed { (ds : List Definition) → HaveNoEnding info.now → let code = FencedCode info.now closed (piece_lines lines.now) in
+            OnOk result (LaysOut self.old self.new (block_pieces (document_by T.Tables texts.now ds) top false false code)) }
+    {
+        self.fresh()?;
+        self.html.push_str("<pre><code")?;
+        self.class(texts, info)?;
+        self.html.push_str(">")?;
+        self.fenced_content(closed, top, lines)?;
+        self.html.push_str("</code></pre>")?;
+        if closed {
+            return Ok(());
+        }
+        self.fresh()
+    }
+
+    /// Prints the class of code with an info, which has no line ending.
+    fn class<T: Tables>(&mut self, texts: &Texts<'_, T, A>, info: &str) -> Result<(), AllocError>
+        ensures default { self.new.default_ending ≡ self.old.default_ending }
+        ensures printed { (ds : List Definition) → HaveNoEnding info.now →
+            OnOk result (Prints self.old self.new (class_of (document_by T.Tables texts.now ds) info.now)) }
+    {
+        if info.is_empty() {
+            return Ok(());
+        }
+        self.html.push_str(" class=\"language-")?;
+        texts.push_info(&mut self.html, info)?;
+        self.html.push_str("\"")
+    }
+
+    /// Prints lines of fenced code. Where it isn't closed, its last ending stands outside in a
+    /// container, and the default one is printed.
+    fn fenced_content(
+        &mut self,
+        closed: bool,
+        top: bool,
+        lines: &[Piece<'_>],
+    ) -> Result<(), AllocError>
+        ensures default { self.new.default_ending ≡ self.old.default_ending }
+        ensures printed { OnOk result (LaysOut self.old self.new (fenced_content top closed (piece_lines lines.now))) }
+    {
+        self.code(lines)?;
+        match lines.last() {
+            None => Ok(()),
+            Some(last) => {
+                let whole = top || closed;
+                let ending = if whole {
+                    last.ending
+                } else {
+                    Some(self.default_ending)
+                };
+                self.end_content(ending)
+            }
+        }
+    }
+
+    /// Prints the last ending of code, and asks for a fresh line.
+    fn end_content(&mut self, ending: Option<LineEnding>) -> Result<(), AllocError>
+        ensures default { self.new.default_ending ≡ self.old.default_ending }
+        ensures printed { OnOk result (string_bytes self.new.html ≡
+            print (ending_bytes self.old.default_ending) (string_bytes self.old.html ++ ending_text ending) Fresh) }
+    {
+        self.push_ending(ending)?;
+        self.fresh()
+    }
+}

@@ -1,0 +1,62 @@
+//! Paragraphs (CommonMark 4.8).
+ghost use Rattle.std.specs.Prelude.{◌≡◌, ◌<◌, ℕ, List, slice_index, OnOk, true, false};
+ghost use Rattle.definition_inline.specs.Definition.{Definition};
+ghost use Rattle.block_rows.specs.ParagraphLines.{AreLines};
+ghost use Rattle.definition_text.specs.BlockLines.{own_lines};
+ghost use Rattle.definition_block.specs.Tree.{Paragraph};
+ghost use Rattle.html_bytes.specs.Html.{block_pieces};
+ghost use Rattle.block_rows.specs.Rows.{piece_lines, whole_lines};
+ghost use Rattle.html_text.specs.Texts.{HasDefinitions, document_by};
+ghost use Rattle.html_page.specs.Prints.{LaysOut};
+
+use crate::page::Page;
+use block_rows::Piece;
+use html_text::Texts;
+use markdown_options::Tables;
+use std::alloc::{AllocError, Allocator};
+
+impl<A: Allocator + Clone> Page<A> {
+    /// Prints a paragraph (CommonMark 4.8). That of a tight item is its text alone.
+    pub(crate) fn paragraph<T: Tables>(
+        &mut self,
+        texts: &Texts<'_, T, A>,
+        tight: bool,
+        lines: &[Piece<'_>],
+    ) -> Result<(), AllocError>
+        ensures default { self.new.default_ending ≡ self.old.default_ending }
+        ensures printed { (ds : List Definition) → HasDefinitions texts.now.labels.now texts.now.links.now ds → AreLines (piece_lines lines.now) →
+            let paragraph = Paragraph (own_lines (piece_lines lines.now)) in
+            OnOk result (LaysOut self.old self.new (block_pieces (document_by T.Tables texts.now ds) true tight false paragraph)) }
+    {
+        if tight {
+            return texts.push_text(&mut self.html, &mut self.buffers, lines);
+        }
+        self.fresh()?;
+        self.html.push_str("<p>")?;
+        texts.push_text(&mut self.html, &mut self.buffers, lines)?;
+        self.html.push_str("</p>")
+    }
+
+    /// Prints a paragraph of the first lines of a text, so many (CommonMark 4.8).
+    pub(crate) fn whole_paragraph<T: Tables>(
+        &mut self,
+        texts: &Texts<'_, T, A>,
+        tight: bool,
+        count: usize,
+        text: &str,
+    ) -> Result<(), AllocError>
+        ensures default { self.new.default_ending ≡ self.old.default_ending }
+        ensures printed { (ds : List Definition) → HasDefinitions texts.now.labels.now texts.now.links.now ds →
+            let paragraph = Paragraph (own_lines (whole_lines count text.now)) in
+            OnOk result (LaysOut self.old self.new (block_pieces (document_by T.Tables texts.now ds) true tight false paragraph)) }
+        ensures bytes { (k : ℕ) → slice_index text.now k < 256 }
+    {
+        if tight {
+            return texts.push_whole(&mut self.html, &mut self.buffers, count, text);
+        }
+        self.fresh()?;
+        self.html.push_str("<p>")?;
+        texts.push_whole(&mut self.html, &mut self.buffers, count, text)?;
+        self.html.push_str("</p>")
+    }
+}

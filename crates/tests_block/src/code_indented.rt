@@ -1,0 +1,18 @@
+//! Indented code (CommonMark 4.4): texts and their HTML.
+use crate::compare::{blocks, prints};
+use markdown::RunError;
+
+/// Indented code.
+const INDENTED: [(&str, &str); 3] = [
+    ("    a\n\n    b\n", "<pre><code>a\n\nb\n</code></pre>\n"),
+    ("\u{FEFF}\ta", "<pre><code>a\n</code></pre>"),
+    (
+        "    > # Foo\n    > bar",
+        "<pre><code>&gt; # Foo\n&gt; bar\n</code></pre>",
+    ),
+];
+
+#[test]
+fn prints_indented_code(rt: HostRuntime) -> Result<(), RunError> {
+    prints(&rt, &INDENTED, &blocks())
+}

@@ -1,0 +1,17 @@
+//! Paragraphs (CommonMark 4.8): texts and their HTML.
+use crate::compare::{blocks, prints};
+use markdown::RunError;
+
+/// Paragraphs, or nothing.
+const PARAGRAPHS: [(&str, &str); 5] = [
+    ("", ""),
+    ("\n", ""),
+    ("a\n", "<p>a</p>\n"),
+    ("a\rb\nc", "<p>a\rb\nc</p>"),
+    ("   foo\n\nbar", "<p>foo</p>\n<p>bar</p>"),
+];
+
+#[test]
+fn prints_paragraphs(rt: HostRuntime) -> Result<(), RunError> {
+    prints(&rt, &PARAGRAPHS, &blocks())
+}

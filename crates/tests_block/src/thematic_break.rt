@@ -1,0 +1,17 @@
+//! Thematic breaks (CommonMark 4.1): texts and their HTML.
+use crate::compare::{blocks, prints};
+use markdown::RunError;
+
+/// Thematic breaks.
+const BREAKS: [(&str, &str); 2] = [
+    ("Foo\n***\nbar", "<p>Foo</p>\n<hr />\n<p>bar</p>"),
+    (
+        "Foo\nbar\n* * *\nbaz",
+        "<p>Foo\nbar</p>\n<hr />\n<p>baz</p>",
+    ),
+];
+
+#[test]
+fn prints_breaks(rt: HostRuntime) -> Result<(), RunError> {
+    prints(&rt, &BREAKS, &blocks())
+}

@@ -1,0 +1,62 @@
+-- From the mask of one load to the bytes of a set.
+use Rattle.std.proofs.Common.{◌≡◌, ℕ, ◌+◌, ◌*◌, ◌/◌, ◌%◌, ◌^◌, ◌<◌, Bool, true, false, not, ◌||◌, eqb, cond, List, [], ◌∷◌, map, length, get_or, replicate, bit_and, bit_or, w8, refl, sym, ap, ◌∙◌, arith}
+use Rattle.std.proofs.lemmas.List.{get_or-map, length-map, ext_get_or}
+use Rattle.std.proofs.lemmas.Nat.{and_mask}
+use Rattle.std.proofs.lemmas.Simd.{Each1-all, Each1-zip2, Each2-splat, length-zip2, zip2_splat, zip2_of_maps, map-map, mask_l-mod, first_set_mask_l, swz_l, SwzOk, SwzOk-from_below, length-swz_l, get_or-swz_l_below}
+use Rattle.std.specs.List.{prefix_len}
+use lib.Lanes.{zip2, mask_l, top}
+use Rattle.text_search.specs.declared.set.ByteSet.{ByteSet}
+use Rattle.text_search.specs.Sets.{first_set, holds}
+
+-- the lower halves of lanes
+abbrev pub halves : List ℕ → List ℕ
+halves v = zip2 bit_and v (replicate 16 15)
+
+halves_are : (v : List ℕ) → length v ≡ 16 → halves v ≡ map (λ x. x % 16) v
+halves_are v long = zip2_splat bit_and v 16 15 long ∙ (λ i. map (λ x. and_mask x 4 i) v)
+
+pub halves_ok : (v : List ℕ) → length v ≡ 16 → SwzOk w8 16 16 0 (halves v)
+halves_ok v long =
+    SwzOk-from_below w8 16 1 16 0 (halves v) refl (omega (arith, length-zip2 bit_and v (replicate 16 15) long))
+    (Each1-zip2 bit_and (λ j. j < 16) v (replicate 16 15) (Each2-splat (λ a b. bit_and a b < 16) v 16 15 (Each1-all (λ a. bit_and a 15 < 16) (λ a. omega (arith, and_mask a 4)) v)))
+
+pub looked_up : (t v : List ℕ) → length v ≡ 16 → swz_l w8 16 t 0 (halves v) ≡ map (λ x. get_or t (x % 16) 0) v
+looked_up t v long =
+    let are = halves_are v long in
+    let size : length (halves v) ≡ 16 = ap length are ∙ length-map v (λ x. x % 16) ∙ long in
+    ext_get_or 0 _ _ (length-swz_l w8 16 t 0 (halves v) ∙ size ∙ sym (length-map v (λ x. get_or t (x % 16) 0) ∙ long)) (λ i h.
+    let lt : i < 16 = omega (arith, length-swz_l w8 16 t 0 (halves v), size) in
+    let within : i < length v = omega (arith, long) in
+    let is : get_or (halves v) i 0 ≡ get_or v i 0 % 16 = ap (λ l. get_or l i 0) are ∙ get_or-map (λ x. x % 16) v i 0 0 within in
+    let place : 16 * ((0 + i) / 16) + get_or (halves v) i 0 ≡ get_or v i 0 % 16 = omega (arith, is) in
+    get_or-swz_l_below w8 16 t 0 (halves v) i (omega (arith, size)) (omega (arith, is))
+    ∙ ap (λ k. get_or t k 0) place ∙ sym (get_or-map (λ x. get_or t (x % 16) 0) v i 0 0 within))
+
+itself : (v : List ℕ) → v ≡ map (λ x. x) v
+itself [] = refl
+itself (x ∷ xs) = ap (λ r. x ∷ r) (itself xs)
+
+abbrev pub compared : ℕ → ℕ → ℕ
+compared a b = cond (eqb a b) 255 0
+
+either : (a b : Bool) → top 7 (bit_or (cond a 255 0) (cond b 255 0)) ≡ a || b
+either true true = refl
+either true false = refl
+either false true = refl
+either false false = refl
+
+-- lanes that are compared with what two functions make of them
+counted : (f g : ℕ → ℕ) (v fs gs : List ℕ) → length v ≡ 16 → fs ≡ map f v → gs ≡ map g v
+    → first_set (mask_l (map (top 7) (zip2 bit_or (zip2 compared v fs) (zip2 compared v gs))) % 2 ^ 64) 16 ≡ prefix_len (λ x. not (eqb x (f x) || eqb x (g x))) v
+counted f g v fs gs long p q =
+    let hit = λ (x : ℕ). eqb x (f x) || eqb x (g x) in
+    let first = zip2_of_maps compared (λ x. x) f v (itself v) p in
+    let second = zip2_of_maps compared (λ x. x) g v (itself v) q in
+    let tops = ap (map (top 7)) (zip2_of_maps bit_or _ _ v first second) ∙ map-map (top 7) _ v ∙ (λ i. map (λ x. either (eqb x (f x)) (eqb x (g x)) i) v) in
+    ap (λ m. first_set m 16) (ap (λ l. mask_l l % 2 ^ 64) tops ∙ mask_l-mod (map hit v) 64 (omega (arith, length-map v hit, long)))
+    ∙ first_set_mask_l hit v 16 long (omega arith)
+
+-- the mask of the lanes whose bytes a set holds
+pub run_is : (set : ByteSet) (r : ℕ) (v fs gs : List ℕ) → length v ≡ 16 → fs ≡ map (λ x. get_or set.first (x % 16) 0) v → gs ≡ map (λ x. get_or set.second (x % 16) 0) v
+    → r ≡ first_set (mask_l (map (top 7) (zip2 bit_or (zip2 compared v fs) (zip2 compared v gs))) % 2 ^ 64) 16 → r ≡ prefix_len (λ x. not (holds set x)) v
+run_is set r v fs gs long p q is = is ∙ counted (λ x. get_or set.first (x % 16) 0) (λ x. get_or set.second (x % 16) 0) v fs gs long p q

@@ -1,0 +1,20 @@
+use Rattle.std.proofs.Common.{◌+◌, sym, arith, inl, inr}
+use Rattle.std.proofs.lemmas.Bool.{cases_lt}
+use Rattle.std.proofs.lemmas.List.Sums.{position_or_len_is}
+use Rattle.text_search.specs.Sets.{holds}
+use Rattle.text_search.proofs.set.next_of.Goals as goal
+
+pub returns-then-run-lt-LANES : goal.returns-then-run-lt-LANES
+returns-then-run-lt-LANES c =
+    let run = c.run_in-run.ensures in
+    sym (position_or_len_is (holds c.args.set) c.args.bytes.now (c.by_block.at + c.run_in-run.result) 0 (omega (arith, run.within, c.by_block.invariant.0, c.by_block-test.true))
+    (λ k below. elim (cases_lt k c.by_block.at) [ inl early ↦ c.by_block.invariant.1 k early | inr late ↦ run.passed k late below ])
+    (λ inside. run.hit c.if-run-lt-LANES.true))
+
+pub returns-else-not-holds : goal.returns-else-not-holds
+returns-else-not-holds c =
+    sym (position_or_len_is (holds c.args.set) c.args.bytes.now c.loop-at.at 0 c.loop-at.invariant.0 c.loop-at.invariant.1 (λ inside. sym c.if-not-holds.ensures))
+
+pub returns-after-loop-at : goal.returns-after-loop-at
+returns-after-loop-at c =
+    sym (position_or_len_is (holds c.args.set) c.args.bytes.now c.loop-at.at 0 c.loop-at.invariant.0 c.loop-at.invariant.1 (λ inside. absurd (omega (arith, c.loop-at-test.false, inside))))

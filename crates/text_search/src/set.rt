@@ -1,0 +1,74 @@
+//! The next byte of a set.
+ghost use Rattle.std.specs.Prelude.{◌≡◌, ℕ, ◌+◌, ◌%◌, ◌<◌, ◌≤◌, true, false, length, map, slice_index};
+ghost use Rattle.std.specs.List.{position_or_len};
+ghost use Rattle.text_search.specs.Sets.{first_set, holds};
+
+use std::simd::prelude::*;
+
+/// A set of bytes, at most two of which have the same lower half.
+#[derive(Clone, Copy)]
+pub struct ByteSet {
+    /// For each lower half, a byte of the set that has it, or any byte that doesn't.
+    pub first: [u8; 16],
+    /// The same of a second byte.
+    pub second: [u8; 16],
+}
+
+/// How many bytes are looked at together.
+const LANES: usize = 16;
+
+/// How many bytes come before the first one of a set: all of them, where there is none.
+pub fn next_of(bytes: &[u8], set: ByteSet) -> usize
+    ensures { result ≡ position_or_len (holds set) bytes.now }
+{
+    let mut at = 0;
+    'by_block: while bytes.len() - at >= LANES {
+        let run = run_in(bytes, at, set);
+        if run < LANES {
+            return at + run;
+        }
+        at += LANES;
+    }
+    while at < bytes.len() && !holds(set, bytes[at]) {
+        at += 1;
+    }
+    at
+}
+
+/// How many of the 16 bytes from a place come before the first one of a set.
+fn run_in(bytes: &[u8], at: usize, set: ByteSet) -> usize
+    requires { at + LANES ≤ length bytes.now }
+    ensures within { result ≤ LANES }
+    ensures passed { (k : ℕ) → at ≤ k → k < at + result → holds set (slice_index bytes.now k) ≡ false }
+    ensures hit { result < LANES → holds set (slice_index bytes.now (at + result)) ≡ true }
+{
+    let lanes = u8x16::from_slice(&bytes[at..]);
+    let hits = lanes.simd_eq(by_half(lanes, set.first)) | lanes.simd_eq(by_half(lanes, set.second));
+    first_set(hits.to_bitmask(), LANES)
+}
+
+/// What a table has for the lower half of each lane.
+fn by_half(lanes: u8x16, table: [u8; 16]) -> u8x16
+    ensures { result ≡ map (λ byte. slice_index table (byte % 16)) lanes }
+{
+    u8x16::from_array(table).swizzle_dyn_within::<16>(lanes & u8x16::splat(15))
+}
+
+/// The place of the first bit that is set, or how many there are.
+fn first_set(mask: u64, lanes: usize) -> usize
+    ensures { result ≡ first_set mask lanes }
+{
+    if mask == 0 {
+        lanes
+    } else {
+        mask.trailing_zeros() as usize
+    }
+}
+
+/// Whether a byte is one of a set.
+fn holds(set: ByteSet, byte: u8) -> bool
+    ensures { result ≡ holds set byte }
+{
+    let half = (byte % 16) as usize;
+    byte == set.first[half] || byte == set.second[half]
+}
