@@ -70,7 +70,8 @@ pub fn first_definition(content: &[u8], lines: &[Piece<'_>]) -> Option<Definitio
 
 /// How many lines these bytes are, with their endings. The last line may have its ending outside.
 fn lines_within(lines: &[Piece<'_>], bytes: usize) -> usize
-    ensures count { (n : ℕ) → n < length lines.now → total (take n (piece_lines lines.now)) < bytes → bytes ≤ total (take (suc n) (piece_lines lines.now)) → result ≡ suc n }
+    ensures count { (n : ℕ) → n < length lines.now → total (take n (piece_lines lines.now)) < bytes →
+        bytes ≤ total (take (suc n) (piece_lines lines.now)) → result ≡ suc n }
     ensures within { result ≤ length lines.now }
 {
     let mut left = bytes;

@@ -1,13 +1,12 @@
 -- What is shown after a leaf goes on, starts or is closed.
-use Rattle.std.proofs.Common.{◌≡◌, ℕ, suc, not, ◌+◌, ◌-◌, ◌≤◌, ◌<◌, ◌==◌, get_or, List, [], ◌∷◌, ◌++◌, Option, Bool, true, false, refl, sym, ap, ◌∙◌, subst, take, drop, length, append_assoc, arith, ltb}
+use Rattle.std.proofs.Common.{◌≡◌, ℕ, ◌+◌, ◌-◌, ◌≤◌, ◌<◌, ◌==◌, get_or, List, [], ◌∷◌, ◌++◌, Option, Bool, true, false, refl, sym, ap, ◌∙◌, subst, take, drop, length, append_assoc, arith, ltb}
 use Rattle.std.specs.Prelude.{map}
-use Rattle.std.proofs.lemmas.Bool.{cond-true, lt-ltb, le-ltb, eq-eqb, ne_eqb}
-use Rattle.std.proofs.lemmas.List.{append-nil, length-append, length-map, map-append, take_all, drop_all, take-append-le, drop-append-le, take-map, drop-map, drop-drop, take_more, take_rest, get_or-drop, length-drop, length-take, take-append-drop}
+use Rattle.std.proofs.lemmas.Bool.{lt-ltb, le-ltb, eq-eqb, ne_eqb}
+use Rattle.std.proofs.lemmas.List.{append-nil, length-append, length-map, map-append, take_all, drop_all, take-append-le, drop-append-le, take-map, drop-map, drop-drop, take_more, get_or-drop, length-drop, length-take, take-append-drop}
 use Rattle.std.proofs.lemmas.List.Sums.{sum_by-append}
 use Rattle.markdown_options.specs.declared.line_ending.LineEnding.{LineEnding}
 use Rattle.markdown_options.specs.declared.configuration.Constructs.{Constructs}
 use Rattle.definition_text.specs.Lines.{TextLine}
-use Rattle.definition_text.specs.Columns.{is_byte, bytes_of}
 use Rattle.definition_block.specs.declared.container.Container.{Container}
 use Rattle.definition_block.specs.declared.container.Container.TheVariants.{Quote, Item}
 use Rattle.block_rows.specs.declared.row.Row.{Row}

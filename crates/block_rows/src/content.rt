@@ -51,8 +51,16 @@ pub fn push_line<A: Allocator>(
 ) -> Result<(), AllocError>
     ensures { OnOk result (string_bytes content.new ≡ string_bytes content.old ++ map code_byte (replicate owed tab_column ++ text.now)) }
 {
+    push_columns(content, owed)?;
+    content.push_str(text)
+}
+
+/// A space for each column that is left of a tab.
+pub fn push_columns<A: Allocator>(content: &mut String<A>, owed: u8) -> Result<(), AllocError>
+    ensures { OnOk result (string_bytes content.new ≡ string_bytes content.old ++ replicate owed 32) }
+{
     for _ in 0..owed {
         content.push_str(" ")?;
     }
-    content.push_str(text)
+    Ok(())
 }

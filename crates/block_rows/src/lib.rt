@@ -4,5 +4,5 @@
 pub mod content;
 pub mod row;
 
-pub use content::{join_lines, push_ending, push_line};
+pub use content::{join_lines, push_columns, push_ending, push_line};
 pub use row::{Piece, Row};

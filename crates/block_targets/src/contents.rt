@@ -24,7 +24,8 @@ pub fn definition_contents<A: Allocator + Clone>(
     pieces: &[Piece<'_>],
 ) -> Result<DefinitionContents<A>, AllocError>
     requires enough { all_taken rows.now ≤ length pieces.now }
-    ensures { (bs : Blocks) → (shown rows.now (piece_lines pieces.now)).rows ≡ rows_of bs → IfOk result (λ contents. HasContents contents (document_definitions bs)) }
+    ensures { (bs : Blocks) → (shown rows.now (piece_lines pieces.now)).rows ≡ rows_of bs →
+        IfOk result (λ contents. HasContents contents (document_definitions bs)) }
 {
     let mut contents = DefinitionContents::new(alloc)?;
     let mut taken = 0;
@@ -48,7 +49,8 @@ impl<A: Allocator + Clone> DefinitionContents<A> {
     /// Reads a row. A definition takes its lines from the front of these.
     fn row(&mut self, row: Row, lines: &[Piece<'_>]) -> Result<(), AllocError>
         requires enough { lines_taken row ≤ length lines.now }
-        ensures read { (ds : List Definition) → HasContents self.old ds → OnOk result (HasContents self.new (ds ++ row_definitions (row_shown row (piece_lines lines.now)))) }
+        ensures read { (ds : List Definition) → HasContents self.old ds →
+            OnOk result (HasContents self.new (ds ++ row_definitions (row_shown row (piece_lines lines.now)))) }
     {
         match row {
             Row::Definition(count) => self.definition(&lines[..count]),
@@ -58,7 +60,8 @@ impl<A: Allocator + Clone> DefinitionContents<A> {
 
     /// Reads the definition on these lines.
     fn definition(&mut self, lines: &[Piece<'_>]) -> Result<(), AllocError>
-        ensures read { (ds : List Definition) → HasContents self.old ds → OnOk result (HasContents self.new (ds ++ alone (definition_on (piece_lines lines.now)) ∷ [])) }
+        ensures read { (ds : List Definition) → HasContents self.old ds →
+            OnOk result (HasContents self.new (ds ++ alone (definition_on (piece_lines lines.now)) ∷ [])) }
     {
         let mut text = String::new(self.alloc.clone()?);
         join_lines(&mut text, lines)?;

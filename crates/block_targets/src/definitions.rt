@@ -46,7 +46,8 @@ impl<'c, A: Allocator + Clone> Definitions<'c, A> {
 
     /// Reads the definition that a content is.
     fn read(&mut self, content: &'c str) -> Result<(), AllocError>
-        ensures { (ds : List Definition) → HasDefinitions self.old ds → OnOk result (HasDefinitions self.new (ds ++ alone (definition_at (content_codes content.now)) ∷ [])) }
+        ensures { (ds : List Definition) → HasDefinitions self.old ds →
+            OnOk result (HasDefinitions self.new (ds ++ alone (definition_at (content_codes content.now)) ∷ [])) }
     {
         let definition = read_definition(content);
         self.labels.insert(definition.label, self.links.len())?;

@@ -8,8 +8,6 @@ pub mod filter;
 pub mod html;
 pub mod laws;
 mod replaced;
-#[cfg(test)]
-mod tests;
 pub mod url;
 
 pub use encode::push_encoded;

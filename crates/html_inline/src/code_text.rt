@@ -1,8 +1,8 @@
-//! The text of code spans (CommonMark 6.1).
+//! Code spans (CommonMark 6.1).
 //!
 //! A line ending is a space. Without one space at each end, where there are both and something
 //! between.
-ghost use Rattle.std.specs.Prelude.{◌≡◌, ◌==◌, ◌++◌, ◌<◌, IfOk, OnOk, length, not, string_bytes};
+ghost use Rattle.std.specs.Prelude.{◌≡◌, ◌==◌, ◌++◌, ◌<◌, IfOk, OnOk, codes, length, not, string_bytes};
 ghost use Rattle.std.specs.List.{list_any, prefix_len};
 ghost use Rattle.definition_inline.specs.CodeText.{code_text, is_padded, unpadded};
 ghost use Rattle.definition_text.specs.Content.{content_codes};
@@ -11,8 +11,21 @@ ghost use Rattle.html_inline.specs.CodeBytes.{is_in_line, spaced};
 
 use html_escape::push_encoded;
 use inline_leaves::cut::{cut_after, text_before};
-use inline_leaves::space::ending_at;
+use inline_leaves::line_ending::ending_at;
 use std::alloc::{AllocError, Allocator};
+
+/// Prints a code span (CommonMark 6.1).
+pub(crate) fn push_code_span<A: Allocator>(
+    out: &mut String<A>,
+    room: &mut String<A>,
+    code: &str,
+) -> Result<(), AllocError>
+    ensures { OnOk result (string_bytes out.new ≡ string_bytes out.old ++ (codes "<code>" ++ encode (code_text (content_codes code.now)) ++ codes "</code>")) }
+{
+    out.push_str("<code>")?;
+    push_code(out, room, code)?;
+    out.push_str("</code>")
+}
 
 /// Prints the text of a code span. `spaces` is used for its text with spaces for line endings.
 pub(crate) fn push_code<A: Allocator>(

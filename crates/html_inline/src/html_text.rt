@@ -11,7 +11,8 @@ ghost use Rattle.html_inline.specs.HtmlBytes.{first_bytes, PrintsEnding};
 use crate::code_text::line_size;
 use html_escape::push_html;
 use inline_leaves::cut::{cut_after, text_before};
-use inline_leaves::space::{ending_at, white_size};
+use inline_leaves::line_ending::ending_at;
+use inline_leaves::space::white_size;
 use markdown_options::CompileOptions;
 use std::alloc::{AllocError, Allocator};
 

@@ -1,22 +1,17 @@
 //! The constructs that hold no other.
-ghost use Rattle.std.specs.Prelude.{◌≡◌, ◌++◌, ℕ, List, Option, OnOk, codes, string_bytes};
+ghost use Rattle.std.specs.Prelude.{◌≡◌, ◌++◌, ℕ, List, Option, OnOk, string_bytes};
 ghost use Rattle.std.specs.List.{flat_map};
-ghost use Rattle.definition_inline.specs.CodeText.{code_text};
-ghost use Rattle.definition_text.specs.Content.{content_codes};
-ghost use Rattle.definition_text.specs.Encode.{encode};
 ghost use Rattle.definition_inline.specs.Inline as inline;
-ghost use Rattle.definition_page.specs.InlinePieces.{address};
 ghost use Rattle.html_bytes.specs.InlineHtml.{part_description, part_html};
-ghost use Rattle.html_bytes.specs.Meaning.{inline_meaning, link_url};
+ghost use Rattle.html_bytes.specs.Meaning.{inline_meaning};
 ghost use Rattle.inline_leaves.specs.Leaves.{parts_of};
 
-use crate::code_text::push_code;
+use crate::autolink::push_autolink;
+use crate::character_reference::push_number;
+use crate::code_text::{push_code, push_code_span};
 use crate::form::Form;
 use crate::html_text::push_html_text;
-use crate::number::push_number;
 use crate::printing::Printing;
-use crate::url::push_link_url;
-use html_escape::push_encoded;
 use inline_leaves::LeafPart;
 use markdown_options::{CompileOptions, Tables};
 use std::alloc::{AllocError, Allocator};
@@ -70,50 +65,4 @@ pub(crate) fn push_leaf<A: Allocator, T: Tables>(
         LeafPart::TrailingBreak => out.push_str("<br />"),
         LeafPart::Spaces => Ok(()),
     }
-}
-
-/// Prints a code span (CommonMark 6.1).
-fn push_code_span<A: Allocator>(
-    out: &mut String<A>,
-    room: &mut String<A>,
-    code: &str,
-) -> Result<(), AllocError>
-    ensures { OnOk result (string_bytes out.new ≡ string_bytes out.old ++ (codes "<code>" ++ encode (code_text (content_codes code.now)) ++ codes "</code>")) }
-{
-    out.push_str("<code>")?;
-    push_code(out, room, code)?;
-    out.push_str("</code>")
-}
-
-/// Prints an autolink (CommonMark 6.5). `room` is used for its URL.
-fn push_autolink<A: Allocator>(
-    out: &mut String<A>,
-    room: &mut String<A>,
-    compile: &CompileOptions,
-    email: bool,
-    text: &str,
-) -> Result<(), AllocError>
-    ensures { OnOk result (string_bytes out.new ≡ string_bytes out.old ++ (codes "<a href=\"" ++ link_url compile.now (address email text.now) ++ codes "\">" ++ encode text.now ++ codes "</a>")) }
-{
-    read_address(room, email, text)?;
-    out.push_str("<a href=\"")?;
-    push_link_url(out, compile, room.as_str())?;
-    out.push_str("\">")?;
-    push_encoded(out, text)?;
-    out.push_str("</a>")
-}
-
-/// Reads the address that an autolink leads to (CommonMark 6.5).
-fn read_address<A: Allocator>(
-    room: &mut String<A>,
-    email: bool,
-    text: &str,
-) -> Result<(), AllocError>
-    ensures { OnOk result (string_bytes room.new ≡ address email text.now) }
-{
-    room.clear();
-    if email {
-        room.push_str("mailto:")?;
-    }
-    room.push_str(text)
 }

@@ -1,12 +1,13 @@
 //! Inline structure to HTML (CommonMark 6).
 #![tactic(auto)]
 
+pub mod autolink;
+pub mod character_reference;
 pub mod code_text;
 pub mod form;
 pub mod html_text;
 pub mod label_end;
 pub mod leaf;
-pub mod number;
 pub mod printing;
 pub mod rows;
 mod stack;

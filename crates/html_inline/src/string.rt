@@ -12,13 +12,13 @@ ghost use Rattle.inline_leaves.specs.Leaves.{IsAfter, found_leaf, parts_of};
 ghost use Rattle.html_inline.specs.Forms.{formed};
 ghost use Rattle.html_inline.specs.Kept.{is_ink, kept_size, text_of};
 
+use crate::character_reference::push_number;
 use crate::form::{Form, push_formed};
-use crate::number::push_number;
 use inline_leaves::character_escape::escape_at;
 use inline_leaves::character_reference::reference_at;
 use inline_leaves::cut::{cut_after, text_before};
-use inline_leaves::hard_break::line_end_at;
-use inline_leaves::space::{ending_at, white_size};
+use inline_leaves::line_ending::{ending_at, line_end_at};
+use inline_leaves::space::white_size;
 use inline_leaves::{Leaf, LeafPart};
 use inline_links::part::from;
 use markdown_options::{Constructs, Tables};

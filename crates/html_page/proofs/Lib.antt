@@ -1,6 +1,6 @@
 pub mod Owed
 pub mod Lines
-pub mod Fenced
+pub mod CodeFencedLemmas
 pub mod Ahead
 pub mod Places
 pub mod Past
@@ -10,5 +10,5 @@ pub mod RowSteps
 pub mod Backward
 pub mod LastRow
 pub mod Choose
-pub mod Markers
+pub mod ListItemLemmas
 pub mod Printable

@@ -1,5 +1,5 @@
 -- The lines of a block.
-use Rattle.std.proofs.Common.{◌≡◌, ◌≤◌, arith, length, get_or, List, [], ◌∷◌, refl}
+use Rattle.std.proofs.Common.{◌≡◌, ◌≤◌, arith, take, length, get_or, List, [], ◌∷◌, refl}
 use Rattle.block_rows.specs.declared.row.Piece.{Piece}
 use Rattle.block_rows.specs.ParagraphLines.{AreLines}
 use Rattle.block_rows.specs.Rows.{first_codes, piece_line, piece_lines}
@@ -10,6 +10,10 @@ use Rattle.html_page.specs.Printable.{AreHeadingLines}
 pub first_codes_of : (pieces : List Piece) (d : Piece) → 1 ≤ length pieces → first_codes (piece_lines pieces) ≡ (piece_line (get_or pieces 0 d)).codes
 first_codes_of [] d some = absurd (omega (arith, some))
 first_codes_of (a ∷ others) d some = refl
+
+pub first_line : (pieces : List Piece) (d : Piece) → 1 ≤ length pieces → take 1 (piece_lines pieces) ≡ piece_line (get_or pieces 0 d) ∷ []
+first_line [] d some = absurd (omega (arith, some))
+first_line (a ∷ others) d some = refl
 
 -- one line
 pub one_line : (pieces : List Piece) (d : Piece) → length pieces ≡ 1 → piece_lines pieces ≡ piece_line (get_or pieces 0 d) ∷ []

@@ -1,8 +1,7 @@
 -- Columns that are left of a tab, before the bytes of a line.
-use Rattle.std.proofs.Common.{◌≡◌, ℕ, ◌+◌, ◌-◌, ◌<◌, zero, suc, List, [], ◌∷◌, ◌++◌, true, false, not, refl, ap, ◌∙◌, take, drop, length, get_or, arith}
+use Rattle.std.proofs.Common.{◌≡◌, ℕ, ◌+◌, ◌-◌, ◌<◌, zero, suc, List, ◌∷◌, ◌++◌, true, false, refl, ap, ◌∙◌, take, drop, length, get_or, arith}
 use Rattle.std.specs.Prelude.{map, replicate}
 use Rattle.std.specs.List.{prefix_len, suffix_len, list_all}
-use Rattle.std.proofs.lemmas.Bool.{ne_eqb, cond-true}
 use Rattle.definition_text.specs.Columns.{code_byte, tab_column, is_byte, bytes_of, is_white, trimmed}
 use Rattle.definition_text.specs.Encode.{encode}
 use Rattle.block_rows.proofs.Pieces.{only_bytes}

@@ -36,7 +36,7 @@ use Rattle.block_rows.specs.declared.row.Row.{Row}
 use Rattle.html_page.specs.Printable.{IsPrintableContainer, IsPrintable, ArePrintable, CanBePrinted}
 use Rattle.html_page.proofs.Choose.{choose_if, choose}
 use Rattle.html_page.proofs.Lines.{without_ending, heading_lines}
-use Rattle.html_page.proofs.Markers.{StartFits, starts_fits}
+use Rattle.html_page.proofs.ListItemLemmas.{StartFits, starts_fits}
 use Rattle.html_page.proofs.RowsOf.{printable_rows_of}
 
 -- ---- infos are bytes

@@ -8,7 +8,7 @@ ghost use Rattle.block_rows.specs.Rows.{piece_lines};
 ghost use Rattle.html_page.specs.Prints.{Prints};
 
 use crate::page::Page;
-use block_rows::Piece;
+use block_rows::{Piece, push_columns};
 use html_escape::push_encoded;
 use std::alloc::{AllocError, Allocator};
 
@@ -32,8 +32,6 @@ impl<A: Allocator + Clone> Page<A> {
 fn push_code<A: Allocator>(out: &mut String<A>, owed: u8, text: &str) -> Result<(), AllocError>
     ensures { OnOk result (string_bytes out.new ≡ string_bytes out.old ++ encode (map code_byte (replicate owed tab_column ++ text.now))) }
 {
-    for _ in 0..owed {
-        out.push_str(" ")?;
-    }
+    push_columns(out, owed)?;
     push_encoded(out, text)
 }

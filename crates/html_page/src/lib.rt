@@ -7,6 +7,8 @@ pub mod code_indented;
 pub mod code_lines;
 pub mod container;
 pub mod heading;
+pub mod heading_atx;
+pub mod heading_setext;
 pub mod html_flow;
 pub mod level;
 pub mod list;

@@ -49,8 +49,8 @@ impl<A: Allocator + Clone> Page<A> {
             Row::WholeParagraph(count) => {
                 self.whole_paragraph(texts, level.tight, count, lines[0].text)
             }
-            Row::Heading(rank) => self.heading(texts, rank, &lines[..1]),
-            Row::SetextHeading { rank, count } => self.heading(texts, rank, &lines[..count]),
+            Row::Heading(rank) => self.heading_atx(texts, rank, &lines[0]),
+            Row::SetextHeading { rank, count } => self.heading_setext(texts, rank, &lines[..count]),
             Row::Break => self.thematic_break(),
             Row::IndentedCode(count) => self.indented_code(&lines[..count]),
             Row::FencedCode(count) => {

@@ -99,7 +99,8 @@ impl<'a, T: Tables, A: Allocator + Clone> Texts<'a, T, A> {
     ) -> Result<(), AllocError>
         ensures { (ds : List Definition) → HasDefinitions self.now.labels.now self.now.links.now ds →
             let d = document_by T.Tables self.now ds in
-            OnOk result (string_bytes out.new ≡ string_bytes out.old ++ inline_html (meaning_of d) (inlines (context_of d) (content_view (T.punctuation_of self.now.tables.now) content.entry))) }
+            let structure = inlines (context_of d) (content_view (T.punctuation_of self.now.tables.now) content.entry) in
+            OnOk result (string_bytes out.new ≡ string_bytes out.old ++ inline_html (meaning_of d) structure) }
     {
         let constructs = &self.options.parse.constructs;
         let rows = inline_rows(alloc, constructs, self.tables, self.labels, content)?;

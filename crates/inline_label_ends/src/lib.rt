@@ -2,8 +2,6 @@
 #![tactic(auto)]
 
 pub mod forms;
-#[cfg(test)]
-mod tests;
 mod text;
 
 pub use forms::{LabelEnd, label_end};

@@ -3,8 +3,6 @@
 
 pub mod label;
 pub mod table;
-#[cfg(test)]
-mod tests;
 mod words;
 
 pub use label::{normalize_identifier, normalize_label};

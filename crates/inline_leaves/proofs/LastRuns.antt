@@ -7,7 +7,7 @@ use Rattle.definition_text.specs.Runs.{run}
 use Rattle.definition_inline.specs.CodeText.{run_of}
 use Rattle.inline_leaves.specs.LastRuns.{last_end}
 use Rattle.inline_leaves.specs.Leaves.{IsRun}
-use Rattle.inline_leaves.specs.declared.backticks.LastRun.{LastRun}
+use Rattle.inline_leaves.specs.declared.raw_text.LastRun.{LastRun}
 use Rattle.inline_leaves.proofs.CodeTextLemmas.{past_here, run_there}
 
 -- ---- a list of runs

@@ -1,5 +1,6 @@
 pub mod AutolinkLemmas
-pub mod HardBreakLemmas
+pub mod HardBreakTrailingLemmas
+pub mod LineEndingLemmas
 pub mod CodeTextLemmas
 pub mod Codes
 pub mod Endings

@@ -2,7 +2,7 @@
 use Rattle.std.specs.Prelude.{◌≡◌, ◌<◌, ◌≤◌, ◌==◌, ℕ, false, nat_lt, if◌then◌else◌, List, [], ◌∷◌, None, drop, length}
 use Rattle.definition_inline.specs.CodeText.{run_of}
 use Rattle.definition_text.specs.Runs.{run}
-use Rattle.inline_leaves.specs.declared.backticks.LastRun.{LastRun}
+use Rattle.inline_leaves.specs.declared.raw_text.LastRun.{LastRun}
 
 -- where the last run of a size ends, by a list that is ascending by size; 0 if there is none
 abbrev pub last_end : List LastRun → ℕ → ℕ

@@ -15,7 +15,7 @@ use Rattle.definition_inline.specs.Inline as inline
 use Rattle.definition_inline.specs.Inline.{Inline}
 use Rattle.inline_links.specs.Codes.{IsCut}
 use Rattle.inline_leaves.specs.declared.leaf.Leaf.{Leaf}
-use Rattle.inline_leaves.specs.declared.space.Ending.{Ending}
+use Rattle.inline_leaves.specs.declared.line_ending.Ending.{Ending}
 use Rattle.inline_leaves.specs.declared.leaf.LeafPart.{LeafPart}
 use Rattle.inline_leaves.specs.declared.leaf.LeafPart.TheVariants.{Escape, Character, Number, Code, Backticks, Autolink, Html, EscapedBreak, TrailingBreak, LineEnd, Spaces}
 

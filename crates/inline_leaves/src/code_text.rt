@@ -9,9 +9,9 @@ ghost use Rattle.definition_text.specs.Content.{content_codes};
 ghost use Rattle.inline_links.specs.Codes.{IsRest};
 ghost use Rattle.inline_leaves.specs.Leaves.{found_leaf, IsAfter};
 
-use crate::backticks::run_size;
 use crate::cut::{cut_after, text_before};
 use crate::leaf::{Leaf, LeafPart};
+use crate::raw_text::run_size;
 use crate::searches::Searches;
 use markdown_options::Constructs;
 use std::alloc::{AllocError, Allocator};

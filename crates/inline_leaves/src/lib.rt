@@ -2,19 +2,19 @@
 #![tactic(auto)]
 
 pub mod autolink;
-pub mod backticks;
 pub mod byte_class;
 pub mod character_escape;
 pub mod character_reference;
 pub mod code_text;
 pub mod cut;
-pub mod hard_break;
+pub mod hard_break_escape;
+pub mod hard_break_trailing;
 pub mod html_text;
 pub mod leaf;
 pub mod leaf_at;
+pub mod line_ending;
+pub mod raw_text;
 pub mod searches;
 pub mod space;
-#[cfg(test)]
-mod tests;
 
 pub use leaf::{Leaf, LeafPart};

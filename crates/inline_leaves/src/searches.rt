@@ -7,10 +7,10 @@ ghost use Rattle.inline_leaves.specs.HtmlText.{html_after, ClosesText};
 ghost use Rattle.inline_leaves.specs.LastRuns.{AreLastRuns};
 ghost use Rattle.inline_leaves.specs.Searched.{Lacks};
 
-use crate::backticks::{LastRun, closing_run, last_end, last_runs};
 use crate::byte_class::begins_with_letter;
 use crate::html_text::{html_text_at, text_end};
 use crate::leaf::Leaf;
+use crate::raw_text::{LastRun, closing_run, last_end, last_runs};
 use inline_links::part::from;
 use markdown_options::Constructs;
 use std::alloc::{AllocError, Allocator};

@@ -53,12 +53,14 @@ replaced_text : replacement_character ≡ encode_utf8 0xFFFD
 unfolding lib.Utf8.encode
 replaced_text = refl
 
-pub same_text : (radix : ℕ) (digits : List ℕ) → numbered_text (number_of radix digits) ≡ numeric_text radix digits
-same_text radix digits =
-    let n = digits_value radix digits in
-    ap numbered_text (same_number radix digits)
-    ∙ ap (λ b. cond b replacement_character (encode_utf8 n)) (same_replaced n)
+-- the text of a number is its character
+pub number_text : (n : ℕ) → numbered_text n ≡ encode_utf8 (values.character_of n)
+number_text n =
+    ap (λ b. cond b replacement_character (encode_utf8 n)) (same_replaced n)
     ∙ elim (values.is_replaced n) as (λ b. cond b replacement_character (encode_utf8 n) ≡ encode_utf8 (cond b 0xFFFD n)) [ true ↦ replaced_text | false ↦ refl ]
+
+pub same_text : (radix : ℕ) (digits : List ℕ) → numbered_text (number_of radix digits) ≡ numeric_text radix digits
+same_text radix digits = ap numbered_text (same_number radix digits) ∙ number_text (digits_value radix digits)
 
 -- ---- forms
 

@@ -12,8 +12,6 @@ pub mod decode;
 pub mod laws;
 pub mod parse;
 pub mod reference;
-#[cfg(test)]
-mod tests;
 pub mod value;
 
 pub use builtin::builtin_reference;

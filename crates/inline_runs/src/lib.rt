@@ -7,8 +7,6 @@ mod pairing;
 mod pairs;
 mod run;
 mod spans;
-#[cfg(test)]
-mod tests;
 
 pub use pair::{Pair, Span};
 pub use pairing::{Pairing, pair_runs};

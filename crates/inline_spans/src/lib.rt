@@ -3,7 +3,5 @@
 #![tactic(auto)]
 
 mod tell;
-#[cfg(test)]
-mod tests;
 
 pub use tell::tell_apart;

@@ -4,31 +4,31 @@ ghost use Rattle.laws_block.specs.Plain.{OnlyPlain};
 
 /// Where block quotes are off, no text has a quote.
 #[tactic(auto, using(crate::proofs::Occurs::no_quotes))]
-pub fn quote_law()
+pub fn block_quote_law()
     ensures { NoQuotes }
 {}
 
 /// Where list items are off, no text has an item.
 #[tactic(auto, using(crate::proofs::Occurs::no_items))]
-pub fn item_law()
+pub fn list_item_law()
     ensures { NoItems }
 {}
 
 /// Where indented code is off, no text has it.
 #[tactic(auto, using(crate::proofs::Occurs::no_indented_code))]
-pub fn indented_code_law()
+pub fn code_indented_law()
     ensures { NoIndentedCode }
 {}
 
 /// Where fenced code is off, no text has it.
 #[tactic(auto, using(crate::proofs::Occurs::no_fenced_code))]
-pub fn fenced_code_law()
+pub fn code_fenced_law()
     ensures { NoFencedCode }
 {}
 
 /// Where HTML blocks are off, no text has one.
 #[tactic(auto, using(crate::proofs::Occurs::no_html))]
-pub fn html_law()
+pub fn html_flow_law()
     ensures { NoHtml }
 {}
 

@@ -1,8 +1,8 @@
 //! Laws of the definition of inline structure: what follows from it for every content.
 #![tactic(auto)]
 
+pub mod attention;
+pub mod character_escape;
 pub mod constructs;
-pub mod emphasis;
-pub mod escapes;
+pub mod label_start_link;
 pub mod labels;
-pub mod links;

@@ -1,7 +1,7 @@
 //! Block quotes (CommonMark 5.1): texts and their HTML.
-use crate::compare::{blocks, prints};
 use markdown::RunError;
 use std::alloc::{AllocError, Global};
+use tests_helpers::{blocks, first_wrong};
 
 /// Block quotes.
 const QUOTES: [(&str, &str); 35] = [
@@ -128,7 +128,8 @@ const QUOTES: [(&str, &str); 35] = [
 
 #[test]
 fn prints_quotes(rt: HostRuntime) -> Result<(), RunError> {
-    prints(&rt, &QUOTES, &blocks())
+    assert_eq!(rt; first_wrong(rt.alloc(), &QUOTES, &blocks())?, None);
+    Ok(())
 }
 
 /// A text in so many quotes, and its HTML.
@@ -151,6 +152,12 @@ fn in_quotes(alloc: Global, depth: usize) -> Result<(String, String), AllocError
 fn prints_a_thousand_quotes(rt: HostRuntime) -> Result<(), RunError> {
     match in_quotes(rt.alloc(), 1000) {
         Err(_) => Err(RunError::Memory),
-        Ok((text, want)) => prints(&rt, &[(text.as_str(), want.as_str())], &blocks()),
+        Ok((text, want)) => {
+            assert_eq!(rt;
+                first_wrong(rt.alloc(), &[(text.as_str(), want.as_str())], &blocks())?,
+                None
+            );
+            Ok(())
+        }
     }
 }

@@ -2,8 +2,8 @@
 ghost use Rattle.std.specs.Prelude.{◌≡◌, true};
 ghost use Rattle.markdown_options.specs.Built.{is_built};
 
-use crate::compare::{blocks, prints};
 use markdown::{Options, RunError};
+use tests_helpers::{blocks, first_wrong};
 
 /// What a definition is.
 const DEFINITIONS: [(&str, &str); 27] = [
@@ -148,15 +148,21 @@ fn without_definitions() -> Options
 
 #[test]
 fn prints_definitions(rt: HostRuntime) -> Result<(), RunError> {
-    prints(&rt, &DEFINITIONS, &blocks())
+    assert_eq!(rt; first_wrong(rt.alloc(), &DEFINITIONS, &blocks())?, None);
+    Ok(())
 }
 
 #[test]
 fn prints_what_definitions_leave(rt: HostRuntime) -> Result<(), RunError> {
-    prints(&rt, &CUTS, &blocks())
+    assert_eq!(rt; first_wrong(rt.alloc(), &CUTS, &blocks())?, None);
+    Ok(())
 }
 
 #[test]
 fn prints_definitions_as_text(rt: HostRuntime) -> Result<(), RunError> {
-    prints(&rt, &TEXTS, &without_definitions())
+    assert_eq!(rt;
+        first_wrong(rt.alloc(), &TEXTS, &without_definitions())?,
+        None
+    );
+    Ok(())
 }

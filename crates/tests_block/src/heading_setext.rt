@@ -1,6 +1,6 @@
 //! Setext headings (CommonMark 4.3): texts and their HTML.
-use crate::compare::{blocks, prints};
 use markdown::RunError;
+use tests_helpers::{blocks, first_wrong};
 
 /// Setext headings.
 const HEADINGS: [(&str, &str); 32] = [
@@ -73,5 +73,6 @@ const HEADINGS: [(&str, &str); 32] = [
 
 #[test]
 fn prints_headings(rt: HostRuntime) -> Result<(), RunError> {
-    prints(&rt, &HEADINGS, &blocks())
+    assert_eq!(rt; first_wrong(rt.alloc(), &HEADINGS, &blocks())?, None);
+    Ok(())
 }

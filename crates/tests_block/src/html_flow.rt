@@ -1,6 +1,6 @@
 //! HTML blocks (CommonMark 4.6): texts and their HTML.
-use crate::compare::{blocks, prints};
 use markdown::RunError;
+use tests_helpers::{blocks, first_wrong};
 
 /// Where raw HTML is printed as text.
 const TEXT: [(&str, &str); 50] = [
@@ -328,14 +328,16 @@ const FILTERED: [(&str, &str); 6] = [
 
 #[test]
 fn prints_html_as_text(rt: HostRuntime) -> Result<(), RunError> {
-    prints(&rt, &TEXT, &blocks())
+    assert_eq!(rt; first_wrong(rt.alloc(), &TEXT, &blocks())?, None);
+    Ok(())
 }
 
 #[test]
 fn prints_raw_html(rt: HostRuntime) -> Result<(), RunError> {
     let mut options = blocks();
     options.compile.allow_dangerous_html = true;
-    prints(&rt, &RAW, &options)
+    assert_eq!(rt; first_wrong(rt.alloc(), &RAW, &options)?, None);
+    Ok(())
 }
 
 #[test]
@@ -343,5 +345,6 @@ fn filters_tags(rt: HostRuntime) -> Result<(), RunError> {
     let mut options = blocks();
     options.compile.allow_dangerous_html = true;
     options.compile.gfm_tagfilter = true;
-    prints(&rt, &FILTERED, &options)
+    assert_eq!(rt; first_wrong(rt.alloc(), &FILTERED, &options)?, None);
+    Ok(())
 }

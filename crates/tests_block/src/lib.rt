@@ -8,8 +8,6 @@ mod code_fenced;
 #[cfg(test)]
 mod code_indented;
 #[cfg(test)]
-mod compare;
-#[cfg(test)]
 mod definition;
 #[cfg(test)]
 mod heading_atx;

@@ -1,6 +1,6 @@
 //! List items and lists (CommonMark 5.2 and 5.3): texts and their HTML.
-use crate::compare::{blocks, prints};
 use markdown::RunError;
+use tests_helpers::{blocks, first_wrong};
 
 /// Single items.
 const ITEMS: [(&str, &str); 40] = [
@@ -339,15 +339,18 @@ const NO_ITEMS: [(&str, &str); 6] = [
 
 #[test]
 fn prints_no_items(rt: HostRuntime) -> Result<(), RunError> {
-    prints(&rt, &NO_ITEMS, &blocks())
+    assert_eq!(rt; first_wrong(rt.alloc(), &NO_ITEMS, &blocks())?, None);
+    Ok(())
 }
 
 #[test]
 fn prints_items(rt: HostRuntime) -> Result<(), RunError> {
-    prints(&rt, &ITEMS, &blocks())
+    assert_eq!(rt; first_wrong(rt.alloc(), &ITEMS, &blocks())?, None);
+    Ok(())
 }
 
 #[test]
 fn prints_lists(rt: HostRuntime) -> Result<(), RunError> {
-    prints(&rt, &LISTS, &blocks())
+    assert_eq!(rt; first_wrong(rt.alloc(), &LISTS, &blocks())?, None);
+    Ok(())
 }

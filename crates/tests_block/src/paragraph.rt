@@ -1,6 +1,6 @@
 //! Paragraphs (CommonMark 4.8): texts and their HTML.
-use crate::compare::{blocks, prints};
 use markdown::RunError;
+use tests_helpers::{blocks, first_wrong};
 
 /// Paragraphs, or nothing.
 const PARAGRAPHS: [(&str, &str); 5] = [
@@ -13,5 +13,6 @@ const PARAGRAPHS: [(&str, &str); 5] = [
 
 #[test]
 fn prints_paragraphs(rt: HostRuntime) -> Result<(), RunError> {
-    prints(&rt, &PARAGRAPHS, &blocks())
+    assert_eq!(rt; first_wrong(rt.alloc(), &PARAGRAPHS, &blocks())?, None);
+    Ok(())
 }

@@ -1,6 +1,6 @@
 //! Thematic breaks (CommonMark 4.1): texts and their HTML.
-use crate::compare::{blocks, prints};
 use markdown::RunError;
+use tests_helpers::{blocks, first_wrong};
 
 /// Thematic breaks.
 const BREAKS: [(&str, &str); 2] = [
@@ -13,5 +13,6 @@ const BREAKS: [(&str, &str); 2] = [
 
 #[test]
 fn prints_breaks(rt: HostRuntime) -> Result<(), RunError> {
-    prints(&rt, &BREAKS, &blocks())
+    assert_eq!(rt; first_wrong(rt.alloc(), &BREAKS, &blocks())?, None);
+    Ok(())
 }

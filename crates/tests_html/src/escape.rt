@@ -1,16 +1,17 @@
-//! What the tools make of texts.
-use crate::{encode, gfm_tagfilter, sanitize, sanitize_with_protocols};
+//! Texts, raw HTML and URLs: what the tools make of them.
+use html_escape::encode::encode;
+use html_escape::{gfm_tagfilter, sanitize, sanitize_with_protocols};
 use std::test::Fail;
 
 #[test]
 fn texts(rt: HostRuntime) -> Result<(), Fail> {
     let text = "I <3 \"🦀\" & é>\0";
-    let encoded = encode::encode(rt.alloc(), text, true)?;
+    let encoded = encode(rt.alloc(), text, true)?;
     assert_eq!(rt;
         encoded.as_str(),
         "I &lt;3 &quot;🦀&quot; &amp; é&gt;\u{FFFD}"
     );
-    let kept = encode::encode(rt.alloc(), text, false)?;
+    let kept = encode(rt.alloc(), text, false)?;
     assert_eq!(rt; kept.as_str(), "I <3 \"🦀\" & é>\u{FFFD}");
     Ok(())
 }

@@ -1,7 +1,7 @@
 //! Readers and writers that give and take little, and fail.
-use crate::compare::plain;
 use markdown::{Builtin, RunError, Watched, run};
 use std::io::{self, Read, Write};
+use tests_helpers::plain;
 
 /// A device that moves at most so many bytes a call. After some calls it fails to read, and takes
 /// nothing. A stuck one can't be flushed.

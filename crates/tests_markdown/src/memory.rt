@@ -1,8 +1,8 @@
 //! Memory that runs out.
-use crate::compare::plain;
 use linked_list_allocator::LocalHeap;
 use markdown::{fits, to_html_with_options};
 use std::io;
+use tests_helpers::plain;
 
 #[test]
 fn prints_in_a_small_heap(rt: HostRuntime) -> io::Result<()> {

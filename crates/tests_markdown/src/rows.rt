@@ -2,8 +2,8 @@
 ghost use Rattle.std.specs.Prelude.{◌≡◌, true};
 ghost use Rattle.markdown_options.specs.Built.{is_built};
 
-use crate::compare::{plain, prints};
-use markdown::{Builtin, Message, Options, RunError, Watched, run};
+use markdown::{Builtin, Options, RunError, Watched, run};
+use tests_helpers::{first_wrong, plain};
 
 /// Texts and their HTML, with every construct off.
 const PLAIN: [(&str, &str); 20] = [
@@ -134,13 +134,15 @@ fn leaves() -> Options
 }
 
 #[test]
-fn prints_leaf_rows(rt: HostRuntime) -> Result<(), Message> {
-    prints(&rt, &LEAVES, &leaves())
+fn prints_leaf_rows(rt: HostRuntime) -> Result<(), RunError> {
+    assert_eq!(rt; first_wrong(rt.alloc(), &LEAVES, &leaves())?, None);
+    Ok(())
 }
 
 #[test]
-fn prints_plain_rows(rt: HostRuntime) -> Result<(), Message> {
-    prints(&rt, &PLAIN, &plain())
+fn prints_plain_rows(rt: HostRuntime) -> Result<(), RunError> {
+    assert_eq!(rt; first_wrong(rt.alloc(), &PLAIN, &plain())?, None);
+    Ok(())
 }
 
 #[test]

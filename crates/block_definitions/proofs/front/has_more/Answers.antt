@@ -1,7 +1,6 @@
 use Rattle.std.proofs.Common.{◌≡◌, ◌-◌, ℕ, ltb, List, None, length, drop, take, sym, ap, ◌∙◌, subst, arith}
-use Rattle.std.proofs.lemmas.List.{length-map, drop-map, take_rest}
+use Rattle.std.proofs.lemmas.List.{length-map, take_rest}
 use Rattle.block_rows.proofs.Pieces.{lines_from}
-use Rattle.block_rows.specs.declared.row.Piece.{Piece}
 use Rattle.definition_text.specs.BlockLines.{BlockLine, own_lines}
 use Rattle.definition_text.specs.Content.{content_of, content_text}
 use Rattle.definition_block.specs.Definitions.{Cut, cut_most}

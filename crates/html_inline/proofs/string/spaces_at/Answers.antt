@@ -1,6 +1,6 @@
 use Rattle.std.proofs.Common.{arith, subst}
 use Rattle.inline_leaves.specs.Leaves.{IsWhite}
-use Rattle.inline_leaves.proofs.HardBreakLemmas.{white_end}
+use Rattle.inline_leaves.proofs.HardBreakTrailingLemmas.{white_end}
 use Rattle.html_inline.proofs.string.spaces_at.Goals as goal
 
 pub cut_after-requires : goal.cut_after-requires

@@ -2,7 +2,7 @@ use Rattle.std.proofs.Common.{◌≡◌, arith, length}
 use Rattle.std.proofs.lemmas.Grind.{common_steps}
 use Rattle.std.specs.List.{prefix_len}
 use Rattle.definition_text.specs.Columns.{is_white}
-use Rattle.inline_leaves.proofs.HardBreakLemmas.{is_white_size}
+use Rattle.inline_leaves.proofs.HardBreakTrailingLemmas.{is_white_size}
 use Rattle.inline_leaves.proofs.space.white_size.Goals as goal
 
 pub returns-then-not-is_white-clause-codes : goal.returns-then-not-is_white-clause-codes

@@ -1,6 +1,6 @@
 use Rattle.std.proofs.Common.{◌≡◌, ℕ, zero, suc, ◌<◌, subst, refl, arith}
 use Rattle.inline_leaves.specs.Leaves.{IsWhite}
-use Rattle.inline_leaves.proofs.HardBreakLemmas.{white_end}
+use Rattle.inline_leaves.proofs.HardBreakTrailingLemmas.{white_end}
 use Rattle.inline_parser.proofs.scan.after_white.Goals as goal
 
 some_of : (n : ℕ) → (n ≡ 0 → ⊥) → 0 < n

@@ -8,7 +8,7 @@ use Rattle.definition_block.specs.Tree.{Blocks, Definition, Text, join}
 use Rattle.definition_block.specs.Definitions.{Cut}
 use Rattle.block_parser.specs.Spine.{spine}
 use Rattle.block_parser.specs.View.{HasRead}
-use Rattle.block_parser.proofs.Definitions.{Cutting, none_yet, ends_as, row_of_definition, one_more, all_cut}
+use Rattle.block_parser.proofs.DefinitionLemmas.{Cutting, none_yet, ends_as, row_of_definition, one_more, all_cut}
 use Rattle.block_parser.proofs.Leaves as leaves
 use Rattle.block_parser.proofs.Trees.{join-nil}
 use Rattle.block_parser.proofs.parser.Parser.cut_definitions.Goals as goal

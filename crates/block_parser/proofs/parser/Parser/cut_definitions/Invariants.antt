@@ -4,7 +4,7 @@ use Rattle.definition_block.specs.Tree.{Blocks, Text}
 use Rattle.block_rows.specs.ParagraphLines.{AreLines}
 use Rattle.block_parser.specs.Spine.{Level, spine}
 use Rattle.block_parser.specs.View.{HasRead}
-use Rattle.block_parser.proofs.Definitions.{Cutting}
+use Rattle.block_parser.proofs.DefinitionLemmas.{Cutting}
 use Rattle.block_parser.proofs.parser.Parser.cut_definitions.Given as goal
 
 -- the definitions so far are cut

@@ -4,7 +4,7 @@ use Rattle.definition_block.specs.Definitions.{Cut}
 use Rattle.block_rows.specs.ParagraphLines.{AreLines}
 use Rattle.definition_text.specs.Content.{content_text}
 use Rattle.block_parser.specs.Spine.{spine}
-use Rattle.block_parser.proofs.Definitions.{more_left}
+use Rattle.block_parser.proofs.DefinitionLemmas.{more_left}
 use Rattle.block_parser.proofs.Leaves as leaves
 use Rattle.block_parser.proofs.parser.Parser.leaves_text.Goals as goal
 

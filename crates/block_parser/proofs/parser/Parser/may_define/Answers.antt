@@ -4,7 +4,7 @@ use Rattle.definition_inline.specs.Definition.{definition_at}
 use Rattle.block_rows.specs.ParagraphLines.{AreLines}
 use Rattle.definition_text.specs.BlockLines.{BlockLine, own_lines}
 use Rattle.definition_block.specs.Tree.{Text}
-use Rattle.block_parser.proofs.Definitions.{cut_not}
+use Rattle.block_parser.proofs.DefinitionLemmas.{cut_not}
 use Rattle.block_parser.proofs.Leaves as leaves
 use Rattle.block_parser.proofs.parser.Parser.may_define.Goals as goal
 

@@ -13,10 +13,10 @@ use Rattle.block_rows.specs.Rows.{whole_lines, row_shown, lines_taken, first_cod
 use Rattle.html_page.specs.Levels.{row_pieces, is_document}
 use Rattle.html_page.specs.Prints.{layout_after}
 use Rattle.html_page.specs.Printable.{AreHeadingLines, IsPrintableRow}
-use Rattle.html_page.proofs.Lines.{first_codes_of, with_ending}
+use Rattle.html_page.proofs.Lines.{first_codes_of, first_line, with_ending}
 use Rattle.html_page.proofs.Owed.{bytes_owed}
 use Rattle.block_rows.proofs.RowSteps.{no_piece}
-use Rattle.html_page.proofs.Fenced.{fenced_laid, info_is}
+use Rattle.html_page.proofs.CodeFencedLemmas.{fenced_laid, info_is}
 use Rattle.html_page.proofs.page.Page.block.Goals as goal
 
 pub returns-in-Paragraph-clause-printed : goal.returns-in-Paragraph-clause-printed
@@ -53,30 +53,31 @@ returns-in-Heading-clause-printed g c = λ ds has.
     let d = document c.args.texts.now.options.now (text_tables (g.T.Tables.reference_of c.args.texts.now.tables.now) (g.T.Tables.punctuation_of c.args.texts.now.tables.now)) ds in
     let page = c.args.self.now in
     let before = string_bytes page.html in
-    let after = string_bytes c.heading.new.self.html in
+    let after = string_bytes c.heading_atx.new.self.html in
     let lines = c.args.lines.now in
     let fits : ((1 ≤ c.in-Heading.rank) × (c.in-Heading.rank ≤ 6)) × AreHeadingLines (own_lines (take 1 (piece_lines lines))) =
     subst (λ (row : Row). IsPrintableRow (row_shown row (piece_lines lines))) c.in-Heading.is c.requires.printable in
-    let front = take-map piece_line 1 lines in
+    let some : 1 ≤ length lines = subst (λ (row : Row). lines_taken row ≤ length lines) c.in-Heading.is c.requires.enough in
+    let front = first_line lines no_piece some in
     let clean = subst (λ (ls : List BlockLine). AreHeadingLines (own_lines ls)) front fits.1 in
-    subst (λ (row : Row). OnOk c.heading.result (after ≡ layout_after page.default_ending before (row_pieces d c.args.level (row_shown row (piece_lines lines))))) (sym c.in-Heading.is)
-    (subst (λ (ls : List BlockLine). OnOk c.heading.result (after ≡ layout_after page.default_ending before (block_pieces d true false false (Heading c.in-Heading.rank (own_lines ls)))))
-    (sym front) (c.heading.ensures.printed ds has clean))
+    subst (λ (row : Row). OnOk c.heading_atx.result (after ≡ layout_after page.default_ending before (row_pieces d c.args.level (row_shown row (piece_lines lines))))) (sym c.in-Heading.is)
+    (subst (λ (ls : List BlockLine). OnOk c.heading_atx.result (after ≡ layout_after page.default_ending before (block_pieces d true false false (Heading c.in-Heading.rank (own_lines ls)))))
+    (sym front) (c.heading_atx.ensures.printed ds has clean))
 
 pub returns-in-SetextHeading-clause-printed : goal.returns-in-SetextHeading-clause-printed
 returns-in-SetextHeading-clause-printed g c = λ ds has.
     let d = document c.args.texts.now.options.now (text_tables (g.T.Tables.reference_of c.args.texts.now.tables.now) (g.T.Tables.punctuation_of c.args.texts.now.tables.now)) ds in
     let page = c.args.self.now in
     let before = string_bytes page.html in
-    let after = string_bytes c.heading-in-SetextHeading.new.self.html in
+    let after = string_bytes c.heading_setext.new.self.html in
     let lines = c.args.lines.now in
     let fits : ((1 ≤ c.in-SetextHeading.rank) × (c.in-SetextHeading.rank ≤ 6)) × AreHeadingLines (own_lines (take c.in-SetextHeading.count (piece_lines lines))) =
     subst (λ (row : Row). IsPrintableRow (row_shown row (piece_lines lines))) c.in-SetextHeading.is c.requires.printable in
     let front = take-map piece_line c.in-SetextHeading.count lines in
     let clean = subst (λ (ls : List BlockLine). AreHeadingLines (own_lines ls)) front fits.1 in
-    subst (λ (row : Row). OnOk c.heading-in-SetextHeading.result (after ≡ layout_after page.default_ending before (row_pieces d c.args.level (row_shown row (piece_lines lines))))) (sym c.in-SetextHeading.is)
-    (subst (λ (ls : List BlockLine). OnOk c.heading-in-SetextHeading.result (after ≡ layout_after page.default_ending before (block_pieces d true false false (Heading c.in-SetextHeading.rank (own_lines ls)))))
-    (sym front) (c.heading-in-SetextHeading.ensures.printed ds has clean))
+    subst (λ (row : Row). OnOk c.heading_setext.result (after ≡ layout_after page.default_ending before (row_pieces d c.args.level (row_shown row (piece_lines lines))))) (sym c.in-SetextHeading.is)
+    (subst (λ (ls : List BlockLine). OnOk c.heading_setext.result (after ≡ layout_after page.default_ending before (block_pieces d true false false (Heading c.in-SetextHeading.rank (own_lines ls)))))
+    (sym front) (c.heading_setext.ensures.printed ds has clean))
 
 pub returns-in-Break-clause-printed : goal.returns-in-Break-clause-printed
 returns-in-Break-clause-printed g c = λ ds has.

@@ -4,7 +4,7 @@ use Rattle.definition_text.specs.Encode.{encode}
 use Rattle.html_bytes.specs.Document.{document, info_of}
 use Rattle.definition_page.specs.TextTables.{text_tables}
 use Rattle.html_bytes.specs.Html.{class_of}
-use Rattle.html_page.proofs.Fenced.{class_some}
+use Rattle.html_page.proofs.CodeFencedLemmas.{class_some}
 use Rattle.html_page.proofs.page.Page.class.Goals as goal
 
 pub returns-clause-printed : goal.returns-clause-printed

@@ -3,7 +3,7 @@ use Rattle.std.specs.Result.{OnOk}
 use Rattle.html_bytes.specs.Document.{document}
 use Rattle.block_rows.specs.Rows.{piece_lines}
 use Rattle.definition_page.specs.TextTables.{text_tables}
-use Rattle.html_page.proofs.Fenced.{open_laid}
+use Rattle.html_page.proofs.CodeFencedLemmas.{open_laid}
 use Rattle.html_page.proofs.page.Page.fenced_code.Goals as goal
 
 pub returns-clause-printed : goal.returns-clause-printed

@@ -12,7 +12,7 @@ use Rattle.html_bytes.specs.Pieces.{Fresh, print}
 use Rattle.html_bytes.specs.Html.{code_of}
 use Rattle.block_rows.specs.Rows.{piece_line, piece_lines}
 use Rattle.block_rows.proofs.OwnLines.{last_piece_ending}
-use Rattle.html_page.proofs.Fenced.{content_ending, content_laid}
+use Rattle.html_page.proofs.CodeFencedLemmas.{content_ending, content_laid}
 use Rattle.html_page.proofs.page.Page.fenced_content.Goals as goal
 use Rattle.html_page.proofs.page.Page.fenced_content.Goals.{then-top, else-top, then-whole, else-whole}
 

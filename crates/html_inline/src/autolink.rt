@@ -1,0 +1,43 @@
+//! Autolinks (CommonMark 6.5).
+ghost use Rattle.std.specs.Prelude.{◌≡◌, ◌++◌, OnOk, codes, string_bytes};
+ghost use Rattle.definition_text.specs.Encode.{encode};
+ghost use Rattle.definition_page.specs.InlinePieces.{address};
+ghost use Rattle.html_bytes.specs.Meaning.{link_url};
+
+use crate::url::push_link_url;
+use html_escape::push_encoded;
+use markdown_options::CompileOptions;
+use std::alloc::{AllocError, Allocator};
+
+/// Prints an autolink (CommonMark 6.5). `room` is used for its URL.
+pub(crate) fn push_autolink<A: Allocator>(
+    out: &mut String<A>,
+    room: &mut String<A>,
+    compile: &CompileOptions,
+    email: bool,
+    text: &str,
+) -> Result<(), AllocError>
+    ensures { OnOk result (string_bytes out.new ≡ string_bytes out.old ++ (codes "<a href=\"" ++ link_url compile.now (address email text.now) ++ codes "\">" ++ encode text.now ++ codes "</a>")) }
+{
+    read_address(room, email, text)?;
+    out.push_str("<a href=\"")?;
+    push_link_url(out, compile, room.as_str())?;
+    out.push_str("\">")?;
+    push_encoded(out, text)?;
+    out.push_str("</a>")
+}
+
+/// Reads the address that an autolink leads to (CommonMark 6.5).
+fn read_address<A: Allocator>(
+    room: &mut String<A>,
+    email: bool,
+    text: &str,
+) -> Result<(), AllocError>
+    ensures { OnOk result (string_bytes room.new ≡ address email text.now) }
+{
+    room.clear();
+    if email {
+        room.push_str("mailto:")?;
+    }
+    room.push_str(text)
+}

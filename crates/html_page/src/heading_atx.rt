@@ -1,0 +1,37 @@
+//! ATX headings (CommonMark 4.2).
+ghost use Rattle.std.specs.Prelude.{◌≡◌, ◌≤◌, ◌∷◌, [], List, OnOk, true, false};
+ghost use Rattle.definition_inline.specs.Definition.{Definition};
+ghost use Rattle.definition_text.specs.BlockLines.{own_lines};
+ghost use Rattle.definition_block.specs.Tree.{Heading};
+ghost use Rattle.html_bytes.specs.Html.{block_pieces};
+ghost use Rattle.block_rows.specs.ParagraphLines.{HaveNoEnding};
+ghost use Rattle.block_rows.specs.Rows.{piece_line};
+ghost use Rattle.html_text.specs.Texts.{HasDefinitions, document_by};
+ghost use Rattle.html_page.specs.Prints.{LaysOut};
+
+use crate::page::Page;
+use block_rows::Piece;
+use html_text::Texts;
+use markdown_options::Tables;
+use std::alloc::{AllocError, Allocator};
+
+impl<A: Allocator + Clone> Page<A> {
+    /// Prints a heading of one line, which may be empty.
+    pub(crate) fn heading_atx<T: Tables>(
+        &mut self,
+        texts: &Texts<'_, T, A>,
+        rank: u8,
+        line: &Piece<'_>,
+    ) -> Result<(), AllocError>
+        requires { (1 ≤ rank) × (rank ≤ 6) }
+        ensures default { self.new.default_ending ≡ self.old.default_ending }
+        ensures printed { (ds : List Definition) → HasDefinitions texts.now.labels.now texts.now.links.now ds →
+            HaveNoEnding (piece_line line.now).codes → let ls = own_lines (piece_line line.now ∷ []) in
+            OnOk result (LaysOut self.old self.new (block_pieces (document_by T.Tables texts.now ds) true false false (Heading rank ls))) }
+    {
+        self.fresh()?;
+        self.heading_tag("<h", rank)?;
+        texts.push_line(&mut self.html, &mut self.buffers, line)?;
+        self.heading_tag("</h", rank)
+    }
+}

@@ -1,0 +1,56 @@
+//! Setext headings (CommonMark 4.3).
+ghost use Rattle.std.specs.Prelude.{◌≡◌, ◌≤◌, List, OnOk, true, false};
+ghost use Rattle.html_bytes.specs.Document.{text_of};
+ghost use Rattle.definition_inline.specs.Definition.{Definition};
+ghost use Rattle.definition_text.specs.BlockLines.{own_lines};
+ghost use Rattle.definition_block.specs.Tree.{Heading};
+ghost use Rattle.html_bytes.specs.Html.{block_pieces};
+ghost use Rattle.block_rows.specs.Rows.{piece_lines};
+ghost use Rattle.html_text.specs.Texts.{HasDefinitions, document_by};
+ghost use Rattle.html_page.specs.Printable.{AreHeadingLines};
+ghost use Rattle.html_page.specs.Prints.{LaysOut, Prints};
+
+use crate::page::Page;
+use block_rows::Piece;
+use html_text::Texts;
+use markdown_options::Tables;
+use std::alloc::{AllocError, Allocator};
+
+impl<A: Allocator + Clone> Page<A> {
+    /// Prints a heading of these lines.
+    pub(crate) fn heading_setext<T: Tables>(
+        &mut self,
+        texts: &Texts<'_, T, A>,
+        rank: u8,
+        lines: &[Piece<'_>],
+    ) -> Result<(), AllocError>
+        requires { (1 ≤ rank) × (rank ≤ 6) }
+        ensures default { self.new.default_ending ≡ self.old.default_ending }
+        ensures printed { (ds : List Definition) → HasDefinitions texts.now.labels.now texts.now.links.now ds →
+            let ls = own_lines (piece_lines lines.now) in AreHeadingLines ls →
+            OnOk result (LaysOut self.old self.new (block_pieces (document_by T.Tables texts.now ds) true false false (Heading rank ls))) }
+    {
+        self.fresh()?;
+        self.heading_tag("<h", rank)?;
+        self.heading_text(texts, lines)?;
+        self.heading_tag("</h", rank)
+    }
+
+    /// Prints the text of a heading, which may be one empty line.
+    fn heading_text<T: Tables>(
+        &mut self,
+        texts: &Texts<'_, T, A>,
+        lines: &[Piece<'_>],
+    ) -> Result<(), AllocError>
+        ensures default { self.new.default_ending ≡ self.old.default_ending }
+        ensures printed { (ds : List Definition) → HasDefinitions texts.now.labels.now texts.now.links.now ds →
+            let ls = own_lines (piece_lines lines.now) in AreHeadingLines ls →
+            OnOk result (Prints self.old self.new (text_of (document_by T.Tables texts.now ds) ls)) }
+    {
+        if lines.len() == 1 {
+            texts.push_line(&mut self.html, &mut self.buffers, &lines[0])
+        } else {
+            texts.push_text(&mut self.html, &mut self.buffers, lines)
+        }
+    }
+}

@@ -1,0 +1,37 @@
+//! Texts and their HTML, compared.
+ghost use Rattle.std.specs.Prelude.{◌≡◌, true};
+ghost use Rattle.markdown_options.specs.Built.{is_built};
+
+use markdown::{Builtin, Options, RunError, Watched, fits, run, to_html_with_options};
+use std::alloc::Global;
+
+/// The first text whose page isn't the one that stands beside it, by either call.
+pub fn first_wrong<'a>(
+    alloc: Global,
+    rows: &[(&'a str, &str)],
+    options: &Options,
+) -> Result<Option<&'a str>, RunError>
+    requires { is_built options.now.parse.constructs ≡ true }
+{
+    for (text, want) in rows {
+        if !fits(text) {
+            return Ok(Some(text));
+        }
+        let page = to_html_with_options(alloc, text, options).map_err(|_| RunError::Memory)?;
+        if page.as_str() != *want || !runs_to(alloc, text, want, options)? {
+            return Ok(Some(text));
+        }
+    }
+    Ok(None)
+}
+
+/// Whether a text that is read is written as this page.
+fn runs_to(alloc: Global, text: &str, want: &str, options: &Options) -> Result<bool, RunError>
+    requires { is_built options.now.parse.constructs ≡ true }
+{
+    let mut reader = Watched::new(text.as_bytes());
+    let mut writer = Watched::new(Vec::new(alloc));
+    run(alloc, &mut reader, &mut writer, options, &Builtin)?;
+    let out = writer.into_inner();
+    Ok(out.as_slice() == want.as_bytes())
+}

@@ -1,0 +1,5 @@
+//! Texts, raw HTML and URLs, and what is printed for them.
+#![tactic(auto)]
+
+#[cfg(test)]
+mod escape;

@@ -1,0 +1,39 @@
+//! What a `]` forms.
+use inline_label_ends::{LabelEnd, label_end};
+use inline_labels::LabelTable;
+use inline_rows::LinkTarget;
+use std::test::Fail;
+
+/// The destination, or none; the place of the definition, or 9; and what follows.
+fn parts(found: Option<LabelEnd<'_>>) -> (&str, usize, &str) {
+    match found {
+        None => ("nothing", 9, ""),
+        Some(end) => match end.target {
+            LinkTarget::Resource(linked) => (linked.destination, 9, end.after),
+            LinkTarget::Definition(place) => ("", place, end.after),
+        },
+    }
+}
+
+/// Each form, and texts that form nothing.
+#[test]
+fn forms(rt: HostRuntime) -> Result<(), Fail> {
+    let mut table = LabelTable::new(rt.alloc())?;
+    table.insert(b"foo", 0)?;
+    table.insert("\u{e9}".as_bytes(), 1)?;
+    let cases = [
+        ("x", "(/\u{e9} '\u{e9}')z", ("/\u{e9}", 9, "z")),
+        ("foo", "()(", ("", 9, "(")),
+        ("foo", "[\u{c9}]z", ("", 1, "z")),
+        ("Foo", "[]z", ("", 0, "z")),
+        ("Foo", "(", ("", 0, "(")),
+        ("foo", "[bar]", ("nothing", 9, "")),
+        ("[foo]", "", ("nothing", 9, "")),
+        ("bar", "[]", ("nothing", 9, "")),
+        ("", "[]", ("nothing", 9, "")),
+    ];
+    for (text, rest, expected) in cases {
+        assert_eq!(rt; parts(label_end(&table, text, rest)?), expected);
+    }
+    Ok(())
+}
