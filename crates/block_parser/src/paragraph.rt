@@ -72,7 +72,8 @@ impl<'a, A: Allocator> Parser<'a, A> {
     /// `paragraph` on.
     pub(crate) fn has_whole_lines(&self) -> bool
         ensures { result ≡ true →
-            drop self.now.lines_in_rows (piece_lines self.now.pieces.items) ≡ whole_lines (length self.now.pieces.items - self.now.lines_in_rows) self.now.paragraph.now }
+            drop self.now.lines_in_rows (piece_lines self.now.pieces.items) ≡
+            whole_lines (length self.now.pieces.items - self.now.lines_in_rows) self.now.paragraph.now }
     {
         let lines = &self.pieces[self.lines_in_rows..];
         lines.len() >= WHOLE_LINES_MIN && are_whole(self.paragraph, lines)

@@ -4,3 +4,4 @@ pub mod HtmlBytes
 pub mod Kept
 pub mod Opens
 pub mod Printed
+pub mod Prints

@@ -3,6 +3,7 @@ ghost use Rattle.std.specs.Prelude.{◌≡◌, ◌++◌, OnOk, codes, string_byt
 ghost use Rattle.definition_text.specs.Encode.{encode};
 ghost use Rattle.definition_page.specs.InlinePieces.{address};
 ghost use Rattle.html_bytes.specs.Meaning.{link_url};
+ghost use Rattle.html_inline.specs.Prints.{Prints};
 
 use crate::url::push_link_url;
 use html_escape::push_encoded;
@@ -17,7 +18,8 @@ pub(crate) fn push_autolink<A: Allocator>(
     email: bool,
     text: &str,
 ) -> Result<(), AllocError>
-    ensures { OnOk result (string_bytes out.new ≡ string_bytes out.old ++ (codes "<a href=\"" ++ link_url compile.now (address email text.now) ++ codes "\">" ++ encode text.now ++ codes "</a>")) }
+    ensures { Prints result out.old out.new (codes "<a href=\"" ++ link_url compile.now (address email text.now) ++ codes "\">"
+        ++ encode text.now ++ codes "</a>") }
 {
     read_address(room, email, text)?;
     out.push_str("<a href=\"")?;

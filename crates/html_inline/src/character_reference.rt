@@ -1,8 +1,9 @@
 //! Characters by their number (CommonMark 2.5).
-ghost use Rattle.std.specs.Prelude.{◌≡◌, ◌++◌, ◌^◌, ◌-◌, OnOk, min, string_bytes};
+ghost use Rattle.std.specs.Prelude.{◌≡◌, ◌^◌, ◌-◌, min};
 ghost use Rattle.std.specs.Char.{digit_value};
 ghost use Rattle.definition_inline.specs.CharacterReference.{number_of, numbered_text};
 ghost use Rattle.html_inline.specs.Forms.{formed};
+ghost use Rattle.html_inline.specs.Prints.{Prints};
 
 use crate::form::{Form, push_formed};
 use inline_references::character_of;
@@ -17,7 +18,7 @@ pub(crate) fn push_number<A: Allocator>(
     radix: u32,
     digits: &str,
 ) -> Result<(), AllocError>
-    ensures { OnOk result (string_bytes out.new ≡ string_bytes out.old ++ formed form (numbered_text (number_of radix digits.now))) }
+    ensures { Prints result out.old out.new (formed form (numbered_text (number_of radix digits.now))) }
 {
     let mut bytes = [0; 4];
     let text = character_of(number_of(radix, digits.as_bytes())).encode_utf8(&mut bytes);

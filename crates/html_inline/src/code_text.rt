@@ -2,12 +2,13 @@
 //!
 //! A line ending is a space. Without one space at each end, where there are both and something
 //! between.
-ghost use Rattle.std.specs.Prelude.{◌≡◌, ◌==◌, ◌++◌, ◌<◌, IfOk, OnOk, codes, length, not, string_bytes};
+ghost use Rattle.std.specs.Prelude.{◌≡◌, ◌==◌, ◌++◌, ◌<◌, IfOk, codes, length, not, string_bytes};
 ghost use Rattle.std.specs.List.{list_any, prefix_len};
 ghost use Rattle.definition_inline.specs.CodeText.{code_text, is_padded, unpadded};
 ghost use Rattle.definition_text.specs.Content.{content_codes};
 ghost use Rattle.definition_text.specs.Encode.{encode};
 ghost use Rattle.html_inline.specs.CodeBytes.{is_in_line, spaced};
+ghost use Rattle.html_inline.specs.Prints.{Prints};
 
 use html_escape::push_encoded;
 use inline_leaves::cut::{cut_after, text_before};
@@ -20,7 +21,7 @@ pub(crate) fn push_code_span<A: Allocator>(
     room: &mut String<A>,
     code: &str,
 ) -> Result<(), AllocError>
-    ensures { OnOk result (string_bytes out.new ≡ string_bytes out.old ++ (codes "<code>" ++ encode (code_text (content_codes code.now)) ++ codes "</code>")) }
+    ensures { Prints result out.old out.new (codes "<code>" ++ encode (code_text (content_codes code.now)) ++ codes "</code>") }
 {
     out.push_str("<code>")?;
     push_code(out, room, code)?;
@@ -33,7 +34,7 @@ pub(crate) fn push_code<A: Allocator>(
     spaces: &mut String<A>,
     code: &str,
 ) -> Result<(), AllocError>
-    ensures { OnOk result (string_bytes out.new ≡ string_bytes out.old ++ encode (code_text (content_codes code.now))) }
+    ensures { Prints result out.old out.new (encode (code_text (content_codes code.now))) }
 {
     spaces.clear();
     push_spaced(spaces, code)?;
@@ -42,7 +43,7 @@ pub(crate) fn push_code<A: Allocator>(
 
 /// Prints a text with a space for each line ending.
 fn push_spaced<A: Allocator>(out: &mut String<A>, code: &str) -> Result<(), AllocError>
-    ensures { OnOk result (string_bytes out.new ≡ string_bytes out.old ++ spaced code.now) }
+    ensures { Prints result out.old out.new (spaced code.now) }
 {
     let mut rest = code;
     while !rest.is_empty() {

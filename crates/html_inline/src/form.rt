@@ -1,6 +1,6 @@
 //! How a text is printed.
-ghost use Rattle.std.specs.Prelude.{◌≡◌, ◌++◌, OnOk, string_bytes};
 ghost use Rattle.html_inline.specs.Forms.{formed};
+ghost use Rattle.html_inline.specs.Prints.{Prints};
 
 use html_escape::{push_encoded, push_raw};
 use std::alloc::{AllocError, Allocator};
@@ -22,7 +22,7 @@ pub(crate) fn push_formed<A: Allocator>(
     form: Form,
     text: &str,
 ) -> Result<(), AllocError>
-    ensures { OnOk result (string_bytes out.new ≡ string_bytes out.old ++ formed form text.now) }
+    ensures { Prints result out.old out.new (formed form text.now) }
 {
     match form {
         Form::Bytes => out.push_str(text),

@@ -1,12 +1,13 @@
 //! Raw HTML in a text (CommonMark 6.6).
 //!
 //! Spaces and tabs at the start of its second line and of later ones aren't printed.
-ghost use Rattle.std.specs.Prelude.{◌≡◌, ◌++◌, ◌<◌, ◌≤◌, IfOk, OnOk, drop, length, string_bytes};
+ghost use Rattle.std.specs.Prelude.{◌≡◌, ◌<◌, ◌≤◌, IfOk, drop, length, string_bytes};
 ghost use Rattle.definition_text.specs.Content.{content_codes};
 ghost use Rattle.definition_text.specs.Columns.{bare};
 ghost use Rattle.definition_page.specs.InlinePieces.{html_lines};
 ghost use Rattle.html_bytes.specs.InlineHtml.{html_text_bytes};
 ghost use Rattle.html_inline.specs.HtmlBytes.{first_bytes, PrintsEnding};
+ghost use Rattle.html_inline.specs.Prints.{Prints};
 
 use crate::code_text::line_size;
 use html_escape::push_html;
@@ -22,7 +23,7 @@ pub(crate) fn push_html_text<A: Allocator>(
     compile: &CompileOptions,
     html: &str,
 ) -> Result<(), AllocError>
-    ensures { OnOk result (string_bytes out.new ≡ string_bytes out.old ++ html_text_bytes compile.now (content_codes html.now)) }
+    ensures { Prints result out.old out.new (html_text_bytes compile.now (content_codes html.now)) }
 {
     let mut rest = push_line(out, compile, html)?;
     while !rest.is_empty() {
@@ -46,7 +47,7 @@ fn push_line<'a, A: Allocator>(
     compile: &CompileOptions,
     html: &'a str,
 ) -> Result<&'a str, AllocError>
-    ensures printed { OnOk result (string_bytes out.new ≡ string_bytes out.old ++ first_bytes compile.now (html_lines (content_codes html.now))) }
+    ensures printed { Prints result out.old out.new (first_bytes compile.now (html_lines (content_codes html.now))) }
     ensures rest { IfOk result (λ rest. html_lines (content_codes rest.now) ≡ drop 1 (html_lines (content_codes html.now))) }
     ensures within { IfOk result (λ rest. length rest.now ≤ length html.now) }
     ensures shorter { IfOk result (λ rest. 0 < length html.now → length rest.now < length html.now) }

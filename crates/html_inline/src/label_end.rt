@@ -1,13 +1,12 @@
 //! The tags of links and images (CommonMark 6.3 and 6.4).
-ghost use Rattle.std.specs.Prelude.{◌≡◌, ◌++◌, ℕ, List, Option, OnOk, string_bytes};
+ghost use Rattle.std.specs.Prelude.{◌≡◌, OnOk, string_bytes};
 ghost use Rattle.definition_text.specs.Encode.{plain};
-ghost use Rattle.definition_inline.specs.Inline as inline;
 ghost use Rattle.html_bytes.specs.InlineHtml.{link_tag, title_attribute, titled};
-ghost use Rattle.html_bytes.specs.Meaning.{inline_meaning};
 ghost use Rattle.inline_rows.specs.View.{linked_view, target_linked};
 ghost use Rattle.html_inline.specs.Kept.{text_of};
 ghost use Rattle.html_inline.specs.Printed.{image_end, image_start};
 ghost use Rattle.html_inline.specs.Opens.{place_linked};
+ghost use Rattle.html_inline.specs.Prints.{meaning_by, Definitions, Prints};
 
 use crate::form::Form;
 use crate::printing::Printing;
@@ -44,7 +43,8 @@ pub(crate) fn push_link_start<A: Allocator, T: Tables>(
     printing: &Printing<'_, T>,
     linked: Linked<'_>,
 ) -> Result<(), AllocError>
-    ensures { (definition : List ℕ → Option inline.Linked) → OnOk result (string_bytes out.new ≡ string_bytes out.old ++ link_tag (inline_meaning printing.now.on.now printing.now.compile.now (T.reference_of printing.now.tables.now) definition) (linked_view linked.entry)) }
+    ensures { (definition : Definitions) →
+        Prints result out.old out.new (link_tag (meaning_by (T.reference_of printing.now.tables.now) printing.now definition) (linked_view linked.entry)) }
 {
     read_url(text, printing, linked.destination)?;
     out.push_str("<a href=\"")?;
@@ -61,7 +61,8 @@ pub(crate) fn push_image_start<A: Allocator, T: Tables>(
     printing: &Printing<'_, T>,
     linked: Linked<'_>,
 ) -> Result<(), AllocError>
-    ensures { (definition : List ℕ → Option inline.Linked) → OnOk result (string_bytes out.new ≡ string_bytes out.old ++ image_start (inline_meaning printing.now.on.now printing.now.compile.now (T.reference_of printing.now.tables.now) definition) (linked_view linked.entry)) }
+    ensures { (definition : Definitions) →
+        Prints result out.old out.new (image_start (meaning_by (T.reference_of printing.now.tables.now) printing.now definition) (linked_view linked.entry)) }
 {
     read_url(text, printing, linked.destination)?;
     out.push_str("<img src=\"")?;
@@ -76,7 +77,8 @@ pub(crate) fn push_image_end<A: Allocator, T: Tables>(
     printing: &Printing<'_, T>,
     linked: Linked<'_>,
 ) -> Result<(), AllocError>
-    ensures { (definition : List ℕ → Option inline.Linked) → OnOk result (string_bytes out.new ≡ string_bytes out.old ++ image_end (inline_meaning printing.now.on.now printing.now.compile.now (T.reference_of printing.now.tables.now) definition) (linked_view linked.entry)) }
+    ensures { (definition : Definitions) →
+        Prints result out.old out.new (image_end (meaning_by (T.reference_of printing.now.tables.now) printing.now definition) (linked_view linked.entry)) }
 {
     out.push_str("\"")?;
     push_title(out, text, printing, linked)?;
@@ -102,7 +104,9 @@ fn push_title<A: Allocator, T: Tables>(
     printing: &Printing<'_, T>,
     linked: Linked<'_>,
 ) -> Result<(), AllocError>
-    ensures { (definition : List ℕ → Option inline.Linked) → OnOk result (string_bytes out.new ≡ string_bytes out.old ++ title_attribute (inline_meaning printing.now.on.now printing.now.compile.now (T.reference_of printing.now.tables.now) definition) (linked_view linked.entry).title) }
+    ensures { (definition : Definitions) →
+        Prints result out.old out.new (title_attribute (meaning_by (T.reference_of printing.now.tables.now) printing.now definition)
+        (linked_view linked.entry).title) }
 {
     match linked.title {
         None => Ok(()),
@@ -116,7 +120,7 @@ fn push_title<A: Allocator, T: Tables>(
 
 /// Prints the attribute of a title's text that isn't empty.
 fn push_titled<A: Allocator>(out: &mut String<A>, title: &str) -> Result<(), AllocError>
-    ensures { OnOk result (string_bytes out.new ≡ string_bytes out.old ++ titled title.now) }
+    ensures { Prints result out.old out.new (titled title.now) }
 {
     if title.is_empty() {
         return Ok(());

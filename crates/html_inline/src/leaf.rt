@@ -1,10 +1,8 @@
 //! The constructs that hold no other.
-ghost use Rattle.std.specs.Prelude.{◌≡◌, ◌++◌, ℕ, List, Option, OnOk, string_bytes};
 ghost use Rattle.std.specs.List.{flat_map};
-ghost use Rattle.definition_inline.specs.Inline as inline;
 ghost use Rattle.html_bytes.specs.InlineHtml.{part_description, part_html};
-ghost use Rattle.html_bytes.specs.Meaning.{inline_meaning};
 ghost use Rattle.inline_leaves.specs.Leaves.{parts_of};
+ghost use Rattle.html_inline.specs.Prints.{meaning_by, Definitions, Prints};
 
 use crate::autolink::push_autolink;
 use crate::character_reference::push_number;
@@ -12,6 +10,7 @@ use crate::code_text::{push_code, push_code_span};
 use crate::form::Form;
 use crate::html_text::push_html_text;
 use crate::printing::Printing;
+use html_escape::push_encoded;
 use inline_leaves::LeafPart;
 use markdown_options::{CompileOptions, Tables};
 use std::alloc::{AllocError, Allocator};
@@ -24,7 +23,7 @@ pub(crate) fn push_description<A: Allocator>(
     compile: &CompileOptions,
     part: LeafPart<'_>,
 ) -> Result<(), AllocError>
-    ensures { OnOk result (string_bytes out.new ≡ string_bytes out.old ++ flat_map (part_description compile.now) (parts_of part.entry)) }
+    ensures { Prints result out.old out.new (flat_map (part_description compile.now) (parts_of part.entry)) }
 {
     match part {
         LeafPart::Escape(text) => push_encoded(out, text),
@@ -48,7 +47,9 @@ pub(crate) fn push_leaf<A: Allocator, T: Tables>(
     printing: &Printing<'_, T>,
     part: LeafPart<'_>,
 ) -> Result<(), AllocError>
-    ensures { (definition : List ℕ → Option inline.Linked) → OnOk result (string_bytes out.new ≡ string_bytes out.old ++ flat_map (part_html (inline_meaning printing.now.on.now printing.now.compile.now (T.reference_of printing.now.tables.now) definition)) (parts_of part.entry)) }
+    ensures { (definition : Definitions) →
+        Prints result out.old out.new (flat_map (part_html (meaning_by (T.reference_of printing.now.tables.now) printing.now definition))
+        (parts_of part.entry)) }
 {
     match part {
         LeafPart::Escape(text) => push_encoded(out, text),

@@ -2,13 +2,12 @@
 //!
 //! In the description of an image no tag is printed, and nothing for the URL and the title of a
 //! link or an image (CommonMark 6.4). The title of an image comes after its description.
-ghost use Rattle.std.specs.Prelude.{◌≡◌, ◌++◌, ℕ, List, Option, OnOk, map, reverse, slice_index_or, string_bytes};
+ghost use Rattle.std.specs.Prelude.{◌≡◌, ℕ, List, OnOk, map, reverse, slice_index_or, string_bytes};
 ghost use Rattle.std.specs.List.{fold};
 ghost use Rattle.definition_inline.specs.Inline as inline;
 ghost use Rattle.definition_page.specs.InlinePieces.{leads_to};
 ghost use Rattle.html_bytes.specs.InlineHtml.{InlineMeaning, inline_html};
 ghost use Rattle.inline_rows.specs.InlineRows as rows_of;
-ghost use Rattle.html_bytes.specs.Meaning.{inline_meaning};
 ghost use Rattle.inline_runs.specs.View.{span_view};
 ghost use Rattle.inline_leaves.specs.Leaves.{parts_of};
 ghost use Rattle.inline_rows.specs.View.{linked_view, row_view, rows_view, target_linked};
@@ -16,6 +15,7 @@ ghost use Rattle.inline_rows.specs.declared.row.InlineRow.{InlineRow};
 ghost use Rattle.inline_rows.specs.declared.row.InlineRow.TheVariants.{Exit};
 ghost use Rattle.html_inline.specs.Opens.{image_linked, opened_view, place_linked, printed_of};
 ghost use Rattle.html_inline.specs.Printed.{is_described, parts_printed, row_printed, span_end, span_start};
+ghost use Rattle.html_inline.specs.Prints.{meaning_by, Definitions, Prints};
 
 use crate::label_end::{linked_at, push_image_end, push_image_start, push_link_start};
 use crate::leaf::{push_description, push_leaf};
@@ -35,8 +35,9 @@ pub fn push_rows<A: Allocator, T: Tables>(
     printing: &Printing<'_, T>,
     rows: &[InlineRow<'_>],
 ) -> Result<(), AllocError>
-    ensures { (definition : List ℕ → Option inline.Linked) (is : inline.Inlines) → rows_view (place_linked printing.now.definitions.now) rows.now ≡ rows_of.inline_rows (leads_to definition) is →
-        OnOk result (string_bytes out.new ≡ string_bytes out.old ++ inline_html (inline_meaning printing.now.on.now printing.now.compile.now (T.reference_of printing.now.tables.now) definition) is) }
+    ensures { (definition : Definitions) (is : inline.Inlines) →
+        rows_view (place_linked printing.now.definitions.now) rows.now ≡ rows_of.inline_rows (leads_to definition) is →
+        Prints result out.old out.new (inline_html (meaning_by (T.reference_of printing.now.tables.now) printing.now definition) is) }
 {
     scratch.stack.clear();
     for (place, row) in rows.iter().enumerate() {
@@ -55,8 +56,8 @@ fn push_row<A: Allocator, T: Tables>(
     row: InlineRow<'_>,
 ) -> Result<(), AllocError>
     requires { slice_index_or rows.now place Exit ≡ row }
-    ensures { (definition : List ℕ → Option inline.Linked) →
-        let meaning = inline_meaning printing.now.on.now printing.now.compile.now (T.reference_of printing.now.tables.now) definition in
+    ensures { (definition : Definitions) →
+        let meaning = meaning_by (T.reference_of printing.now.tables.now) printing.now definition in
         let at = place_linked printing.now.definitions.now in
         OnOk result (printed_of meaning at rows.now (string_bytes out.new) scratch.new.stack.items
         ≡ fold (row_printed meaning) (printed_of meaning at rows.now (string_bytes out.old) scratch.old.stack.items) (row_view at row.entry)) }
@@ -79,10 +80,11 @@ fn push_part<A: Allocator, T: Tables>(
     part: LeafPart<'_>,
 ) -> Result<(), AllocError>
     ensures stack { scratch.new.stack ≡ scratch.old.stack }
-    ensures printed { (definition : List ℕ → Option inline.Linked) (rows : List InlineRow) →
-        let meaning = inline_meaning printing.now.on.now printing.now.compile.now (T.reference_of printing.now.tables.now) definition in
+    ensures printed { (definition : Definitions) (rows : List InlineRow) →
+        let meaning = meaning_by (T.reference_of printing.now.tables.now) printing.now definition in
         let at = place_linked printing.now.definitions.now in
-        OnOk result (string_bytes out.new ≡ string_bytes out.old ++ parts_printed meaning (is_described (map (opened_view meaning at rows) (reverse scratch.old.stack.items))) (parts_of part.entry)) }
+        Prints result out.old out.new (parts_printed meaning (is_described (map (opened_view meaning at rows) (reverse scratch.old.stack.items)))
+        (parts_of part.entry)) }
 {
     if is_described(scratch.stack.as_slice()) {
         push_description(out, &mut scratch.text, printing.compile, part)
@@ -117,8 +119,8 @@ fn enter_link<A: Allocator, T: Tables>(
     printing: &Printing<'_, T>,
     target: LinkTarget<'_>,
 ) -> Result<(), AllocError>
-    ensures { (definition : List ℕ → Option inline.Linked) (rows : List InlineRow) →
-        let meaning = inline_meaning printing.now.on.now printing.now.compile.now (T.reference_of printing.now.tables.now) definition in
+    ensures { (definition : Definitions) (rows : List InlineRow) →
+        let meaning = meaning_by (T.reference_of printing.now.tables.now) printing.now definition in
         let at = place_linked printing.now.definitions.now in
         OnOk result (printed_of meaning at rows (string_bytes out.new) scratch.new.stack.items
         ≡ row_printed meaning (printed_of meaning at rows (string_bytes out.old) scratch.old.stack.items) (rows_of.EnterLink (target_linked at target.entry))) }
@@ -141,12 +143,13 @@ fn enter_image<A: Allocator, T: Tables>(
     place: usize,
     target: LinkTarget<'_>,
 ) -> Result<(), AllocError>
-    ensures { (definition : List ℕ → Option inline.Linked) (rows : List InlineRow) →
-        let meaning = inline_meaning printing.now.on.now printing.now.compile.now (T.reference_of printing.now.tables.now) definition in
+    ensures { (definition : Definitions) (rows : List InlineRow) →
+        let meaning = meaning_by (T.reference_of printing.now.tables.now) printing.now definition in
         let at = place_linked printing.now.definitions.now in
         image_linked at (slice_index_or rows place Exit) ≡ target_linked at target.entry →
         OnOk result (printed_of meaning at rows (string_bytes out.new) scratch.new.stack.items
-        ≡ row_printed meaning (printed_of meaning at rows (string_bytes out.old) scratch.old.stack.items) (rows_of.EnterImage (target_linked at target.entry))) }
+        ≡ row_printed meaning (printed_of meaning at rows (string_bytes out.old) scratch.old.stack.items)
+        (rows_of.EnterImage (target_linked at target.entry))) }
 {
     if is_described(scratch.stack.as_slice()) {
         scratch.stack.push(OpenPart::Silent)?;
@@ -165,8 +168,8 @@ fn exit<A: Allocator, T: Tables>(
     printing: &Printing<'_, T>,
     rows: &[InlineRow<'_>],
 ) -> Result<(), AllocError>
-    ensures { (definition : List ℕ → Option inline.Linked) →
-        let meaning = inline_meaning printing.now.on.now printing.now.compile.now (T.reference_of printing.now.tables.now) definition in
+    ensures { (definition : Definitions) →
+        let meaning = meaning_by (T.reference_of printing.now.tables.now) printing.now definition in
         let at = place_linked printing.now.definitions.now in
         OnOk result (printed_of meaning at rows.now (string_bytes out.new) scratch.new.stack.items
         ≡ row_printed meaning (printed_of meaning at rows.now (string_bytes out.old) scratch.old.stack.items) rows_of.Leave) }
@@ -185,10 +188,10 @@ fn push_end<A: Allocator, T: Tables>(
     rows: &[InlineRow<'_>],
     part: OpenPart,
 ) -> Result<(), AllocError>
-    ensures { (definition : List ℕ → Option inline.Linked) →
-        let meaning = inline_meaning printing.now.on.now printing.now.compile.now (T.reference_of printing.now.tables.now) definition in
+    ensures { (definition : Definitions) →
+        let meaning = meaning_by (T.reference_of printing.now.tables.now) printing.now definition in
         let at = place_linked printing.now.definitions.now in
-        OnOk result (string_bytes out.new ≡ string_bytes out.old ++ (opened_view meaning at rows.now part).ending) }
+        Prints result out.old out.new ((opened_view meaning at rows.now part).ending) }
 {
     match part {
         OpenPart::Span(span) => out.push_str(span_end(span)),

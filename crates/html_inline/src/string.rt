@@ -3,7 +3,7 @@
 //!
 //!     string ::= (escape | reference | line_end | spaces | byte)*
 //!     spaces ::= (space | tab)+, before a line ending
-ghost use Rattle.std.specs.Prelude.{◌≡◌, ◌++◌, ◌<◌, IfOk, IfSome, OnOk, length, string_bytes};
+ghost use Rattle.std.specs.Prelude.{◌≡◌, ◌++◌, ◌<◌, IfOk, IfSome, length, string_bytes};
 ghost use Rattle.definition_text.specs.Encode.{encode};
 ghost use Rattle.std.specs.List.{flat_map, prefix_len};
 ghost use Rattle.definition_text.specs.Content.{content_codes};
@@ -11,6 +11,7 @@ ghost use Rattle.definition_inline.specs.Strings.{spaces_at, string_bytes as par
 ghost use Rattle.inline_leaves.specs.Leaves.{IsAfter, found_leaf, parts_of};
 ghost use Rattle.html_inline.specs.Forms.{formed};
 ghost use Rattle.html_inline.specs.Kept.{is_ink, kept_size, text_of};
+ghost use Rattle.html_inline.specs.Prints.{Prints};
 
 use crate::character_reference::push_number;
 use crate::form::{Form, push_formed};
@@ -32,7 +33,7 @@ pub fn push_string<A: Allocator, T: Tables>(
     tables: &T,
     string: &str,
 ) -> Result<(), AllocError>
-    ensures { OnOk result (string_bytes out.new ≡ string_bytes out.old ++ string_text on.now (T.reference_of tables.now) (content_codes string.now)) }
+    ensures { Prints result out.old out.new (string_text on.now (T.reference_of tables.now) (content_codes string.now)) }
 {
     push_formed_string(out, on, tables, Form::Bytes, string)
 }
@@ -44,7 +45,7 @@ pub fn push_encoded_string<A: Allocator, T: Tables>(
     tables: &T,
     string: &str,
 ) -> Result<(), AllocError>
-    ensures { OnOk result (string_bytes out.new ≡ string_bytes out.old ++ encode (string_text on.now (T.reference_of tables.now) (content_codes string.now))) }
+    ensures { Prints result out.old out.new (encode (string_text on.now (T.reference_of tables.now) (content_codes string.now))) }
 {
     push_formed_string(out, on, tables, Form::Encoded, string)
 }
@@ -57,7 +58,7 @@ pub(crate) fn push_formed_string<A: Allocator, T: Tables>(
     form: Form,
     string: &str,
 ) -> Result<(), AllocError>
-    ensures { OnOk result (string_bytes out.new ≡ string_bytes out.old ++ formed form (text_of on.now (T.reference_of tables.now) string.now)) }
+    ensures { Prints result out.old out.new (formed form (text_of on.now (T.reference_of tables.now) string.now)) }
 {
     let mut rest = string;
     while !rest.is_empty() {
@@ -75,7 +76,8 @@ fn push_piece<'a, A: Allocator, T: Tables>(
     string: &'a str,
 ) -> Result<&'a str, AllocError>
     requires { 0 < length string.now }
-    ensures printed { IfOk result (λ rest. string_bytes out.new ++ formed form (text_of on.now (T.reference_of tables.now) rest.now) ≡ string_bytes out.old ++ formed form (text_of on.now (T.reference_of tables.now) string.now)) }
+    ensures printed { IfOk result (λ rest. string_bytes out.new ++ formed form (text_of on.now (T.reference_of tables.now) rest.now)
+        ≡ string_bytes out.old ++ formed form (text_of on.now (T.reference_of tables.now) string.now)) }
     ensures shorter { IfOk result (λ rest. length rest.now < length string.now) }
 {
     if let Some(found) = string_leaf_at(on, tables, string) {
@@ -134,7 +136,7 @@ fn push_part<A: Allocator>(
     form: Form,
     part: LeafPart<'_>,
 ) -> Result<(), AllocError>
-    ensures { OnOk result (string_bytes out.new ≡ string_bytes out.old ++ formed form (flat_map part_bytes (parts_of part.entry))) }
+    ensures { Prints result out.old out.new (formed form (flat_map part_bytes (parts_of part.entry))) }
 {
     match part {
         LeafPart::Escape(text) => push_formed(out, form, text),

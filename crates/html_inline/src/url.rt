@@ -1,6 +1,6 @@
 //! URLs of links and images (CommonMark 6.3 and 6.4).
-ghost use Rattle.std.specs.Prelude.{◌≡◌, ◌++◌, OnOk, string_bytes};
 ghost use Rattle.html_bytes.specs.Meaning.{image_url, link_url};
+ghost use Rattle.html_inline.specs.Prints.{Prints};
 
 use html_escape::{push_sanitized, push_sanitized_with_protocols};
 use markdown_options::CompileOptions;
@@ -13,7 +13,7 @@ pub(crate) fn push_link_url<A: Allocator>(
     compile: &CompileOptions,
     url: &str,
 ) -> Result<(), AllocError>
-    ensures { OnOk result (string_bytes out.new ≡ string_bytes out.old ++ link_url compile.now url.now) }
+    ensures { Prints result out.old out.new (link_url compile.now url.now) }
 {
     if compile.allow_dangerous_protocol {
         push_sanitized(out, url)
@@ -28,7 +28,7 @@ pub(crate) fn push_image_url<A: Allocator>(
     compile: &CompileOptions,
     url: &str,
 ) -> Result<(), AllocError>
-    ensures { OnOk result (string_bytes out.new ≡ string_bytes out.old ++ image_url compile.now url.now) }
+    ensures { Prints result out.old out.new (image_url compile.now url.now) }
 {
     if compile.allow_any_img_src || compile.allow_dangerous_protocol {
         push_sanitized(out, url)

@@ -1,6 +1,6 @@
 -- A content that is being read, as the definition reads it.
-use Rattle.std.specs.Prelude.{◌≡◌, ◌<◌, ◌≤◌, ℕ, Bool, false, List, [], ◌∷◌, Option, None, drop, take, length, slice_index}
-use Rattle.std.specs.List.{All, prefix_len}
+use Rattle.std.specs.Prelude.{◌≡◌, ◌<◌, ◌≤◌, ℕ, Bool, false, List, [], ◌∷◌, OnOk, Result, Option, None, drop, take, length, slice_index}
+use Rattle.std.specs.List.{prefix_len}
 use Rattle.std.specs.Str.{IsCharBoundary}
 use Rattle.markdown_options.specs.declared.configuration.Constructs.{Constructs}
 use Rattle.definition_text.specs.Columns.{is_white}
@@ -8,6 +8,7 @@ use Rattle.definition_text.specs.Content.{content_codes}
 use Rattle.definition_text.specs.InlineCode.{InlineCode}
 use Rattle.definition_inline.specs.Definition.{Definition}
 use Rattle.definition_page.specs.InlinePieces.{leads_to}
+use Rattle.definition_inline.specs.Attention.{run_at}
 use Rattle.definition_inline.specs.Scan as scan
 use Rattle.definition_inline.specs.LabelEnd.{Ended}
 use Rattle.definition_inline.specs.Scan.{InlineContext, ended_by, start_bytes}
@@ -15,14 +16,15 @@ use Rattle.definition_page.specs.Targets.{is_label_of, labels_of, linked_at, lin
 use Rattle.inline_content.specs.declared.content.Content.{Content}
 use Rattle.inline_content.specs.View.{content_view, view_at}
 use Rattle.inline_leaves.specs.Leaves.{size_before, IsAfter, IsEnd}
+use Rattle.inline_leaves.specs.Scanned.{leaf_in}
 use Rattle.inline_labels.specs.declared.table.LabelTable.{LabelTable}
 use Rattle.inline_labels.specs.Table.{HasLabels}
 use Rattle.inline_links.specs.Codes.{IsRest}
 use Rattle.inline_runs.specs.declared.run.Run.{Run}
 use Rattle.inline_parser.specs.declared.label.LabelStart.{LabelStart}
-use Rattle.inline_parser.specs.declared.label.OpenLabel.{OpenLabel}
 use Rattle.inline_parser.specs.declared.scan.Scanner.{Scanner}
-use Rattle.inline_parser.specs.Shows.{Shows, IsSound, start_view}
+use Rattle.inline_parser.specs.declared.scan.Source.{Source}
+use Rattle.inline_parser.specs.Shows.{Shows, IsSound, StartsBefore, start_view}
 
 -- the context of a document with these definitions
 abbrev pub context_by : Constructs → (List ℕ → Option (List ℕ)) → List Definition → InlineContext
@@ -44,7 +46,7 @@ pub record IsPlace (content rest : List ℕ) : Type 0 where
 pub record IsPlaced {A : Type 0} (content : Content) (s : Scanner A) : Type 0 where
   pub searched : s.searches.content ≡ content.text
   pub place : IsPlace content.text.now s.rest.now
-  pub labels : All (λ (o : OpenLabel). IsRest o.from.now s.rest.now) s.reading.labels.items
+  pub labels : StartsBefore s.rest.now s.reading
   pub sound : IsSound s.reading
 
 -- what a `]` forms with the innermost label start that is open, if there is one
@@ -80,3 +82,25 @@ scanned on names is_punctuation ds content =
 pub record IsScanning {A : Type 0} (on : Constructs) (names : List ℕ → Option (List ℕ)) (is_punctuation : ℕ → Bool) (labels : LabelTable A) (content : Content) (s : Scanner A) : Type 0 where
   pub placed : IsPlaced content s
   pub follows : (ds : List Definition) → HasLabels labels (labels_of ds) → Follows on names is_punctuation ds content s (scanned on names is_punctuation ds content)
+
+-- whatever the document's definitions are and whatever is read in the end, the new state leads there as the old one did, unless memory ran out
+abbrev pub GoesOn : {T A B C : Type 0} → (List ℕ → Option (List ℕ)) → (ℕ → Bool) → Source T A → Scanner A → Result B C → Scanner A → Type 0
+GoesOn names is_punctuation source old result new =
+    (ds : List Definition) (final : scan.Reading) → HasLabels source.labels.now (labels_of ds) →
+    Follows source.on.now names is_punctuation ds source.content old final → OnOk result (Follows source.on.now names is_punctuation ds source.content new final)
+
+-- what is left stays a rest of the content, unless memory ran out
+abbrev pub StaysPlaced : {A B C : Type 0} → Scanner A → Result B C → Scanner A → Type 0
+StaysPlaced old result new = (content : Content) → IsPlaced content old → OnOk result (IsPlaced content new)
+
+-- less is left, unless memory ran out
+abbrev pub Shortens : {A B C : Type 0} → Scanner A → Result B C → Scanner A → Type 0
+Shortens old result new = OnOk result (length new.rest.now < length old.rest.now)
+
+-- the content of this source begins with no construct that holds no other, by these names
+abbrev pub HasNoLeaf : {T A : Type 0} → (List ℕ → Option (List ℕ)) → Source T A → List ℕ → Type 0
+HasNoLeaf names source rest = leaf_in source.on.now names (content_codes rest) ≡ None
+
+-- and with no run of `*` or `_`, by this punctuation
+abbrev pub HasNoRun : {T A : Type 0} → (ℕ → Bool) → Source T A → List ℕ → Type 0
+HasNoRun is_punctuation source rest = run_at source.on.now (view_at is_punctuation source.content rest) ≡ None

@@ -1,11 +1,13 @@
 -- What is read so far, as the definition has it.
-use Rattle.std.specs.Prelude.{◌≡◌, ◌<◌, ◌≤◌, ℕ, false, List, [], ◌∷◌, ◌++◌, length, reverse}
+use Rattle.std.specs.Prelude.{◌≡◌, ◌<◌, ◌≤◌, ℕ, false, List, [], ◌∷◌, ◌++◌, length, reverse, OnOk, Result}
+use Rattle.std.specs.List.{All}
 use Rattle.definition_text.specs.Content.{content_codes}
 use Rattle.definition_inline.specs.Inline.{Target, Data}
 use Rattle.definition_inline.specs.Inline as inline
 use Rattle.definition_inline.specs.Scan as scan
 use Rattle.definition_inline.specs.Scan.{LinkStart, ImageStart, start_bytes, unformed, formed}
 use Rattle.definition_inline.specs.Spans.{Token}
+use Rattle.inline_links.specs.Codes.{IsRest}
 use Rattle.inline_runs.specs.declared.run.Run.{Run}
 use Rattle.inline_rows.specs.declared.row.LinkTarget.{LinkTarget}
 use Rattle.inline_rows.specs.declared.row.InlineRow.{InlineRow}
@@ -92,7 +94,19 @@ pub record Shows {A : Type 0} (leads : Target → inline.Linked) (at : ℕ → i
   pub by : ShowsBy leads at s.rows.items s.runs.items s.slots.items (reverse s.labels.items) r.open_labels r.now.tokens
   pub holds_link : s.holds_link ≡ r.now.holds_link
 
+-- where the old reading shows what was read, the new one shows this, unless memory ran out
+abbrev pub ShowsThen : {A B C : Type 0} → Reading A → Result B C → Reading A → (scan.Reading → scan.Reading) → Type 0
+ShowsThen old result new next = (leads : Target → inline.Linked) (at : ℕ → inline.Linked) (r : scan.Reading) → Shows leads at old r → OnOk result (Shows leads at new (next r))
+
 -- ---- places
+
+-- this is the rest of what stands after each label start that is open
+abbrev pub StartsBefore : {A : Type 0} → List ℕ → Reading A → Type 0
+StartsBefore rest s = All (λ (o : OpenLabel). IsRest o.from.now rest) s.labels.items
+
+-- what was such a rest still is one, unless memory ran out
+abbrev pub KeepsStarts : {A B C : Type 0} → Reading A → Result B C → Reading A → Type 0
+KeepsStarts old result new = (rest : List ℕ) → StartsBefore rest old → OnOk result (StartsBefore rest new)
 
 -- the rows and the runs of open label starts stand before those inside of them, the innermost first
 abbrev pub AreOutside : List OpenLabel → ℕ → ℕ → Type 0

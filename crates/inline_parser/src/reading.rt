@@ -15,10 +15,8 @@ ghost use Rattle.inline_runs.specs.View.{run_view};
 ghost use Rattle.inline_rows.specs.View.{rows_view, target_linked};
 ghost use Rattle.inline_rows.specs.declared.row.InlineRow.{InlineRow as SeenRow};
 ghost use Rattle.inline_spans.specs.Container.{IsContainer, AreTold, AreWithin};
-ghost use Rattle.std.specs.List.{All};
 ghost use Rattle.inline_links.specs.Codes.{IsRest};
-ghost use Rattle.inline_parser.specs.declared.label.OpenLabel.{OpenLabel as SeenLabel};
-ghost use Rattle.inline_parser.specs.Shows.{Shows, IsSound, OpensAt, opened, formed_last, unformed_last};
+ghost use Rattle.inline_parser.specs.Shows.{Shows, ShowsThen, StartsBefore, KeepsStarts, IsSound, OpensAt, opened, formed_last, unformed_last};
 
 use crate::label::{LabelStart, OpenLabel};
 use inline_leaves::LeafPart;
@@ -68,8 +66,8 @@ impl<'a, A: Allocator> Reading<'a, A> {
     pub(crate) fn text(&mut self, text: &'a str) -> Result<(), AllocError>
         requires sound { IsSound self.old }
         ensures sound { OnOk result (IsSound self.new) }
-        ensures from { (rest : List ℕ) → All (λ (o : SeenLabel). IsRest o.from.now rest) self.old.labels.items → OnOk result (All (λ (o : SeenLabel). IsRest o.from.now rest) self.new.labels.items) }
-        ensures read { (leads : Target → Linked) (at : ℕ → Linked) (r : scan.Reading) → Shows leads at self.old r → OnOk result (Shows leads at self.new (read_tokens (map Item (map Data text.now)) r)) }
+        ensures from { KeepsStarts self.old result self.new }
+        ensures read { ShowsThen self.old result self.new (read_tokens (map Item (map Data text.now))) }
     {
         self.rows.push(InlineRow::Text(text))?;
         Ok(())
@@ -79,8 +77,8 @@ impl<'a, A: Allocator> Reading<'a, A> {
     pub(crate) fn leaf(&mut self, part: LeafPart<'a>) -> Result<(), AllocError>
         requires sound { IsSound self.old }
         ensures sound { OnOk result (IsSound self.new) }
-        ensures from { (rest : List ℕ) → All (λ (o : SeenLabel). IsRest o.from.now rest) self.old.labels.items → OnOk result (All (λ (o : SeenLabel). IsRest o.from.now rest) self.new.labels.items) }
-        ensures read { (leads : Target → Linked) (at : ℕ → Linked) (r : scan.Reading) → Shows leads at self.old r → OnOk result (Shows leads at self.new (read_tokens (map Item (parts_of part.entry)) r)) }
+        ensures from { KeepsStarts self.old result self.new }
+        ensures read { ShowsThen self.old result self.new (read_tokens (map Item (parts_of part.entry))) }
     {
         self.rows.push(InlineRow::Leaf(part))?;
         Ok(())
@@ -91,8 +89,8 @@ impl<'a, A: Allocator> Reading<'a, A> {
         requires sound { IsSound self.old }
         requires byte { byte.now ≡ run.marker ∷ [] }
         ensures sound { OnOk result (IsSound self.new) }
-        ensures from { (rest : List ℕ) → All (λ (o : SeenLabel). IsRest o.from.now rest) self.old.labels.items → OnOk result (All (λ (o : SeenLabel). IsRest o.from.now rest) self.new.labels.items) }
-        ensures read { (leads : Target → Linked) (at : ℕ → Linked) (r : scan.Reading) → Shows leads at self.old r → OnOk result (Shows leads at self.new (read_tokens (Delimiters (run_view run) ∷ []) r)) }
+        ensures from { KeepsStarts self.old result self.new }
+        ensures read { ShowsThen self.old result self.new (read_tokens (Delimiters (run_view run) ∷ [])) }
     {
         self.slots.push(self.rows.len())?;
         self.runs.push(run)?;
@@ -110,8 +108,8 @@ impl<'a, A: Allocator> Reading<'a, A> {
         requires sound { IsSound self.old }
         requires text { OpensAt start text.now }
         ensures sound { OnOk result (IsSound self.new) }
-        ensures from { (rest : List ℕ) → All (λ (o : SeenLabel). IsRest o.from.now rest) self.old.labels.items → IsRest from.now rest → OnOk result (All (λ (o : SeenLabel). IsRest o.from.now rest) self.new.labels.items) }
-        ensures read { (leads : Target → Linked) (at : ℕ → Linked) (r : scan.Reading) → Shows leads at self.old r → OnOk result (Shows leads at self.new (opened start from.now r)) }
+        ensures from { (rest : List ℕ) → StartsBefore rest self.old → IsRest from.now rest → OnOk result (StartsBefore rest self.new) }
+        ensures read { ShowsThen self.old result self.new (opened start from.now) }
     {
         self.labels.push(OpenLabel {
             start,
@@ -129,7 +127,7 @@ impl<'a, A: Allocator> Reading<'a, A> {
     pub(crate) fn unform(&mut self)
         requires sound { IsSound self.old }
         ensures sound { IsSound self.new }
-        ensures from { (rest : List ℕ) → All (λ (o : SeenLabel). IsRest o.from.now rest) self.old.labels.items → All (λ (o : SeenLabel). IsRest o.from.now rest) self.new.labels.items }
+        ensures from { (rest : List ℕ) → StartsBefore rest self.old → StartsBefore rest self.new }
         ensures read { (leads : Target → Linked) (at : ℕ → Linked) (r : scan.Reading) → Shows leads at self.old r → Shows leads at self.new (unformed_last r) }
     {
         if let Some(label) = self.labels.pop() {
@@ -141,8 +139,9 @@ impl<'a, A: Allocator> Reading<'a, A> {
     pub(crate) fn form(&mut self, target: LinkTarget<'a>) -> Result<(), AllocError>
         requires sound { IsSound self.old }
         ensures sound { OnOk result (IsSound self.new) }
-        ensures from { (rest : List ℕ) → All (λ (o : SeenLabel). IsRest o.from.now rest) self.old.labels.items → OnOk result (All (λ (o : SeenLabel). IsRest o.from.now rest) self.new.labels.items) }
-        ensures read { (leads : Target → Linked) (at : ℕ → Linked) (r : scan.Reading) (t : Target) → target_linked at target.entry ≡ leads t → Shows leads at self.old r → OnOk result (Shows leads at self.new (formed_last t r)) }
+        ensures from { KeepsStarts self.old result self.new }
+        ensures read { (leads : Target → Linked) (at : ℕ → Linked) (r : scan.Reading) (t : Target) → target_linked at target.entry ≡ leads t →
+            Shows leads at self.old r → OnOk result (Shows leads at self.new (formed_last t r)) }
     {
         let Some(label) = self.labels.pop() else {
             return Ok(());
@@ -164,7 +163,8 @@ impl<'a, A: Allocator> Reading<'a, A> {
     /// The rows where nothing is left: label starts that are open form nothing.
     pub(crate) fn finish(self) -> Result<Vec<InlineRow<'a>, A>, AllocError>
         requires sound { IsSound self }
-        ensures read { (leads : Target → Linked) (at : ℕ → Linked) (r : scan.Reading) → Shows leads at self.entry r → IfOk result (λ rows. rows_view at rows.items ≡ inline_rows leads (emphasized (whole_text r).tokens)) }
+        ensures read { (leads : Target → Linked) (at : ℕ → Linked) (r : scan.Reading) → Shows leads at self.entry r →
+            IfOk result (λ rows. rows_view at rows.items ≡ inline_rows leads (emphasized (whole_text r).tokens)) }
     {
         let Reading {
             mut rows,
@@ -187,7 +187,9 @@ fn tell_inner<A: Allocator>(
 ) -> Result<(), AllocError>
     requires { AreWithin runs.now slots.now (length rows.old.items) }
     ensures length { length rows.new.items ≡ length rows.old.items }
-    ensures told { (leads : Target → Linked) (at : ℕ → Linked) (outer inner : List SeenRow) (tokens : List Token) → rows.old.items ≡ outer ++ inner → IsContainer leads at inner (length outer) runs.now slots.now tokens → OnOk result (AreTold leads at outer tokens rows.new.items) }
+    ensures told { (leads : Target → Linked) (at : ℕ → Linked) (outer inner : List SeenRow) (tokens : List Token) →
+        rows.old.items ≡ outer ++ inner → IsContainer leads at inner (length outer) runs.now slots.now tokens →
+        OnOk result (AreTold leads at outer tokens rows.new.items) }
 {
     tell_apart(rows, runs, slots, pairing)
 }

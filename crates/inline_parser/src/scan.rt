@@ -2,11 +2,10 @@
 //!
 //!     content ::= white* (text | leaf | run | start | ']')*
 ghost use Rattle.std.specs.Prelude.{◌≡◌, ◌<◌, ◌≤◌, ◌==◌, ◌&&◌, ℕ, List, [], ◌∷◌, Option, None, true, length, map, IfOk, IfSome, OnOk, take, drop, slice_index};
-ghost use Rattle.std.specs.List.{All, prefix_len};
+ghost use Rattle.std.specs.List.{prefix_len};
 ghost use Rattle.std.specs.Option.{option_map};
 ghost use Rattle.std.specs.Str.{IsCharBoundary};
 ghost use Rattle.markdown_options.specs.declared.configuration.Constructs.{Constructs as SeenConstructs};
-ghost use Rattle.definition_inline.specs.Attention.{run_at};
 ghost use Rattle.definition_text.specs.Columns.{is_white};
 ghost use Rattle.definition_text.specs.Content.{content_codes};
 ghost use Rattle.definition_inline.specs.Inline.{Target, Linked, Data};
@@ -19,16 +18,13 @@ ghost use Rattle.definition_inline.specs.Spans.{Item, Delimiters};
 ghost use Rattle.definition_page.specs.Targets.{labels_of, linked_at, linked_by};
 ghost use Rattle.inline_runs.specs.View.{run_view};
 ghost use Rattle.inline_content.specs.View.{content_view, view_at};
-ghost use Rattle.inline_content.specs.declared.content.Content.{Content as SeenContent};
 ghost use Rattle.inline_leaves.specs.Leaves.{parts_of, size_before, IsAfter};
-ghost use Rattle.inline_leaves.specs.Scanned.{leaf_in};
 ghost use Rattle.inline_rows.specs.View.{rows_view};
 ghost use Rattle.inline_label_ends.specs.Ends.{IsAfterEnd, IsEnded};
 ghost use Rattle.inline_labels.specs.Table.{HasLabels};
-ghost use Rattle.inline_links.specs.Codes.{IsRest};
-ghost use Rattle.inline_parser.specs.Scanned.{context_by, ended_here, Follows, IsPlace, IsPlaced, IsRunFront, IsSingle, StartsLabel};
-ghost use Rattle.inline_parser.specs.Shows.{opened, start_view, IsSound, Shows};
-ghost use Rattle.inline_parser.specs.declared.label.OpenLabel.{OpenLabel as SeenLabel};
+ghost use Rattle.inline_parser.specs.Scanned.{context_by, ended_here, IsPlace, IsPlaced, IsRunFront, IsSingle, StartsLabel};
+ghost use Rattle.inline_parser.specs.Scanned.{GoesOn, HasNoLeaf, HasNoRun, Shortens, StaysPlaced};
+ghost use Rattle.inline_parser.specs.Shows.{opened, start_view, IsSound, Shows, ShowsThen, StartsBefore};
 
 use crate::label::{LabelStart, OpenLabel};
 use crate::plain::text_size;
@@ -72,7 +68,10 @@ pub fn inline_rows<'a, T: Tables, A: Allocator + Clone>(
     labels: &'a LabelTable<A>,
     content: Content<'a>,
 ) -> Result<Vec<InlineRow<'a>, A>, AllocError>
-    ensures { (ds : List Definition) → HasLabels labels.now (labels_of ds) → IfOk result (λ rows. rows_view (linked_at ds) rows.items ≡ inline_rows (leads_to (linked_by ds)) (inlines (context_by on.now (T.reference_of tables.now) ds) (content_view (T.punctuation_of tables.now) content.entry))) }
+    ensures { (ds : List Definition) → HasLabels labels.now (labels_of ds) →
+        IfOk result (λ rows. rows_view (linked_at ds) rows.items
+        ≡ inline_rows (leads_to (linked_by ds))
+        (inlines (context_by on.now (T.reference_of tables.now) ds) (content_view (T.punctuation_of tables.now) content.entry))) }
 {
     let source = Source {
         on,
@@ -127,8 +126,8 @@ impl<'a, A: Allocator + Clone> Scanner<'a, A> {
         requires placed { IsPlaced source.now.content self.old }
         requires some { 0 < length self.old.rest.now }
         ensures placed { OnOk result (IsPlaced source.now.content self.new) }
-        ensures shorter { OnOk result (length self.new.rest.now < length self.old.rest.now) }
-        ensures read { (ds : List Definition) (final : scan.Reading) → HasLabels source.now.labels.now (labels_of ds) → Follows source.now.on.now (T.reference_of source.now.tables.now) (T.punctuation_of source.now.tables.now) ds source.now.content self.old final → OnOk result (Follows source.now.on.now (T.reference_of source.now.tables.now) (T.punctuation_of source.now.tables.now) ds source.now.content self.new final) }
+        ensures shorter { Shortens self.old result self.new }
+        ensures read { GoesOn (T.reference_of source.now.tables.now) (T.punctuation_of source.now.tables.now) source.now self.old result self.new }
     {
         let size = text_size(self.rest.as_bytes());
         if size > 0 {
@@ -145,9 +144,9 @@ impl<'a, A: Allocator + Clone> Scanner<'a, A> {
         requires sound { IsSound self.old.reading }
         requires boundary { IsCharBoundary self.old.rest.now size }
         requires next { IsAfter self.old.rest.now (drop size self.old.rest.now) }
-        ensures placed { (content : SeenContent) → IsPlaced content self.old → OnOk result (IsPlaced content self.new) }
+        ensures placed { StaysPlaced self.old result self.new }
         ensures rest { OnOk result (self.new.rest.now ≡ drop size self.old.rest.now) }
-        ensures read { (leads : Target → Linked) (at : ℕ → Linked) (r : scan.Reading) → Shows leads at self.old.reading r → OnOk result (Shows leads at self.new.reading (read_tokens (map Item (map Data (take size self.old.rest.now))) r)) }
+        ensures read { ShowsThen self.old.reading result self.new.reading (read_tokens (map Item (map Data (take size self.old.rest.now)))) }
     {
         self.reading.text(text_before(self.rest, size))?;
         self.rest = rest_from(self.rest, size);
@@ -158,9 +157,9 @@ impl<'a, A: Allocator + Clone> Scanner<'a, A> {
     fn leaf(&mut self, leaf: Leaf<'a>) -> Result<(), AllocError>
         requires sound { IsSound self.old.reading }
         requires next { IsAfter self.old.rest.now leaf.after.now }
-        ensures placed { (content : SeenContent) → IsPlaced content self.old → OnOk result (IsPlaced content self.new) }
+        ensures placed { StaysPlaced self.old result self.new }
         ensures rest { OnOk result (self.new.rest.now ≡ leaf.entry.after.now) }
-        ensures read { (leads : Target → Linked) (at : ℕ → Linked) (r : scan.Reading) → Shows leads at self.old.reading r → OnOk result (Shows leads at self.new.reading (read_tokens (map Item (parts_of leaf.entry.part)) r)) }
+        ensures read { ShowsThen self.old.reading result self.new.reading (read_tokens (map Item (parts_of leaf.entry.part))) }
     {
         self.reading.leaf(leaf.part)?;
         self.rest = leaf.after;
@@ -171,11 +170,11 @@ impl<'a, A: Allocator + Clone> Scanner<'a, A> {
     fn run_or_label<T: Tables>(&mut self, source: &Source<'a, T, A>) -> Result<(), AllocError>
         requires placed { IsPlaced source.now.content self.old }
         requires some { 0 < length self.old.rest.now }
-        requires no_leaf { leaf_in source.now.on.now (T.reference_of source.now.tables.now) (content_codes self.old.rest.now) ≡ None }
+        requires no_leaf { HasNoLeaf (T.reference_of source.now.tables.now) source.now self.old.rest.now }
         requires first { IsSingle self.old.rest.now }
         ensures placed { OnOk result (IsPlaced source.now.content self.new) }
-        ensures shorter { OnOk result (length self.new.rest.now < length self.old.rest.now) }
-        ensures read { (ds : List Definition) (final : scan.Reading) → HasLabels source.now.labels.now (labels_of ds) → Follows source.now.on.now (T.reference_of source.now.tables.now) (T.punctuation_of source.now.tables.now) ds source.now.content self.old final → OnOk result (Follows source.now.on.now (T.reference_of source.now.tables.now) (T.punctuation_of source.now.tables.now) ds source.now.content self.new final) }
+        ensures shorter { Shortens self.old result self.new }
+        ensures read { GoesOn (T.reference_of source.now.tables.now) (T.punctuation_of source.now.tables.now) source.now self.old result self.new }
     {
         match source.content.run_at(source.on, source.tables, self.rest) {
             Some(run) => self.run(run),
@@ -188,9 +187,9 @@ impl<'a, A: Allocator + Clone> Scanner<'a, A> {
         requires sound { IsSound self.old.reading }
         requires first { IsSingle self.old.rest.now }
         requires front { IsRunFront self.old.rest.now run }
-        ensures placed { (content : SeenContent) → IsPlaced content self.old → OnOk result (IsPlaced content self.new) }
+        ensures placed { StaysPlaced self.old result self.new }
         ensures rest { OnOk result (self.new.rest.now ≡ drop run.size self.old.rest.now) }
-        ensures read { (leads : Target → Linked) (at : ℕ → Linked) (r : scan.Reading) → Shows leads at self.old.reading r → OnOk result (Shows leads at self.new.reading (read_tokens (Delimiters (run_view run) ∷ []) r)) }
+        ensures read { ShowsThen self.old.reading result self.new.reading (read_tokens (Delimiters (run_view run) ∷ [])) }
     {
         self.reading.run(run, first_byte(self.rest))?;
         self.rest = cut_after(self.rest, run.size);
@@ -201,12 +200,12 @@ impl<'a, A: Allocator + Clone> Scanner<'a, A> {
     fn label_or_byte<T: Tables>(&mut self, source: &Source<'a, T, A>) -> Result<(), AllocError>
         requires placed { IsPlaced source.now.content self.old }
         requires some { 0 < length self.old.rest.now }
-        requires no_leaf { leaf_in source.now.on.now (T.reference_of source.now.tables.now) (content_codes self.old.rest.now) ≡ None }
+        requires no_leaf { HasNoLeaf (T.reference_of source.now.tables.now) source.now self.old.rest.now }
         requires first { IsSingle self.old.rest.now }
-        requires no_run { run_at source.now.on.now (view_at (T.punctuation_of source.now.tables.now) source.now.content self.old.rest.now) ≡ None }
+        requires no_run { HasNoRun (T.punctuation_of source.now.tables.now) source.now self.old.rest.now }
         ensures placed { OnOk result (IsPlaced source.now.content self.new) }
-        ensures shorter { OnOk result (length self.new.rest.now < length self.old.rest.now) }
-        ensures read { (ds : List Definition) (final : scan.Reading) → HasLabels source.now.labels.now (labels_of ds) → Follows source.now.on.now (T.reference_of source.now.tables.now) (T.punctuation_of source.now.tables.now) ds source.now.content self.old final → OnOk result (Follows source.now.on.now (T.reference_of source.now.tables.now) (T.punctuation_of source.now.tables.now) ds source.now.content self.new final) }
+        ensures shorter { Shortens self.old result self.new }
+        ensures read { GoesOn (T.reference_of source.now.tables.now) (T.punctuation_of source.now.tables.now) source.now self.old result self.new }
     {
         if let Some(start) = label_start_at(source.on, self.rest) {
             return self.start(start);
@@ -222,9 +221,9 @@ impl<'a, A: Allocator + Clone> Scanner<'a, A> {
     fn start(&mut self, start: LabelStart) -> Result<(), AllocError>
         requires sound { IsSound self.old.reading }
         requires front { StartsLabel self.old.rest.now start }
-        ensures placed { (content : SeenContent) → IsPlaced content self.old → OnOk result (IsPlaced content self.new) }
+        ensures placed { StaysPlaced self.old result self.new }
         ensures rest { OnOk result (self.new.rest.now ≡ drop (length (start_bytes (start_view start))) self.old.rest.now) }
-        ensures read { (leads : Target → Linked) (at : ℕ → Linked) (r : scan.Reading) → Shows leads at self.old.reading r → OnOk result (Shows leads at self.new.reading (opened start (drop (length (start_bytes (start_view start))) self.old.rest.now) r)) }
+        ensures read { ShowsThen self.old.reading result self.new.reading (opened start (drop (length (start_bytes (start_view start))) self.old.rest.now)) }
     {
         let size = start.size();
         let after = cut_after(self.rest, size);
@@ -238,14 +237,14 @@ impl<'a, A: Allocator + Clone> Scanner<'a, A> {
     fn end<T: Tables>(&mut self, source: &Source<'a, T, A>) -> Result<(), AllocError>
         requires placed { IsPlaced source.now.content self.old }
         requires some { 0 < length self.old.rest.now }
-        requires no_leaf { leaf_in source.now.on.now (T.reference_of source.now.tables.now) (content_codes self.old.rest.now) ≡ None }
+        requires no_leaf { HasNoLeaf (T.reference_of source.now.tables.now) source.now self.old.rest.now }
         requires first { IsSingle self.old.rest.now }
-        requires no_run { run_at source.now.on.now (view_at (T.punctuation_of source.now.tables.now) source.now.content self.old.rest.now) ≡ None }
+        requires no_run { HasNoRun (T.punctuation_of source.now.tables.now) source.now self.old.rest.now }
         requires no_start { label_start_at source.now.on.now (content_codes self.old.rest.now) ≡ None }
         requires bracket { (source.now.on.now.label_end && (slice_index self.old.rest.now 0 == 93)) ≡ true }
         ensures placed { OnOk result (IsPlaced source.now.content self.new) }
-        ensures shorter { OnOk result (length self.new.rest.now < length self.old.rest.now) }
-        ensures read { (ds : List Definition) (final : scan.Reading) → HasLabels source.now.labels.now (labels_of ds) → Follows source.now.on.now (T.reference_of source.now.tables.now) (T.punctuation_of source.now.tables.now) ds source.now.content self.old final → OnOk result (Follows source.now.on.now (T.reference_of source.now.tables.now) (T.punctuation_of source.now.tables.now) ds source.now.content self.new final) }
+        ensures shorter { Shortens self.old result self.new }
+        ensures read { GoesOn (T.reference_of source.now.tables.now) (T.punctuation_of source.now.tables.now) source.now self.old result self.new }
     {
         let after = cut_after(self.rest, 1);
         match self.ended(source.labels, after)? {
@@ -268,9 +267,13 @@ impl<'a, A: Allocator + Clone> Scanner<'a, A> {
         labels: &LabelTable<A>,
         after: &'a str,
     ) -> Result<Option<LabelEnd<'a>>, AllocError>
-        requires placed { All (λ (o : SeenLabel). IsRest o.from.now self.now.rest.now) self.now.reading.labels.items }
+        requires placed { StartsBefore self.now.rest.now self.now.reading }
         requires bracket { self.now.rest.now ≡ 93 ∷ after.now }
-        ensures read { (leads : Target → Linked) (at : ℕ → Linked) (r : scan.Reading) (on : SeenConstructs) (names : List ℕ → Option (List ℕ)) (ds : List Definition) → HasLabels labels.now (labels_of ds) → Shows leads at self.now.reading r → IfOk result (λ found. IsEnded (labels_of ds) after.now found (ended_here (context_by on names ds) (content_codes self.now.rest.now) r.open_labels r.now)) }
+        ensures read { (leads : Target → Linked) (at : ℕ → Linked) (r : scan.Reading) (on : SeenConstructs)
+            (names : List ℕ → Option (List ℕ)) (ds : List Definition) →
+            HasLabels labels.now (labels_of ds) → Shows leads at self.now.reading r →
+            IfOk result (λ found. IsEnded (labels_of ds) after.now found
+            (ended_here (context_by on names ds) (content_codes self.now.rest.now) r.open_labels r.now)) }
         ensures place { IfOk result (λ found. IfSome found (λ end. IsAfterEnd after.now end.after.now)) }
     {
         match self.reading.labels.last() {

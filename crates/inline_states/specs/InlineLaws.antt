@@ -14,7 +14,7 @@ use Rattle.markdown_engine.specs.Machine.{fresh}
 use Rattle.markdown_engine.specs.Order.{opened}
 use Rattle.markdown_engine.specs.Reading.{Config}
 use Rattle.markdown_engine.specs.Resolving.{ResolvesAt, resolves_nothing, settles_whole}
-use Rattle.engine_programs.specs.Bodies.{Answer, Body, named_all, step_by}
+use Rattle.engine_programs.specs.Bodies.{named_all, step_by}
 use Rattle.engine_programs.specs.Sorts.{fits, implies}
 use Rattle.engine_programs.specs.Stacks.{program_rank, program_valid}
 use Rattle.engine_programs.specs.NameLaws.{implied}
@@ -26,25 +26,15 @@ use Rattle.inline_states_table.specs.Table.{inline_group, is_in, same_group, sor
 use Rattle.inline_states_leaves.specs.LeafStates.{leaves_fit}
 use Rattle.inline_states_html.specs.HtmlStates.{html_fits}
 use Rattle.inline_states_labels.specs.LabelStates.{labels_fit}
+use Rattle.inline_states_ends.specs.EndStates.{ends_fit}
 use Rattle.inline_states_gfm.specs.GfmStates.{gfm_fits}
 use Rattle.inline_states.specs.declared.inlines.Inlines.{Inlines}
 use Rattle.inline_states.specs.Inlines.{bodies, body_of, whole_body}
 
--- states of texts and strings fit the table, and so do states that aren't read yet
+-- states of texts and strings fit the table
 whole_fits : (n : InlineName) → implies (is_in groups.Whole n) (fits sorts 64 (Inline n) (whole_body n)) ≡ true
 whole_fits inline_states.TextStart = refl
 whole_fits n = refl
-
-abbrev nothing : Body Inlines
-nothing = Answer states.Nok
-
-others_fit : (n : InlineName) → implies (is_in groups.Ends n) (fits sorts 64 (Inline n) nothing) ≡ true
-others_fit inline_states.TextStart = refl
-others_fit n = refl
-
-itself : (g : Group) → same_group g g ≡ true
-itself groups.Leaves = refl
-itself g = refl
 
 module _ {T : Type 0} (texts : List ℕ → Option (List ℕ)) (x : Context T) where
   -- each group has its own test
@@ -52,7 +42,7 @@ module _ {T : Type 0} (texts : List ℕ → Option (List ℕ)) (x : Context T) w
   group_fits groups.Leaves n e = implied _ _ (leaves_fit Inlines texts x n) (ap (λ (g : Group). same_group g groups.Leaves) e)
   group_fits groups.Html n e = implied _ _ (html_fits Inlines x n) (ap (λ (g : Group). same_group g groups.Html) e)
   group_fits groups.Labels n e = implied _ _ (labels_fit Inlines x n) (ap (λ (g : Group). same_group g groups.Labels) e)
-  group_fits groups.Ends n e = implied _ _ (others_fit n) (ap (λ (g : Group). same_group g groups.Ends) e)
+  group_fits groups.Ends n e = implied _ _ (ends_fit Inlines x n) (ap (λ (g : Group). same_group g groups.Ends) e)
   group_fits groups.Gfm n e = implied _ _ (gfm_fits Inlines x n) (ap (λ (g : Group). same_group g groups.Gfm) e)
   group_fits groups.Whole n e = implied _ _ (whole_fits n) (ap (λ (g : Group). same_group g groups.Whole) e)
 

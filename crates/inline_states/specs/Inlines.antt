@@ -15,6 +15,7 @@ use Rattle.inline_states_table.specs.Words.{next, retry}
 use Rattle.inline_states_leaves.specs.LeafStates.{leaf_body}
 use Rattle.inline_states_html.specs.HtmlStates.{html_body}
 use Rattle.inline_states_labels.specs.LabelStates.{label_body}
+use Rattle.inline_states_ends.specs.EndStates.{end_body}
 use Rattle.inline_states_gfm.specs.GfmStates.{gfm_body}
 use Rattle.inline_states.specs.declared.inlines.Inlines.{Inlines}
 use Rattle.inline_states.specs.Strings.{string_start, string_before, string_before_data}
@@ -48,7 +49,7 @@ module _ {T : Type 0} (texts : List ℕ → Option (List ℕ)) (x : Context T) w
   body_of groups.Leaves n = leaf_body texts x n
   body_of groups.Html n = html_body x n
   body_of groups.Labels n = label_body x n
-  body_of groups.Ends n = Answer states.Nok
+  body_of groups.Ends n = end_body x n
   body_of groups.Gfm n = gfm_body x n
   body_of groups.Whole n = whole_body n
 

@@ -82,7 +82,7 @@ impl<'s, T: Tables> Machine<T> for Inlines<'s> {
             Group::Leaves => inline_states_leaves::call(tokenizer, state),
             Group::Html => inline_states_html::call(tokenizer, state),
             Group::Labels => inline_states_labels::call(tokenizer, state),
-            Group::Ends => State::Nok,
+            Group::Ends => inline_states_ends::call(tokenizer, state),
             Group::Gfm => inline_states_gfm::call(tokenizer, state),
             Group::Whole => call_whole(tokenizer, state),
         }

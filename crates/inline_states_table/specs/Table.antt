@@ -85,6 +85,9 @@ title_tokens = Held 3 ∷ Held 1 ∷ []
 abbrev pub enclosed_tokens : List Token
 enclosed_tokens = Held 2 ∷ Held 1 ∷ []
 
+abbrev pub resource_tokens : List Token
+resource_tokens = Fixed names.Resource ∷ []
+
 abbrev pub raw_destination_tokens : List Token
 raw_destination_tokens = Fixed names.Data ∷ Held 5 ∷ Held 4 ∷ Held 1 ∷ []
 
@@ -211,7 +214,6 @@ inline_row inline_states.TextBeforeHtml = of_group groups.Whole (outermost false
 inline_row inline_states.TextBeforeHardBreakEscape = of_group groups.Whole (outermost false 8)
 inline_row inline_states.TextBeforeLabelStartLink = of_group groups.Whole (outermost false 8)
 inline_row inline_states.TextBeforeData = of_group groups.Whole (outermost false 4)
--- REST
 inline_row inline_states.GfmAutolinkLiteralProtocolStart = of_group groups.Gfm (first 4)
 inline_row inline_states.GfmAutolinkLiteralProtocolAfter = of_group groups.Gfm (first 4)
 inline_row inline_states.GfmAutolinkLiteralProtocolPrefixInside = of_group groups.Gfm (first 4)
@@ -230,24 +232,24 @@ inline_row inline_states.GfmAutolinkLiteralTrail = of_group groups.Gfm (first 4)
 inline_row inline_states.GfmAutolinkLiteralTrailBracketAfter = of_group groups.Gfm (first 4)
 inline_row inline_states.GfmAutolinkLiteralTrailCharRefStart = of_group groups.Gfm (first 4)
 inline_row inline_states.GfmAutolinkLiteralTrailCharRefInside = of_group groups.Gfm (first 4)
-inline_row inline_states.LabelEndStart = of_group groups.Ends (first 4)
-inline_row inline_states.LabelEndAfter = of_group groups.Ends (first 4)
-inline_row inline_states.LabelEndReferenceNotFull = of_group groups.Ends (first 4)
-inline_row inline_states.LabelEndOk = of_group groups.Ends (first 4)
-inline_row inline_states.LabelEndNok = of_group groups.Ends (first 4)
-inline_row inline_states.LabelEndResourceStart = of_group groups.Ends (first 4)
-inline_row inline_states.LabelEndResourceBefore = of_group groups.Ends (first 4)
-inline_row inline_states.LabelEndResourceOpen = of_group groups.Ends (first 4)
-inline_row inline_states.LabelEndResourceDestinationAfter = of_group groups.Ends (first 4)
-inline_row inline_states.LabelEndResourceDestinationMissing = of_group groups.Ends (first 4)
-inline_row inline_states.LabelEndResourceBetween = of_group groups.Ends (first 4)
-inline_row inline_states.LabelEndResourceTitleAfter = of_group groups.Ends (first 4)
-inline_row inline_states.LabelEndResourceEnd = of_group groups.Ends (first 4)
-inline_row inline_states.LabelEndReferenceFull = of_group groups.Ends (first 4)
-inline_row inline_states.LabelEndReferenceFullAfter = of_group groups.Ends (first 4)
-inline_row inline_states.LabelEndReferenceFullMissing = of_group groups.Ends (first 4)
-inline_row inline_states.LabelEndReferenceCollapsed = of_group groups.Ends (first 4)
-inline_row inline_states.LabelEndReferenceCollapsedOpen = of_group groups.Ends (first 4)
+inline_row inline_states.LabelEndStart = of_group groups.Ends (first_plain 4)
+inline_row inline_states.LabelEndAfter = of_group groups.Ends (within_plain [] 7)
+inline_row inline_states.LabelEndReferenceNotFull = of_group groups.Ends (within_plain [] 4)
+inline_row inline_states.LabelEndOk = of_group groups.Ends (within_plain [] 1)
+inline_row inline_states.LabelEndNok = of_group groups.Ends (first_plain 1)
+inline_row inline_states.LabelEndResourceStart = of_group groups.Ends (first_plain 1)
+inline_row inline_states.LabelEndResourceBefore = of_group groups.Ends (within_plain resource_tokens 8)
+inline_row inline_states.LabelEndResourceOpen = of_group groups.Ends (within_plain resource_tokens 3)
+inline_row inline_states.LabelEndResourceDestinationAfter = of_group groups.Ends (resumes (within_plain resource_tokens 8))
+inline_row inline_states.LabelEndResourceDestinationMissing = of_group groups.Ends (record (within_plain resource_tokens 1) { exits = false })
+inline_row inline_states.LabelEndResourceBetween = of_group groups.Ends (resumes (within_plain resource_tokens 3))
+inline_row inline_states.LabelEndResourceTitleAfter = of_group groups.Ends (resumes (within_plain resource_tokens 8))
+inline_row inline_states.LabelEndResourceEnd = of_group groups.Ends (within_plain resource_tokens 1)
+inline_row inline_states.LabelEndReferenceFull = of_group groups.Ends (first_plain 3)
+inline_row inline_states.LabelEndReferenceFullAfter = of_group groups.Ends (resumes (within_plain [] 1))
+inline_row inline_states.LabelEndReferenceFullMissing = of_group groups.Ends (first_plain 1)
+inline_row inline_states.LabelEndReferenceCollapsed = of_group groups.Ends (first 1)
+inline_row inline_states.LabelEndReferenceCollapsedOpen = of_group groups.Ends (within (Fixed names.Reference ∷ []) 1)
 
 abbrev pub sorts : Name → Sort
 sorts (Inline n) = (inline_row n).sort

@@ -8,8 +8,8 @@ pub returns : goal.returns
 returns g c =
     let start = string_bytes c.args.content.now in
     let text = c.args.text.now in
-    let spaces = replicate c.args.owed 32 in
     let bytes : (k : ℕ) → get_or text k 0 < 256 = λ k. omega (arith, c.type_inv.text k) in
+    let spaces = replicate c.args.owed 32 in
     let more = ap (λ x. x ++ text) c.in_ok-push_columns.ensures ∙ append_assoc start spaces text ∙ ap (λ x. start ++ x) (sym (owed_bytes c.args.owed text bytes)) in
     where_ok (string_bytes c.push_columns.new.content) c.push_str.result c.push_str.ensures.bytes more
   where
