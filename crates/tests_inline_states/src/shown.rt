@@ -29,12 +29,12 @@ pub fn text_events(
 }
 
 /// The events of a text, shown, where a label and one of a footnote are defined.
-pub fn labelled_events(
+pub fn labelled_events<'t>(
     rt: &HostRuntime,
-    options: &ParseOptions,
+    options: &'t ParseOptions,
     label: &str,
     footnote: &str,
-    bytes: &[u8],
+    bytes: &'t [u8],
 ) -> Result<String, Fail> {
     let mut text = ParseState::new(rt.alloc(), bytes, options, &Builtin)?;
     text.definitions.push(String::from_str(rt.alloc(), label)?)?;
