@@ -1,4 +1,0 @@
-pub mod Strings
-pub mod Text
-pub mod Inlines
-pub mod InlineLaws
