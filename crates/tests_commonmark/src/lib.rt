@@ -32,8 +32,6 @@ mod heading_setext;
 #[cfg(test)]
 mod html_flow;
 #[cfg(test)]
-mod html_text;
-#[cfg(test)]
 mod inline;
 #[cfg(test)]
 mod label_start_image;
@@ -47,6 +45,8 @@ mod list_item;
 mod paragraph;
 #[cfg(test)]
 mod precedence;
+#[cfg(test)]
+mod raw_html;
 #[cfg(test)]
 mod soft_break;
 #[cfg(test)]
