@@ -25,9 +25,6 @@ use inline_runs::{Pairing, Run};
 use inline_spans::tell_apart;
 use std::alloc::{AllocError, Allocator};
 
-/// For how many rows there is room at first: as many as most contents have.
-const ROOM: usize = 16;
-
 /// The rows so far, and what is open.
 #[derive(Drop)]
 pub(crate) struct Reading<'a, A: Allocator> {
@@ -51,7 +48,7 @@ impl<'a, A: Allocator + Clone> Reading<'a, A> {
         ensures none { IfOk result (λ reading. reading.labels.items ≡ []) }
     {
         Ok(Reading {
-            rows: Vec::with_capacity(alloc.clone()?, ROOM)?,
+            rows: Vec::new(alloc.clone()?),
             runs: Vec::new(alloc.clone()?),
             slots: Vec::new(alloc.clone()?),
             labels: Vec::new(alloc.clone()?),

@@ -6,7 +6,7 @@ use tests_helpers::plain;
 
 #[test]
 fn prints_in_a_small_heap(rt: HostRuntime) -> io::Result<()> {
-    let heap = LocalHeap::new(rt.alloc(), 2048)?;
+    let heap = LocalHeap::new(rt.alloc(), 512)?;
     let result = to_html_with_options(&heap, "a & b", &plain());
     match result {
         Ok(page) => assert_eq!(rt; page.as_str(), "<p>a &amp; b</p>"),
