@@ -2,7 +2,7 @@
 use Rattle.std.proofs.Common.{◌≡◌, ◌∙◌, ◌+◌, ◌-◌, ◌<◌, ◌++◌, ℕ, zero, suc, List, ◌∷◌, map, take, drop, Some, false, refl, sym, ap, subst, arith, append_assoc}
 use Rattle.engine_events.specs.declared.event.Event.{Event}
 use Rattle.engine_edits.specs.Edits.{Placed, with_edit}
-use Rattle.engine_edits.specs.Replacement.{Places, rising, relinked}
+use Rattle.engine_edits.specs.Replacement.{Places, rising, with_new_links}
 use Rattle.engine_chunks.specs.Chunks.{chunks_from, next_chunk, part_size}
 use Rattle.engine_chunks.specs.Parts.{places_of, counts, divided_at}
 use Rattle.std.specs.Prelude.{slice_get}
@@ -31,12 +31,12 @@ module _ (events children : List Event) where
       subst (λ (z : ℕ). Placing found' rest (from + z) (removed + 2) (added + z) all counted) (sym es) made
 
   pub parting : (ps : Places) (edits edits' : List Placed) (part : List Event) (ks rest : List ℕ) (k size from : ℕ) (all : List Placed) → ks ≡ k ∷ rest → size ≡ part_size events k (drop from children)
-      → part ≡ map (relinked ps) (take ((from + size) - from) (drop from children)) → edits' ≡ with_edit false k 2 part edits
+      → part ≡ map (with_new_links ps) (take ((from + size) - from) (drop from children)) → edits' ≡ with_edit false k 2 part edits
       → divided_at events ks children ps from edits ≡ all → divided_at events rest children ps (from + size) edits' ≡ all
   parting ps edits edits' part ks rest k size from all eks es ep ee h =
       let n = part_size events k (drop from children) in
       let g = subst (λ (z : List ℕ). divided_at events z children ps from edits ≡ all) eks h in
       let e : (from + size) - from ≡ size = omega arith in
-      let p : part ≡ map (relinked ps) (take n (drop from children)) = ep ∙ ap (λ (z : ℕ). map (relinked ps) (take z (drop from children))) (e ∙ es) in
-      let q : edits' ≡ with_edit false k 2 (map (relinked ps) (take n (drop from children))) edits = ee ∙ ap (λ (z : List Event). with_edit false k 2 z edits) p in
+      let p : part ≡ map (with_new_links ps) (take n (drop from children)) = ep ∙ ap (λ (z : ℕ). map (with_new_links ps) (take z (drop from children))) (e ∙ es) in
+      let q : edits' ≡ with_edit false k 2 (map (with_new_links ps) (take n (drop from children))) edits = ee ∙ ap (λ (z : List Event). with_edit false k 2 z edits) p in
       subst (λ (z : ℕ). divided_at events rest children ps (from + z) edits' ≡ all) (sym es) (ap (λ (z : List Placed). divided_at events rest children ps (from + n) z) q ∙ g)

@@ -2,7 +2,7 @@
 use Rattle.std.specs.Prelude.{ℕ, ◌+◌, ◌-◌, false, List, [], ◌∷◌, ◌++◌, map, take, drop}
 use Rattle.engine_events.specs.declared.event.Event.{Event}
 use Rattle.engine_edits.specs.Edits.{Placed, with_edit}
-use Rattle.engine_edits.specs.Replacement.{Places, rising, relinked}
+use Rattle.engine_edits.specs.Replacement.{Places, rising, with_new_links}
 use Rattle.engine_chunks.specs.Chunks.{chunks, part_size}
 
 -- where the child events from `from` on stand afterwards: so many events go and come before
@@ -22,7 +22,7 @@ abbrev pub divided_at : List Event → List ℕ → List Event → Places → �
 divided_at events [] children ps from edits = edits
 divided_at events (k ∷ ks) children ps from edits =
     let size = part_size events k (drop from children) in
-    divided_at events ks children ps (from + size) (with_edit false k 2 (map (relinked ps) (take size (drop from children))) edits)
+    divided_at events ks children ps (from + size) (with_edit false k 2 (map (with_new_links ps) (take size (drop from children))) edits)
 
 -- the edits with those of a chain, links of child events to where they stand afterwards
 abbrev pub divided : List Event → ℕ → List Event → ℕ × ℕ → List Placed → List Placed

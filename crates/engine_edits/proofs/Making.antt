@@ -5,7 +5,7 @@ use Rattle.std.specs.List.{drop-map}
 use Rattle.engine_events.specs.declared.event.Event.{Event}
 use Rattle.engine_edits.specs.declared.edit.Edit.{Edit}
 use Rattle.engine_edits.specs.Edits.{Placed, placed_of}
-use Rattle.engine_edits.specs.Replacement.{Places, replaced, relinked}
+use Rattle.engine_edits.specs.Replacement.{Places, replaced, with_new_links}
 use Rattle.engine_edits.specs.Placing.{Replacing}
 use Rattle.engine_edits.proofs.Steps.{within}
 
@@ -30,22 +30,22 @@ kept_map : (f : Event → Event) (n from : ℕ) (events : List Event) → map f 
 kept_map f n from events = sym (take-map f n (drop from events)) ∙ ap (take n) (sym (drop-map f from events))
 
 module _ {A : Type 0} (ps : Places) (events : List Event) where
-  pub fitting : (from : ℕ) (made : List Event) (left rest : List (ℕ × Edit A)) (e : ℕ × Edit A) (all : List Placed) → left ≡ e ∷ rest → Replacing from made (map placed_of left) all (map (relinked ps) events)
+  pub fitting : (from : ℕ) (made : List Event) (left rest : List (ℕ × Edit A)) (e : ℕ × Edit A) (all : List Placed) → left ≡ e ∷ rest → Replacing from made (map placed_of left) all (map (with_new_links ps) events)
       → Fitting from e.0 e.1.remove (length events)
   fitting from made left rest e all s p =
-      let q = subst (λ (z : List (ℕ × Edit A)). Replacing from made (map placed_of z) all (map (relinked ps) events)) s p in
-      subst (λ (n : ℕ). Fitting from e.0 e.1.remove n) (length-map events (relinked ps)) (fitting_of from made (placed_of e) (map placed_of rest) all (map (relinked ps) events) q)
+      let q = subst (λ (z : List (ℕ × Edit A)). Replacing from made (map placed_of z) all (map (with_new_links ps) events)) s p in
+      subst (λ (n : ℕ). Fitting from e.0 e.1.remove n) (length-map events (with_new_links ps)) (fitting_of from made (placed_of e) (map placed_of rest) all (map (with_new_links ps) events) q)
 
-  pub making : (from : ℕ) (made kept made' : List Event) (left rest : List (ℕ × Edit A)) (e : ℕ × Edit A) (all : List Placed) → left ≡ e ∷ rest → Replacing from made (map placed_of left) all (map (relinked ps) events)
-      → kept ≡ made ++ map (relinked ps) (take (e.0 - from) (drop from events)) → made' ≡ kept ++ e.1.add.items → Replacing (e.0 + e.1.remove) made' (map placed_of rest) all (map (relinked ps) events)
+  pub making : (from : ℕ) (made kept made' : List Event) (left rest : List (ℕ × Edit A)) (e : ℕ × Edit A) (all : List Placed) → left ≡ e ∷ rest → Replacing from made (map placed_of left) all (map (with_new_links ps) events)
+      → kept ≡ made ++ map (with_new_links ps) (take (e.0 - from) (drop from events)) → made' ≡ kept ++ e.1.add.items → Replacing (e.0 + e.1.remove) made' (map placed_of rest) all (map (with_new_links ps) events)
   making from made kept made' left rest e all s p k m =
-      let q = subst (λ (z : List (ℕ × Edit A)). Replacing from made (map placed_of z) all (map (relinked ps) events)) s p in
-      made_of from made made' (placed_of e) (map placed_of rest) all (map (relinked ps) events) q
-      (m ∙ ap (λ (z : List Event). z ++ e.1.add.items) (k ∙ ap (λ (z : List Event). made ++ z) (kept_map (relinked ps) (e.0 - from) from events)))
+      let q = subst (λ (z : List (ℕ × Edit A)). Replacing from made (map placed_of z) all (map (with_new_links ps) events)) s p in
+      made_of from made made' (placed_of e) (map placed_of rest) all (map (with_new_links ps) events) q
+      (m ∙ ap (λ (z : List Event). z ++ e.1.add.items) (k ∙ ap (λ (z : List Event). made ++ z) (kept_map (with_new_links ps) (e.0 - from) from events)))
 
-  pub done : (from : ℕ) (made made' : List Event) (left : List (ℕ × Edit A)) (all : List Placed) → left ≡ [] → Replacing from made (map placed_of left) all (map (relinked ps) events)
-      → made' ≡ made ++ map (relinked ps) (take (length events - from) (drop from events)) → made' ≡ replaced 0 all (map (relinked ps) events)
+  pub done : (from : ℕ) (made made' : List Event) (left : List (ℕ × Edit A)) (all : List Placed) → left ≡ [] → Replacing from made (map placed_of left) all (map (with_new_links ps) events)
+      → made' ≡ made ++ map (with_new_links ps) (take (length events - from) (drop from events)) → made' ≡ replaced 0 all (map (with_new_links ps) events)
   done from made made' left all s p k =
-      let q = subst (λ (z : List (ℕ × Edit A)). Replacing from made (map placed_of z) all (map (relinked ps) events)) s p in
+      let q = subst (λ (z : List (ℕ × Edit A)). Replacing from made (map placed_of z) all (map (with_new_links ps) events)) s p in
       let rest : take (length events - from) (drop from events) ≡ drop from events = take_all (length events - from) (drop from events) (rw length-drop (omega arith)) in
-      k ∙ (ap (λ (z : List Event). made ++ z) (ap (map (relinked ps)) rest ∙ sym (drop-map (relinked ps) from events)) ∙ q.whole)
+      k ∙ (ap (λ (z : List Event). made ++ z) (ap (map (with_new_links ps)) rest ∙ sym (drop-map (with_new_links ps) from events)) ∙ q.whole)

@@ -50,12 +50,12 @@ relinked_as ps e None = e
 relinked_as ps e (Some l) = with_link (Some (link_after ps l)) e
 
 -- an event with its link to where the others stand now
-abbrev pub relinked : Places → Event → Event
-relinked ps e = relinked_as ps e (link_of e)
+abbrev pub with_new_links : Places → Event → Event
+with_new_links ps e = relinked_as ps e (link_of e)
 
 -- the events after the edits: those that stay are linked to where the others stand now, those that come are as they are
-abbrev pub edited : List Placed → List Event → List Event
-edited es events = replaced 0 es (map (relinked (places es (length events))) events)
+abbrev pub events_after : List Placed → List Event → List Event
+events_after es events = replaced 0 es (map (with_new_links (places es (length events))) events)
 
 -- how many events come
 abbrev pub added : List Placed → ℕ

@@ -92,7 +92,7 @@ impl<A: Allocator + Clone> EditMap<A> {
 impl<A: Allocator> EditMap<A> {
     ghost use Rattle.std.specs.Prelude.{◌≡◌, ◌+◌, ◌<◌, ◌^◌, IfOk, map, length, true, false};
     ghost use Rattle.engine_edits.specs.Edits.{edits_of};
-    ghost use Rattle.engine_edits.specs.Replacement.{IsOrdered, places, added, replaced, relinked};
+    ghost use Rattle.engine_edits.specs.Replacement.{IsOrdered, places, added, replaced, with_new_links};
 
     /// Whether the ranges that go stand one after another, within a list of so many events.
     pub fn is_ordered(&self, count: usize) -> bool
@@ -151,7 +151,7 @@ impl<A: Allocator> EditMap<A> {
         room: usize,
     ) -> Result<Vec<Event, A>, AllocError>
         requires { IsOrdered 0 (edits_of self.now) (length events.now) }
-        ensures { IfOk result (λ all. all.items ≡ replaced 0 (edits_of self.now) (map (relinked places.now) events.now)) }
+        ensures { IfOk result (λ all. all.items ≡ replaced 0 (edits_of self.now) (map (with_new_links places.now) events.now)) }
     {
         let mut all = Vec::with_capacity(alloc, room)?;
         let mut from = 0;
@@ -169,7 +169,7 @@ impl<A: Allocator + Clone> EditMap<A> {
     ghost use Rattle.std.specs.Prelude.{◌≡◌, [], OnOk, OnErr, IfErr, IfOk, vec_len};
     ghost use Rattle.markdown_options.specs.Messages.{IsOutOfMemory};
     ghost use Rattle.engine_edits.specs.Edits.{edits_of};
-    ghost use Rattle.engine_edits.specs.Replacement.{IsOrdered, edited};
+    ghost use Rattle.engine_edits.specs.Replacement.{IsOrdered, events_after};
 
     /// Makes all edits at once, counted in the list as it was, and forgets them.
     ///
@@ -177,7 +177,7 @@ impl<A: Allocator + Clone> EditMap<A> {
     /// the events that come are taken as they are. An error changes nothing.
     pub fn consume(&mut self, events: &mut Vec<Event, A>) -> Result<(), Message>
         requires { IsOrdered 0 (edits_of self.old) (vec_len events.old) }
-        ensures edited { OnOk result (events.new.items ≡ edited (edits_of self.old) events.old.items) }
+        ensures edited { OnOk result (events.new.items ≡ events_after (edits_of self.old) events.old.items) }
         ensures spent { OnOk result (edits_of self.new ≡ []) }
         ensures err { OnErr result (events.new.items ≡ events.old.items) }
         ensures err_edits { OnErr result (edits_of self.new ≡ edits_of self.old) }
@@ -192,7 +192,7 @@ impl<A: Allocator + Clone> EditMap<A> {
     /// The events with all edits made.
     fn made(&self, events: &Vec<Event, A>) -> Result<Vec<Event, A>, AllocError>
         requires { IsOrdered 0 (edits_of self.now) (vec_len events.now) }
-        ensures { IfOk result (λ all. all.items ≡ edited (edits_of self.now) events.now.items) }
+        ensures { IfOk result (λ all. all.items ≡ events_after (edits_of self.now) events.now.items) }
     {
         let alloc = events.allocator();
         let room = self.room(events.len())?;

@@ -1,6 +1,6 @@
 //! Where events stand after edits, and links that follow them.
 ghost use Rattle.std.specs.Prelude.{◌≡◌, ◌≤◌, ◌<◌, ◌+◌, ◌^◌, ◌++◌, None, OnOk, length, map, replicate};
-ghost use Rattle.engine_edits.specs.Replacement.{Places, rising, relinked, link_after, place_after};
+ghost use Rattle.engine_edits.specs.Replacement.{Places, rising, with_new_links, link_after, place_after};
 
 use engine_events::{Event, Link};
 use std::alloc::{AllocError, Allocator};
@@ -39,7 +39,7 @@ pub fn push_relinked<A: Allocator>(
     events: &[Event],
     places: &[Option<usize>],
 ) -> Result<(), AllocError>
-    ensures { OnOk result (all.new.items ≡ all.old.items ++ map (relinked places.now) events.now) }
+    ensures { OnOk result (all.new.items ≡ all.old.items ++ map (with_new_links places.now) events.now) }
 {
     for event in events {
         all.push(relinked(event, places))?;
@@ -49,7 +49,7 @@ pub fn push_relinked<A: Allocator>(
 
 /// An event with its link to where the others stand now.
 fn relinked(event: &Event, places: &[Option<usize>]) -> Event
-    ensures { result ≡ relinked places.now event.now }
+    ensures { result ≡ with_new_links places.now event.now }
 {
     let mut event = *event;
     if let Some(link) = event.link() {

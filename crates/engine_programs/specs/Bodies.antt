@@ -6,7 +6,7 @@ use Rattle.engine_events.specs.declared.resolve.Name.{Name as Resolver}
 use Rattle.engine_events.specs.declared.state.Name.{Name}
 use Rattle.engine_events.specs.declared.state.State.{State}
 use Rattle.markdown_engine.specs.Kept.{Kept}
-use Rattle.markdown_engine.specs.Machine.{begun, consumed, entered, exited, to_run_first, to_run_last}
+use Rattle.markdown_engine.specs.Machine.{frame_at, past_byte, with_enter, with_exit, to_run_first, to_run_last}
 use Rattle.markdown_engine.specs.Reading.{Config, Effect, Steps}
 use Rattle.markdown_engine.specs.VirtualText.{is_feed}
 
@@ -75,16 +75,16 @@ module _ {M : Type 0} where
 
   abbrev pub run : Body M → Config M → Effect M
   run (Answer s) c = record { config = c; pushed = []; state = s }
-  run (Consume b) c = run b (consumed c)
-  run (Enter t b) c = run b (entered (named c.tokenize_state t) None c)
-  run (EnterLink t f b) c = run b (entered (named c.tokenize_state t) (f c) c)
-  run (Exit t b) c = run b (exited (named c.tokenize_state t) c)
+  run (Consume b) c = run b (past_byte c)
+  run (Enter t b) c = run b (with_enter (named c.tokenize_state t) None c)
+  run (EnterLink t f b) c = run b (with_enter (named c.tokenize_state t) (f c) c)
+  run (Exit t b) c = run b (with_exit (named c.tokenize_state t) c)
   run (Keep f same b) c = run b (keeping f c)
   run (Hold i name b) c = run b (holding i name c)
   run (Flag f b) c = run b (flagging f c)
   run (Register r b) c = run b (to_run_last r c)
   run (RegisterFirst r b) c = run b (to_run_first r c)
-  run (Tries check ok nok s) c = record { config = c; pushed = begun check ok nok c ∷ []; state = s }
+  run (Tries check ok nok s) c = record { config = c; pushed = frame_at check ok nok c ∷ []; state = s }
   run (Byte a b) c = by_byte c.current (run a c) (run b c)
   run (On p a b) c = if has p c.current then run a c else run b c
   run (AfterFeed a b) c = if is_feed c.previous then run a c else run b c

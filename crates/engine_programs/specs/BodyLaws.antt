@@ -18,13 +18,13 @@ use Rattle.markdown_engine.specs.declared.attempt.Attempt.{Attempt}
 use Rattle.markdown_engine.specs.Descent.{AllBelow}
 use Rattle.markdown_engine.specs.Kept.{Kept}
 use Rattle.markdown_engine.specs.Laws.{Nested, OnlyAdds, remaining}
-use Rattle.markdown_engine.specs.Machine.{begun, consumed, entered, exited, to_run_first, to_run_last}
-use Rattle.markdown_engine.specs.Order.{AreTidy, IsTidy, Reaches, opened, text_start}
+use Rattle.markdown_engine.specs.Machine.{frame_at, past_byte, with_enter, with_exit, to_run_first, to_run_last}
+use Rattle.markdown_engine.specs.Order.{AreTidy, IsTidy, Reaches, open_after, text_start}
 use Rattle.markdown_engine.specs.OrderLaws.{consumed_tidy, entered_opened, entered_tidy, exited_opened, exited_tidy, nested_append, order_more, stays}
 use Rattle.markdown_engine.specs.Reading.{Config, Effect, Frame, mark}
 use Rattle.markdown_engine.specs.VirtualText.{is_feed}
 use Rattle.engine_programs.specs.Bodies.{Token, Body, Answer, Consume, Enter, EnterLink, Exit, Keep, Hold, Flag, Register, RegisterFirst, Tries, Byte, On, AfterFeed, Test, flagging, has, holding, keeping, named, named_all, run, step_by, with_held}
-use Rattle.engine_programs.specs.Sorts.{Sort, Sight, after_of, all_fixed, begins, exited_sight, falls_to, first_sight, fits_from, goes_back, implies, is_last, is_nok, leads, left_open, may_end, nok_fits, nok_height, ok_fits, ok_height, onward, open_around, tried, waits_lower, wants_end}
+use Rattle.engine_programs.specs.Sorts.{Sort, Sight, after_of, all_fixed, begins, exited_sight, falls_to, first_sight, fits_from, goes_back, implies, is_last, is_nok, leads, left_open, may_end, nok_fits, nok_height, ok_fits, ok_height, onward, open_around, attempt_fits, waits_lower, wants_end}
 use Rattle.engine_programs.specs.Stacks.{Ahead, At, Far, HasByte, IsValid, Mark, Marks, MayExit, NokGoes, OkGoes, Suits, below, ends_back, left_by, must_go_well, needs_byte, needs_end, program_waits, program_weight}
 use Rattle.engine_programs.specs.NameLaws.{by_byte_each, either_way, exit_here, exit_place, feed_among, fixed_same, has_each, has_none, has_some, implied, names_same, nested_on, none_is, not_so, not_true, or_false, or_first, or_second, same_front, token_is, tokens_are}
 use Rattle.engine_programs.specs.StackLaws.{SameBelow, all_same, below_same, far_less, far_weak, marks_more, marks_same, plain_same}
@@ -38,10 +38,10 @@ module _ {M : Type 0} where
   run_adds : (b : Body M) (c : Config M) → Adds c (run b c)
   unfolding Adds
   run_adds (Answer s) c = same_front c.events
-  run_adds (Consume b) c = run_adds b (consumed c)
-  run_adds (Enter t b) c = let d = entered (named c.tokenize_state t) None c in nested_on c.events d.events (run b d).pushed (run b d).config.events (_, refl) (run_adds b d)
-  run_adds (EnterLink t f b) c = let d = entered (named c.tokenize_state t) (f c) c in nested_on c.events d.events (run b d).pushed (run b d).config.events (_, refl) (run_adds b d)
-  run_adds (Exit t b) c = let d = exited (named c.tokenize_state t) c in nested_on c.events d.events (run b d).pushed (run b d).config.events (_, refl) (run_adds b d)
+  run_adds (Consume b) c = run_adds b (past_byte c)
+  run_adds (Enter t b) c = let d = with_enter (named c.tokenize_state t) None c in nested_on c.events d.events (run b d).pushed (run b d).config.events (_, refl) (run_adds b d)
+  run_adds (EnterLink t f b) c = let d = with_enter (named c.tokenize_state t) (f c) c in nested_on c.events d.events (run b d).pushed (run b d).config.events (_, refl) (run_adds b d)
+  run_adds (Exit t b) c = let d = with_exit (named c.tokenize_state t) c in nested_on c.events d.events (run b d).pushed (run b d).config.events (_, refl) (run_adds b d)
   run_adds (Keep f same b) c = run_adds b (keeping f c)
   run_adds (Hold i name b) c = run_adds b (holding i name c)
   run_adds (Flag f b) c = run_adds b (flagging f c)
@@ -95,7 +95,7 @@ module _ (sorts : Name → Sort) (size : ℕ) where
   -- What is known within a body
 
   record Inv {M : Type 0} (n : Name) (st : List Attempt) (start : ℕ) (z : Sight) (c : Config M) : Type 0 where
-    names : opened [] c.events ≡ named_all c.tokenize_state z.open_tokens ++ below sorts size c.tokenize_state st
+    names : open_after [] c.events ≡ named_all c.tokenize_state z.open_tokens ++ below sorts size c.tokenize_state st
     far : Far sorts size st (remaining size c.point) z.moved
     tidy : IsTidy c
     exits : z.exits ≡ true → MayExit sorts size c
@@ -153,7 +153,7 @@ module _ (sorts : Name → Sort) (size : ℕ) where
       exits = λ w. ends_here n st start z c (o.ends w) i;
     }
 
-    ends_well : {M : Type 0} (n : Name) (st : List Attempt) (start : ℕ) (z : Sight) (c : Config M) → z.open_tokens ≡ (sorts n).leaves → Inv n st start z c → opened [] c.events ≡ named_all c.tokenize_state (left_by sorts size st) ++ below sorts size c.tokenize_state st
+    ends_well : {M : Type 0} (n : Name) (st : List Attempt) (start : ℕ) (z : Sight) (c : Config M) → z.open_tokens ≡ (sorts n).leaves → Inv n st start z c → open_after [] c.events ≡ named_all c.tokenize_state (left_by sorts size st) ++ below sorts size c.tokenize_state st
     ends_well n st start z c h i = i.names ∙ ap (λ (w : List Token). named_all c.tokenize_state w ++ below sorts size c.tokenize_state st) (h ∙ i.suits.leaves)
 
     module _ (least : 1 < most) (bounds : (m : Name) → 2 * (sorts m).height + 1 < most) where
@@ -305,17 +305,17 @@ module _ (sorts : Name → Sort) (size : ℕ) where
       and_more a b c h e = let p = and_parts a b e in and_from a c p.0 (h p.1)
 
       -- the mark of an attempt that is made here
-      marked : {M : Type 0} (check : Bool) (ok nok : State) (n m : Name) (st : List Attempt) (start : ℕ) (z : Sight) (c : Config M) → GoesBack n z check ok nok → Begins n z check ok nok m → ok_fits sorts n z check ok ≡ true → nok_fits sorts n z nok ≡ true → Inv n st start z c → Mark sorts size c.tokenize_state c.events (mark (begun check ok nok c)) st × Marks sorts size c.tokenize_state (take (length c.events) c.events) st
+      marked : {M : Type 0} (check : Bool) (ok nok : State) (n m : Name) (st : List Attempt) (start : ℕ) (z : Sight) (c : Config M) → GoesBack n z check ok nok → Begins n z check ok nok m → ok_fits sorts n z check ok ≡ true → nok_fits sorts n z nok ≡ true → Inv n st start z c → Mark sorts size c.tokenize_state c.events (mark (frame_at check ok nok c)) st × Marks sorts size c.tokenize_state (take (length c.events) c.events) st
       marked check ok nok n m st start z c g b h k i =
-          let a = mark (begun check ok nok c) in
-          let names : opened [] c.events ≡ below sorts size c.tokenize_state (a ∷ st) = i.names ∙ ap (λ (w : List Token). named_all c.tokenize_state w ++ below sorts size c.tokenize_state st) (sym g.around) in
+          let a = mark (frame_at check ok nok c) in
+          let names : open_after [] c.events ≡ below sorts size c.tokenize_state (a ∷ st) = i.names ∙ ap (λ (w : List Token). named_all c.tokenize_state w ++ below sorts size c.tokenize_state st) (sym g.around) in
           let ends : ends_back sorts size a st ≡ true → MayExit sorts size c = λ e. ends_here n st start z c (g.ends (or_more _ _ _ _ (wants_more nok (needs_end sorts size st) (sorts n).firm i.suits.firm) (and_more check _ _ (wants_more ok (needs_end sorts size st) (sorts n).firm i.suits.firm)) e)) i in
-          let same = subst (λ (w : List Event). AreTidy w c.point × (ends_back sorts size a st ≡ true → MayExit sorts size (record c { events = w })) × (opened [] w ≡ below sorts size c.tokenize_state (a ∷ st)) × Marks sorts size c.tokenize_state w st) (sym (take-length c.events)) (i.tidy, ends, names, i.marks) in
+          let same = subst (λ (w : List Event). AreTidy w c.point × (ends_back sorts size a st ≡ true → MayExit sorts size (record c { events = w })) × (open_after [] w ≡ below sorts size c.tokenize_state (a ∷ st)) × Marks sorts size c.tokenize_state w st) (sym (take-length c.events)) (i.tidy, ends, names, i.marks) in
           (record { low = omega arith; tidy = same.0; exits = same.1; names = same.2; ok = ok_goes ok n st start z c a m refl h b.yields i; nok = nok_goes nok n st start z c a refl g.around k i }, same.3)
 
-      at_begin : {M : Type 0} (check : Bool) (ok nok : State) (n m : Name) (st : List Attempt) (start : ℕ) (z : Sight) (c : Config M) → GoesBack n z check ok nok → Begins n z check ok nok m → Inv n st start z c → At sorts size m (mark (begun check ok nok c) ∷ st) c
+      at_begin : {M : Type 0} (check : Bool) (ok nok : State) (n m : Name) (st : List Attempt) (start : ℕ) (z : Sight) (c : Config M) → GoesBack n z check ok nok → Begins n z check ok nok m → Inv n st start z c → At sorts size m (mark (frame_at check ok nok c) ∷ st) c
       at_begin check ok nok n m st start z c g b i =
-          let a = mark (begun check ok nok c) in
+          let a = mark (frame_at check ok nok c) in
           record {
             suits = record {
               yields = λ w. (and_parts _ _ (implied _ _ b.yields w)).0;
@@ -333,7 +333,7 @@ module _ (sorts : Name → Sort) (size : ℕ) where
       tries_lower : (ok nok : State) (n : Name) (st : List Attempt) (start : ℕ) (z : Sight) (l : ℕ) → waits_lower sorts n z ok nok ≡ true → (z.spent ≡ true → l < start) → l ≤ start → most * l + (ok_height sorts ok + nok_height sorts nok) + 1 < most * start + (sorts n).height + 1
       tries_lower ok nok n st start z l h s k = let a = ok_bound ok in let b = nok_bound nok in falls_by z.spent l start (ok_height sorts ok + nok_height sorts nok) (sorts n).height s k h (omega (arith, a, b))
 
-      tried_fine : {M : Type 0} (s : State) (check : Bool) (ok nok : State) (n : Name) (st : List Attempt) (start : ℕ) (z : Sight) (c : Config M) → GoesBack n z check ok nok → tried sorts n z check ok nok s ≡ true → ok_fits sorts n z check ok ≡ true → nok_fits sorts n z nok ≡ true → waits_lower sorts n z ok nok ≡ true → Inv n st start z c → Fine n st start (record { config = c; pushed = begun check ok nok c ∷ []; state = s })
+      tried_fine : {M : Type 0} (s : State) (check : Bool) (ok nok : State) (n : Name) (st : List Attempt) (start : ℕ) (z : Sight) (c : Config M) → GoesBack n z check ok nok → attempt_fits sorts n z check ok nok s ≡ true → ok_fits sorts n z check ok ≡ true → nok_fits sorts n z nok ≡ true → waits_lower sorts n z ok nok ≡ true → Inv n st start z c → Fine n st start (record { config = c; pushed = frame_at check ok nok c ∷ []; state = s })
       unfolding with_marks
       tried_fine (states.Error m) check ok nok n st start z c g h ho hn w i = absurd (let f : false ≡ true = h in cc)
       tried_fine (states.Next m) check ok nok n st start z c g h ho hn w i =
@@ -359,7 +359,7 @@ module _ (sorts : Name → Sort) (size : ℕ) where
 
       -- What each call leaves
 
-      consumed_inv : {M : Type 0} (n : Name) (st : List Attempt) (start : ℕ) (z : Sight) (c : Config M) → z.fed ≡ true → Inv n st start z c → Inv n st start (record z { moved = true; fed = false; feed = false; spent = true; exits = true; inline = not z.feed }) (consumed c)
+      consumed_inv : {M : Type 0} (n : Name) (st : List Attempt) (start : ℕ) (z : Sight) (c : Config M) → z.fed ≡ true → Inv n st start z c → Inv n st start (record z { moved = true; fed = false; feed = false; spent = true; exits = true; inline = not z.feed }) (past_byte c)
       consumed_inv n st start z c e i =
           let b = i.fed e in
           let less = i.ahead.less b.0 b.1 in
@@ -383,7 +383,7 @@ module _ (sorts : Name → Sort) (size : ℕ) where
             spent = λ w. omega arith;
           }
 
-      entered_inv : {M : Type 0} (t : Token) (link : Option Link) (n : Name) (st : List Attempt) (start : ℕ) (z : Sight) (c : Config M) → Inv n st start z c → Inv n st start (record z { open_tokens = t ∷ z.open_tokens; exits = false }) (entered (named c.tokenize_state t) link c)
+      entered_inv : {M : Type 0} (t : Token) (link : Option Link) (n : Name) (st : List Attempt) (start : ℕ) (z : Sight) (c : Config M) → Inv n st start z c → Inv n st start (record z { open_tokens = t ∷ z.open_tokens; exits = false }) (with_enter (named c.tokenize_state t) link c)
       entered_inv t link n st start z c i =
           let name = named c.tokenize_state t in
           record {
@@ -402,12 +402,12 @@ module _ (sorts : Name → Sort) (size : ℕ) where
             spent = i.spent;
           }
 
-      exited_inv : {M : Type 0} (t : Token) (opens : List Token) (n : Name) (st : List Attempt) (start : ℕ) (z : Sight) (c : Config M) → opens ≡ z.open_tokens → may_end z ≡ true → is_last sorts t opens ≡ true → Inv n st start z c → Inv n st start (exited_sight sorts z opens) (exited (named c.tokenize_state t) c)
+      exited_inv : {M : Type 0} (t : Token) (opens : List Token) (n : Name) (st : List Attempt) (start : ℕ) (z : Sight) (c : Config M) → opens ≡ z.open_tokens → may_end z ≡ true → is_last sorts t opens ≡ true → Inv n st start z c → Inv n st start (exited_sight sorts z opens) (with_exit (named c.tokenize_state t) c)
       exited_inv t [] n st start z c q e h i = absurd (let f : false ≡ true = h in cc)
       exited_inv t (u ∷ more) n st start z c q e h i =
           let name = named c.tokenize_state t in
           let rest = named_all c.tokenize_state more ++ below sorts size c.tokenize_state st in
-          let last : opened [] c.events ≡ name ∷ rest = i.names ∙ (ap (λ (w : List Token). named_all c.tokenize_state w ++ below sorts size c.tokenize_state st) (sym q) ∙ ap (λ (w : Token). named c.tokenize_state w ∷ rest) (sym (token_is t u h))) in
+          let last : open_after [] c.events ≡ name ∷ rest = i.names ∙ (ap (λ (w : List Token). named_all c.tokenize_state w ++ below sorts size c.tokenize_state st) (sym q) ∙ ap (λ (w : Token). named c.tokenize_state w ∷ rest) (sym (token_is t u h))) in
           let ends = ends_here n st start z c e i in
           let place = if is_feed c.previous then c.line_start else c.point in
           let exit = event Exiting name place None in
@@ -469,13 +469,13 @@ module _ (sorts : Name → Sort) (size : ℕ) where
 
       run_fine : {M : Type 0} (b : Body M) (n : Name) (st : List Attempt) (start : ℕ) (z : Sight) (c : Config M) → fits_from sorts n b z ≡ true → Inv n st start z c → Fine n st start (run b c)
       run_fine (Answer s) n st start z c h i = answered s n st start z c h i
-      run_fine (Consume b) n st start z c h i = let p = and_parts _ _ h in run_fine b n st start _ (consumed c) p.1 (consumed_inv n st start z c p.0 i)
-      run_fine (Enter t b) n st start z c h i = run_fine b n st start _ (entered (named c.tokenize_state t) None c) h (entered_inv t None n st start z c i)
-      run_fine (EnterLink t f b) n st start z c h i = run_fine b n st start _ (entered (named c.tokenize_state t) (f c) c) h (entered_inv t (f c) n st start z c i)
+      run_fine (Consume b) n st start z c h i = let p = and_parts _ _ h in run_fine b n st start _ (past_byte c) p.1 (consumed_inv n st start z c p.0 i)
+      run_fine (Enter t b) n st start z c h i = run_fine b n st start _ (with_enter (named c.tokenize_state t) None c) h (entered_inv t None n st start z c i)
+      run_fine (EnterLink t f b) n st start z c h i = run_fine b n st start _ (with_enter (named c.tokenize_state t) (f c) c) h (entered_inv t (f c) n st start z c i)
       run_fine (Exit t b) n st start z c h i =
           let p = and_parts _ _ h in
           let q = and_parts _ _ p.1 in
-          run_fine b n st start _ (exited (named c.tokenize_state t) c) q.1 (exited_inv t z.open_tokens n st start z c refl p.0 q.0 i)
+          run_fine b n st start _ (with_exit (named c.tokenize_state t) c) q.1 (exited_inv t z.open_tokens n st start z c refl p.0 q.0 i)
       run_fine (Keep f same b) n st start z c h i = run_fine b n st start z (keeping f c) h (kept_inv (f c) n st start z c (names_same c.tokenize_state (f c) (same c) z.open_tokens) (all_same sorts size c.tokenize_state (f c) (same c) st) i)
       run_fine (Hold j name b) n st start z c h i =
           let p = and_parts _ _ h in

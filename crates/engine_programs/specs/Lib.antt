@@ -4,5 +4,6 @@ pub mod Stacks
 pub mod NameLaws
 pub mod StackLaws
 pub mod BodyLaws
+pub mod ConsumeLaws
 pub mod ProgramLaws
 pub mod Rounds

@@ -4,7 +4,7 @@ use Rattle.std.proofs.lemmas.Bool.{and_parts, ltb-true}
 use Rattle.std.proofs.lemmas.List.{reverse-append, take-append-drop}
 use Rattle.std.proofs.Math.Nat.{mul-add, mul-le-mul_left}
 use Rattle.engine_edits.specs.Edits.{Placed}
-use Rattle.engine_edits.specs.Replacement.{IsOrdered, edited, places}
+use Rattle.engine_edits.specs.Replacement.{IsOrdered, events_after, places}
 use Rattle.engine_events.specs.declared.event.Event.{Event}
 use Rattle.engine_events.specs.declared.event.Name.{Name as EventName}
 use Rattle.engine_events.specs.declared.place.Point.{Point}
@@ -16,11 +16,11 @@ use Rattle.markdown_engine.specs.declared.virtual_text.VirtualByte.{VirtualByte}
 use Rattle.markdown_engine.specs.Descent.{DescendsAt}
 use Rattle.markdown_engine.specs.DescentLaws.{descends}
 use Rattle.markdown_engine.specs.Kept.{nothing_kept}
-use Rattle.markdown_engine.specs.Laws.{ClosesAt, FallsAt, IsFed, KeepsAt, MovesOn, TidiesAt, remaining}
+use Rattle.markdown_engine.specs.Laws.{ClosesAt, FallsAt, IsFed, KeepsAt, LawfulAt, MovesOn, TidiesAt, remaining}
 use Rattle.markdown_engine.specs.Machine.{fresh}
-use Rattle.markdown_engine.specs.Order.{AreWhole, IsTidy, Reaches, opened}
+use Rattle.markdown_engine.specs.Order.{AreWhole, IsTidy, Reaches, open_after}
 use Rattle.markdown_engine.specs.OrderLaws.{fresh_tidy, handed_leads, handed_tidy, moved_tidy, stays}
-use Rattle.markdown_engine.specs.Reading.{Config, handed, moved, restore, resumed}
+use Rattle.markdown_engine.specs.Reading.{Config, with_byte, at_point, restore, continuation}
 use Rattle.markdown_engine.specs.Resolving.{ResolvesAt, resolves_nothing, settles_whole}
 use Rattle.markdown_engine.specs.ResolvingLaws.{still_whole}
 use Rattle.markdown_engine.specs.VirtualText.{is_feed}
@@ -29,25 +29,26 @@ use Rattle.engine_programs.specs.Sorts.{Sort, after_of, fits, is_nok, left_open,
 use Rattle.engine_programs.specs.Stacks.{Ahead, At, Far, IsValid, Mark, Marks, MayExit, NokGoes, OkGoes, Stands, below, left_by, must_go_well, needs_byte, needs_end, program_rank, program_valid, program_waits, program_weight}
 use Rattle.engine_programs.specs.NameLaws.{exit_on, names_both, never_both, or_first, or_second}
 use Rattle.engine_programs.specs.StackLaws.{far_less, far_near, far_weak, marks_more}
-use Rattle.engine_programs.specs.BodyLaws.{called_fine, marks_reversed}
+use Rattle.engine_programs.specs.BodyLaws.{called_fine, marks_reversed, program_adds}
+use Rattle.engine_programs.specs.ConsumeLaws.{program_consumes}
 
 module _ (sorts : Name → Sort) (size : ℕ) where
   -- Between the calls
 
-  exits_on : {M : Type 0} (c : Config M) (p : Point) → Reaches c.point p → MayExit sorts size c → MayExit sorts size (moved p c)
+  exits_on : {M : Type 0} (c : Config M) (p : Point) → Reaches c.point p → MayExit sorts size c → MayExit sorts size (at_point p c)
   exits_on c p k h = exit_on (is_feed c.previous) c.line_start c.point p c.events k h
 
-  ahead_on : {M : Type 0} (c : Config M) (p : Point) (v : Option VirtualByte) → IsFed size c.point p v → Ahead sorts size (handed c p v)
+  ahead_on : {M : Type 0} (c : Config M) (p : Point) (v : Option VirtualByte) → IsFed size c.point p v → Ahead sorts size (with_byte c p v)
   ahead_on c p None fed = record { less = λ b e. absurd (let f : None ≡ Some b = e in cc); leads = handed_leads size c p None fed }
   ahead_on c p (Some w) fed = record { less = λ b e. (fed.read w refl).falls; leads = handed_leads size c p (Some w) fed }
 
-  at_moved : {M : Type 0} (n : Name) (st : List Attempt) (c : Config M) (p : Point) → remaining size p ≤ remaining size c.point → Reaches c.point p → At sorts size n st c → At sorts size n st (moved p c)
+  at_moved : {M : Type 0} (n : Name) (st : List Attempt) (c : Config M) (p : Point) → remaining size p ≤ remaining size c.point → Reaches c.point p → At sorts size n st c → At sorts size n st (at_point p c)
   at_moved n st c p low k h = record { suits = h.suits; names = h.names; far = far_near sorts size st (remaining size c.point) (remaining size p) (sorts n).moved low h.far; exits = λ e. exits_on c p k (h.exits e) }
 
-  at_fed : {M : Type 0} (n : Name) (st : List Attempt) (c : Config M) (p : Point) (v : Option VirtualByte) → IsFed size c.point p v → At sorts size n st c → At sorts size n st (handed c p v)
+  at_fed : {M : Type 0} (n : Name) (st : List Attempt) (c : Config M) (p : Point) (v : Option VirtualByte) → IsFed size c.point p v → At sorts size n st c → At sorts size n st (with_byte c p v)
   at_fed n st c p v fed h = record { suits = h.suits; names = h.names; far = far_near sorts size st (remaining size c.point) (remaining size p) (sorts n).moved fed.forward h.far; exits = λ e. exit_on (is_feed c.previous) c.line_start c.point p c.events fed.order (h.exits e) }
 
-  fed_valid : {M : Type 0} (n : Name) (st : List Attempt) (c : Config M) (p : Point) (v : Option VirtualByte) → IsFed size c.point p v → IsValid sorts size (states.Next n) st c → IsValid sorts size (states.Retry n) st (handed c p v)
+  fed_valid : {M : Type 0} (n : Name) (st : List Attempt) (c : Config M) (p : Point) (v : Option VirtualByte) → IsFed size c.point p v → IsValid sorts size (states.Next n) st c → IsValid sorts size (states.Retry n) st (with_byte c p v)
   fed_valid n st c p v fed h = record {
     stands = (at_fed n st c p v fed h.stands.0, ahead_on c p v fed, λ e. absurd (let f : true ≡ false = sym e ∙ h.stands.1 in cc));
     tidy = handed_tidy size c p v fed h.tidy;
@@ -55,14 +56,14 @@ module _ (sorts : Name → Sort) (size : ℕ) where
     unedited = h.unedited;
   }
 
-  moved_stands : {M : Type 0} (s : State) (st : List Attempt) (c : Config M) (p : Point) → MovesOn s → remaining size p ≤ remaining size c.point → Reaches c.point p → Stands sorts size s st c → Stands sorts size s st (moved p c)
+  moved_stands : {M : Type 0} (s : State) (st : List Attempt) (c : Config M) (p : Point) → MovesOn s → remaining size p ≤ remaining size c.point → Reaches c.point p → Stands sorts size s st c → Stands sorts size s st (at_point p c)
   moved_stands (states.Error m) st c p on low k h = h
   moved_stands (states.Next n) st c p on low k h = (at_moved n st c p low k h.0, h.1)
   moved_stands (states.Retry n) st c p on low k h = absurd on
   moved_stands states.Ok st c p on low k h = (h.0, far_near sorts size st (remaining size c.point) (remaining size p) (needs_byte sorts size st) low h.1, λ e. exits_on c p k (h.2 e))
   moved_stands states.Nok st c p on low k h = h
 
-  moved_valid : {M : Type 0} (s : State) (st : List Attempt) (c : Config M) (p : Point) → MovesOn s → remaining size p ≤ remaining size c.point → Reaches c.point p → IsValid sorts size s st c → IsValid sorts size s st (moved p c)
+  moved_valid : {M : Type 0} (s : State) (st : List Attempt) (c : Config M) (p : Point) → MovesOn s → remaining size p ≤ remaining size c.point → Reaches c.point p → IsValid sorts size s st c → IsValid sorts size s st (at_point p c)
   moved_valid s st c p on low k h = record { stands = moved_stands s st c p on low k h.stands; tidy = moved_tidy c p k h.tidy; marks = h.marks; unedited = h.unedited }
 
   -- Where an attempt ends
@@ -98,7 +99,7 @@ module _ (sorts : Name → Sort) (size : ℕ) where
     looked (states.Next m) q e g = (
       record {
         suits = g.0;
-        names = none_given c.tokenize_state (sorts m).given (sorts m).open_tokens (below sorts size c.tokenize_state st) (opened [] (take a.events c.events)) (g.3 e) (x.names ∙ ap (λ (w : State). named_all c.tokenize_state (open_around sorts w a.nok) ++ below sorts size c.tokenize_state st) (sym q));
+        names = none_given c.tokenize_state (sorts m).given (sorts m).open_tokens (below sorts size c.tokenize_state st) (open_after [] (take a.events c.events)) (g.3 e) (x.names ∙ ap (λ (w : State). named_all c.tokenize_state (open_around sorts w a.nok) ++ below sorts size c.tokenize_state st) (sym q));
         far = far_back (sorts m).after (sorts m).moved st (remaining size a.point) (λ w. never_both a.check e (g.2 w)) g.4;
         exits = λ w. x.exits (or_second _ _ (ended_check a.check _ e (ap (λ (z : State). wants_end sorts z (needs_end sorts size st)) (sym q) ∙ w)));
       },
@@ -118,7 +119,7 @@ module _ (sorts : Name → Sort) (size : ℕ) where
     went (states.Next m) q e g h = (
       record {
         suits = g.0;
-        names = all_open c.tokenize_state (sorts m).given (sorts m).open_tokens (below sorts size c.tokenize_state st) (opened [] c.events) (h.0 ∙ ap (λ (w : State). named_all c.tokenize_state (left_open sorts w (left_by sorts size st)) ++ (named_all c.tokenize_state (open_around sorts w a.nok) ++ below sorts size c.tokenize_state st)) (sym q));
+        names = all_open c.tokenize_state (sorts m).given (sorts m).open_tokens (below sorts size c.tokenize_state st) (open_after [] c.events) (h.0 ∙ ap (λ (w : State). named_all c.tokenize_state (left_open sorts w (left_by sorts size st)) ++ (named_all c.tokenize_state (open_around sorts w a.nok) ++ below sorts size c.tokenize_state st)) (sym q));
         far = far_resume (sorts m).after (sorts m).moved a st (remaining size c.point) g.4 (subst (λ (w : State). Far sorts size (a ∷ st) (remaining size c.point) (after_of sorts w)) (sym q) h.1);
         exits = λ w. h.2 (ended_check _ _ (ap not e) (ap (λ (z : State). wants_end sorts z (needs_end sorts size st)) (sym q) ∙ w));
       },
@@ -152,10 +153,10 @@ module _ (sorts : Name → Sort) (size : ℕ) where
         (x.names ∙ ap (λ (w : List Token). named_all c.tokenize_state w ++ below sorts size c.tokenize_state st) (sym g.0), g.1, λ w. x.exits (or_first _ _ (ap (λ (z : State). wants_end sorts z (needs_end sorts size st)) (sym q) ∙ w)))
     failed states.Nok q g h = h
 
-  popped_ok : {M : Type 0} (a : Attempt) (st : List Attempt) (c : Config M) → IsValid sorts size states.Ok (a ∷ st) c → IsValid sorts size a.ok st (resumed a c true)
+  popped_ok : {M : Type 0} (a : Attempt) (st : List Attempt) (c : Config M) → IsValid sorts size states.Ok (a ∷ st) c → IsValid sorts size a.ok st (continuation a c true)
   popped_ok a st c h = ok_valid a st c h.marks.0 h.marks.1 h.tidy h.unedited a.check refl h.stands
 
-  popped_nok : {M : Type 0} (a : Attempt) (st : List Attempt) (c : Config M) → IsValid sorts size states.Nok (a ∷ st) c → IsValid sorts size a.nok st (resumed a c false)
+  popped_nok : {M : Type 0} (a : Attempt) (st : List Attempt) (c : Config M) → IsValid sorts size states.Nok (a ∷ st) c → IsValid sorts size a.nok st (continuation a c false)
   popped_nok a st c h =
       let x = h.marks.0 in
       record { stands = failed a st c x h.marks.1 h.tidy h.unedited a.nok refl x.nok h.stands; tidy = x.tidy; marks = h.marks.1; unedited = h.unedited }
@@ -194,8 +195,8 @@ module _ (sorts : Name → Sort) (size : ℕ) where
     nok_weighs a st c states.Nok g = omega arith
 
 -- no edits are made
-with_no_edits : (edits : List Placed) (es : List Event) (to : Point) → edits ≡ [] → AreWhole es to → AreWhole (edited edits es) to
-with_no_edits edits es to e h = subst (λ (z : List Placed). AreWhole (edited z es) to) (sym e) (still_whole (places [] (length es)) es to h)
+with_no_edits : (edits : List Placed) (es : List Event) (to : Point) → edits ≡ [] → AreWhole es to → AreWhole (events_after edits es) to
+with_no_edits edits es to e h = subst (λ (z : List Placed). AreWhole (events_after z es) to) (sym e) (still_whole (places [] (length es)) es to h)
 
 no_edits : (edits : List Placed) (count : ℕ) → edits ≡ [] → IsOrdered 0 edits count
 no_edits edits count e = subst (λ (z : List Placed). IsOrdered 0 z count) (sym e) (omega arith)
@@ -207,7 +208,7 @@ module _ {M : Type 0} (sorts : Name → Sort) (most size : ℕ) (bodies : Name �
   was : (s : State) (stack : List Attempt) (a : Attempt) (c : Config M) → program_valid sorts most size c (stack ++ a ∷ []) s → IsValid sorts size s (a ∷ reverse stack) c
   was s stack a c h = subst (λ (z : List Attempt). IsValid sorts size s z c) (reverse-append stack (a ∷ [])) h
 
-  pub program_keeps : KeepsAt size (program_valid sorts most size) (step_by bodies)
+  program_keeps : KeepsAt size (program_valid sorts most size) (step_by bodies)
   program_keeps = record {
     fed = λ c stack n p v fed h. fed_valid sorts size n (reverse stack) c p v fed h;
     moved = λ c stack s p on low k h. moved_valid sorts size s (reverse stack) c p on low k h;
@@ -237,15 +238,26 @@ module _ {M : Type 0} (sorts : Name → Sort) (most size : ℕ) (bodies : Name �
         omega (arith, low);
   }
 
-  pub program_falls : FallsAt size (program_valid sorts most size) (step_by bodies) (program_rank sorts most size)
+  program_falls : FallsAt size (program_valid sorts most size) (step_by bodies) (program_rank sorts most size)
   program_falls = descends size (program_valid sorts most size) (step_by bodies) 2 (program_weight sorts most size) (program_waits sorts most size) program_descends
 
-  pub program_tidy : TidiesAt {M = M} (program_valid sorts most size)
+  program_tidy : TidiesAt {M = M} (program_valid sorts most size)
   program_tidy c stack s h = h.tidy
 
-  pub program_closes : ClosesAt {M = M} (program_valid sorts most size)
+  program_closes : ClosesAt {M = M} (program_valid sorts most size)
   program_closes c true h = h.stands.0
   program_closes c false h = absurd (let f : true ≡ false = h.stands in cc)
+
+  -- the laws of reading
+  pub program_lawful : LawfulAt size (program_valid sorts most size) (step_by bodies) (program_rank sorts most size)
+  program_lawful = record {
+    adds = program_adds bodies;
+    consumes = program_consumes sorts most size bodies fit;
+    keeps = program_keeps;
+    falls = program_falls;
+    tidies = program_tidy;
+    closes = program_closes;
+  }
 
   pub program_resolves : ResolvesAt {M = M} (program_valid sorts most size) resolves_nothing settles_whole
   program_resolves = record {
@@ -257,7 +269,7 @@ module _ {M : Type 0} (sorts : Name → Sort) (most size : ℕ) (bodies : Name �
   }
 
   -- what is open where a state is called
-  pub program_open : (c : Config M) (stack : List Attempt) (n : Name) → program_valid sorts most size c stack (states.Retry n) → (rest : List EventName) × (opened [] c.events ≡ named_all c.tokenize_state (sorts n).open_tokens ++ rest)
+  pub program_open : (c : Config M) (stack : List Attempt) (n : Name) → program_valid sorts most size c stack (states.Retry n) → (rest : List EventName) × (open_after [] c.events ≡ named_all c.tokenize_state (sorts n).open_tokens ++ rest)
   program_open c stack n h = (below sorts size c.tokenize_state (reverse stack), h.stands.0.names)
 
 -- a state that reads on from nothing

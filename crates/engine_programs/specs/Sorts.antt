@@ -173,12 +173,12 @@ module _ (sorts : Name → Sort) where
       are_none (sorts m).open_tokens && (not (sorts m).moved && (falls_to n z m && (implies (after_of ok) ((sorts m).yields && not check) && (implies (is_nok nok && (sorts n).sure) (sorts m).sure
       && (implies (sorts m).plain ((sorts n).plain && all_fixed z.open_tokens) && (implies (not check && wants_end ok (sorts n).firm) (sorts m).firm && (same_tokens (sorts m).leaves (left_open ok (sorts n).leaves) && implies (sorts m).exits (may_end z))))))))
 
-  abbrev pub tried : Name → Sight → Bool → State → State → State → Bool
-  tried n z check ok nok (states.Error m) = false
-  tried n z check ok nok (states.Next m) = z.spent && (begins n z check ok nok m && not (sorts m).byte)
-  tried n z check ok nok (states.Retry m) = not z.spent && (begins n z check ok nok m && implies (sorts m).byte z.fed)
-  tried n z check ok nok states.Ok = false
-  tried n z check ok nok states.Nok = false
+  abbrev pub attempt_fits : Name → Sight → Bool → State → State → State → Bool
+  attempt_fits n z check ok nok (states.Error m) = false
+  attempt_fits n z check ok nok (states.Next m) = z.spent && (begins n z check ok nok m && not (sorts m).byte)
+  attempt_fits n z check ok nok (states.Retry m) = not z.spent && (begins n z check ok nok m && implies (sorts m).byte z.fed)
+  attempt_fits n z check ok nok states.Ok = false
+  attempt_fits n z check ok nok states.Nok = false
 
   abbrev pub waits_lower : Name → Sight → State → State → Bool
   waits_lower n z ok nok = z.spent || nat_lt (ok_height ok + nok_height nok) (sorts n).height
@@ -206,7 +206,7 @@ module _ (sorts : Name → Sort) where
   fits_from n (Flag f b) z = fits_from n b z
   fits_from n (Register r b) z = fits_from n b z
   fits_from n (RegisterFirst r b) z = fits_from n b z
-  fits_from n (Tries check ok nok s) z = goes_back n z check ok nok && (tried n z check ok nok s && (ok_fits n z check ok && (nok_fits n z nok && waits_lower n z ok nok)))
+  fits_from n (Tries check ok nok s) z = goes_back n z check ok nok && (attempt_fits n z check ok nok s && (ok_fits n z check ok && (nok_fits n z nok && waits_lower n z ok nok)))
   fits_from n (Byte a b) z = fits_from n a z && fits_from n b (record z { fed = true })
   fits_from n (On p a b) z = fits_from n a (record z { fed = true; feed = z.feed && p 10 }) && fits_from n b (record z { feed = z.feed && not (p 10) })
   fits_from n (AfterFeed a b) z = fits_from n a z && fits_from n b (record z { inline = true })

@@ -8,7 +8,7 @@ use Rattle.engine_events.specs.declared.state.Name.{Name}
 use Rattle.markdown_engine.specs.declared.attempt.Attempt.{Attempt}
 use Rattle.markdown_engine.specs.Kept.{Kept}
 use Rattle.markdown_engine.specs.Laws.{remaining}
-use Rattle.markdown_engine.specs.Order.{AreTidy, opened}
+use Rattle.markdown_engine.specs.Order.{AreTidy, open_after}
 use Rattle.engine_programs.specs.Bodies.{held, named_all}
 use Rattle.engine_programs.specs.Sorts.{Sort, all_fixed}
 use Rattle.engine_programs.specs.Stacks.{Ends, Far, Marks, are_plain, around_of, below, ends_back}
@@ -68,5 +68,5 @@ module _ (sorts : Name → Sort) (size : ℕ) where
       let x = m.0 in
       let low = x.low in
       let longer = length-append es more in
-      let same = subst (λ (z : List Event). AreTidy z a.point × (ends_back sorts size a st ≡ true → Ends sorts size a.previous a.line_start a.point z) × (opened [] z ≡ below sorts size k (a ∷ st)) × Marks sorts size k z st) (sym (take-append-le a.events es more low)) (x.tidy, x.exits, x.names, m.1) in
+      let same = subst (λ (z : List Event). AreTidy z a.point × (ends_back sorts size a st ≡ true → Ends sorts size a.previous a.line_start a.point z) × (open_after [] z ≡ below sorts size k (a ∷ st)) × Marks sorts size k z st) (sym (take-append-le a.events es more low)) (x.tidy, x.exits, x.names, m.1) in
       (record { low = omega (arith, low, longer); tidy = same.0; exits = same.1; names = same.2; ok = x.ok; nok = x.nok }, same.3)

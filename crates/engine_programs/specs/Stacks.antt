@@ -12,7 +12,7 @@ use Rattle.markdown_engine.specs.Descent.{descent}
 use Rattle.markdown_engine.specs.Kept.{Kept, kept}
 use Rattle.markdown_engine.specs.Laws.{remaining}
 use Rattle.markdown_engine.specs.Machine.{Answers, config}
-use Rattle.markdown_engine.specs.Order.{AreTidy, IsTidy, LeadsOn, Reaches, opened}
+use Rattle.markdown_engine.specs.Order.{AreTidy, IsTidy, LeadsOn, Reaches, open_after}
 use Rattle.markdown_engine.specs.Reading.{Config}
 use Rattle.markdown_engine.specs.VirtualText.{is_feed}
 use Rattle.engine_programs.specs.Bodies.{Token, Body, named_all, run}
@@ -93,7 +93,7 @@ module _ (sorts : Name → Sort) (size : ℕ) where
     pub low : a.events ≤ length events
     pub tidy : AreTidy (take a.events events) a.point
     pub exits : ends_back a st ≡ true → Ends a.previous a.line_start a.point (take a.events events)
-    pub names : opened [] (take a.events events) ≡ below k (a ∷ st)
+    pub names : open_after [] (take a.events events) ≡ below k (a ∷ st)
     pub ok : OkGoes a st a.ok
     pub nok : NokGoes a st a.nok
 
@@ -114,7 +114,7 @@ module _ (sorts : Name → Sort) (size : ℕ) where
 
     pub record At (n : Name) (st : List Attempt) (c : Config M) : Type 0 where
       pub suits : Suits st n
-      pub names : opened [] c.events ≡ named_all c.tokenize_state (sorts n).open_tokens ++ below c.tokenize_state st
+      pub names : open_after [] c.events ≡ named_all c.tokenize_state (sorts n).open_tokens ++ below c.tokenize_state st
       pub far : Far st (remaining size c.point) (sorts n).moved
       pub exits : (sorts n).exits ≡ true → MayExit c
 
@@ -122,7 +122,7 @@ module _ (sorts : Name → Sort) (size : ℕ) where
     Stands (states.Error m) st c = ⊥
     Stands (states.Next n) st c = At n st c × ((sorts n).byte ≡ false)
     Stands (states.Retry n) st c = At n st c × Ahead c × ((sorts n).byte ≡ true → HasByte c)
-    Stands states.Ok st c = (opened [] c.events ≡ named_all c.tokenize_state (left_by st) ++ below c.tokenize_state st) × Far st (remaining size c.point) (needs_byte st) × (needs_end st ≡ true → MayExit c)
+    Stands states.Ok st c = (open_after [] c.events ≡ named_all c.tokenize_state (left_by st) ++ below c.tokenize_state st) × Far st (remaining size c.point) (needs_byte st) × (needs_end st ≡ true → MayExit c)
     Stands states.Nok st c = must_go_well st ≡ false
 
     pub record IsValid (s : State) (st : List Attempt) (c : Config M) : Type 0 where
@@ -160,4 +160,4 @@ module _ {M T A : Type 0} where
 
   -- these are the innermost open events
   abbrev pub IsOpen : List Token → Tokenizer M T A → Type 0
-  IsOpen ts t = (rest : List EventName) × (opened [] t.events.items ≡ named_all (kept t.tokenize_state) ts ++ rest)
+  IsOpen ts t = (rest : List EventName) × (open_after [] t.events.items ≡ named_all (kept t.tokenize_state) ts ++ rest)

@@ -2,8 +2,8 @@
 ghost use Rattle.std.specs.Prelude.{◌≡◌, [], ◌∷◌, OnOk, IfErr, None};
 ghost use Rattle.markdown_options.specs.Messages.{IsOutOfMemory};
 ghost use Rattle.markdown_engine.specs.Kept.{kept};
-ghost use Rattle.markdown_engine.specs.Machine.{Became, config, consumed, entered, exited};
-ghost use Rattle.markdown_engine.specs.Order.{IsInnermost, opened, outer};
+ghost use Rattle.markdown_engine.specs.Machine.{Became, config, past_byte, with_enter, with_exit};
+ghost use Rattle.markdown_engine.specs.Order.{IsInnermost, open_after, outer};
 
 use markdown_engine::Message;
 use markdown_engine::event::Name;
@@ -15,8 +15,8 @@ pub fn around<M, T, A: Allocator>(
     tokenizer: &mut Tokenizer<'_, M, T, A>,
     name: Name,
 ) -> Result<(), Message>
-    ensures became { OnOk result (Became (exited name (consumed (entered name None (config tokenizer.old)))) tokenizer.old tokenizer.new) }
-    ensures opened { OnOk result (opened [] tokenizer.new.events.items ≡ opened [] tokenizer.old.events.items) }
+    ensures became { OnOk result (Became (with_exit name (past_byte (with_enter name None (config tokenizer.old)))) tokenizer.old tokenizer.new) }
+    ensures open_events { OnOk result (open_after [] tokenizer.new.events.items ≡ open_after [] tokenizer.old.events.items) }
     ensures parse_state { tokenizer.new.parse_state ≡ tokenizer.old.parse_state }
     ensures skips { tokenizer.new.skips ≡ tokenizer.old.skips }
     ensures memory { IfErr result (λ message. IsOutOfMemory message) }
@@ -31,8 +31,8 @@ pub fn begin<M, T, A: Allocator>(
     tokenizer: &mut Tokenizer<'_, M, T, A>,
     name: Name,
 ) -> Result<(), Message>
-    ensures became { OnOk result (Became (entered name None (config tokenizer.old)) tokenizer.old tokenizer.new) }
-    ensures opened { OnOk result (opened [] tokenizer.new.events.items ≡ name ∷ opened [] tokenizer.old.events.items) }
+    ensures became { OnOk result (Became (with_enter name None (config tokenizer.old)) tokenizer.old tokenizer.new) }
+    ensures open_events { OnOk result (open_after [] tokenizer.new.events.items ≡ name ∷ open_after [] tokenizer.old.events.items) }
     ensures parse_state { tokenizer.new.parse_state ≡ tokenizer.old.parse_state }
     ensures skips { tokenizer.new.skips ≡ tokenizer.old.skips }
     ensures memory { IfErr result (λ message. IsOutOfMemory message) }
@@ -46,8 +46,8 @@ pub fn leave<M, T, A: Allocator>(
     name: Name,
 ) -> Result<(), Message>
     requires { IsInnermost name tokenizer.old.events.items }
-    ensures became { OnOk result (Became (exited name (config tokenizer.old)) tokenizer.old tokenizer.new) }
-    ensures opened { OnOk result (opened [] tokenizer.new.events.items ≡ outer (opened [] tokenizer.old.events.items)) }
+    ensures became { OnOk result (Became (with_exit name (config tokenizer.old)) tokenizer.old tokenizer.new) }
+    ensures open_events { OnOk result (open_after [] tokenizer.new.events.items ≡ outer (open_after [] tokenizer.old.events.items)) }
     ensures kept { OnOk result (kept tokenizer.new.tokenize_state ≡ kept tokenizer.old.tokenize_state) }
     ensures parse_state { tokenizer.new.parse_state ≡ tokenizer.old.parse_state }
     ensures skips { tokenizer.new.skips ≡ tokenizer.old.skips }

@@ -23,9 +23,9 @@ abbrev pub quoted : ℕ → List ℕ
 quoted c = if c == 96 then codes "`` ` ``" else 96 ∷ c ∷ 96 ∷ []
 
 -- the code, after the character itself if it is one from `!` to `~`
-abbrev pub shown : ℕ → List ℕ
-shown c = if nat_lt c 33 || nat_lt 126 c then code_text c else quoted c ++ codes " (" ++ code_text c ++ codes ")"
+abbrev pub character_text : ℕ → List ℕ
+character_text c = if nat_lt c 33 || nat_lt 126 c then code_text c else quoted c ++ codes " (" ++ code_text c ++ codes ")"
 
-abbrev pub shown_or_end : Option ℕ → List ℕ
-shown_or_end None = codes "end of file"
-shown_or_end (Some c) = shown c
+abbrev pub text_or_end : Option ℕ → List ℕ
+text_or_end None = codes "end of file"
+text_or_end (Some c) = character_text c

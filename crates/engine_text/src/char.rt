@@ -3,7 +3,7 @@ ghost use Rattle.std.specs.Prelude.{◌≡◌, ◌<◌, ◌^◌, ◌++◌, [], �
 ghost use Rattle.std.specs.Str.{IsCharBoundary, chars};
 ghost use Rattle.markdown_options.specs.Messages.{IsOutOfMemory};
 ghost use Rattle.engine_text.specs.Characters.{IsLast, kind_of, kind_of_any};
-ghost use Rattle.engine_text.specs.Shown.{hex_digit, code_text, shown, shown_or_end};
+ghost use Rattle.engine_text.specs.Shown.{hex_digit, code_text, character_text, text_or_end};
 
 use markdown_options::{Message, Tables};
 use std::alloc::{AllocError, Allocator};
@@ -71,15 +71,15 @@ pub fn classify_opt<T: Tables>(character: Option<char>, tables: &T) -> Kind
 
 /// Shows a character by its code, and by itself if it can be seen, as `` `a` (U+0061) ``.
 pub fn format<A: Allocator>(alloc: A, character: char) -> Result<String<A>, Message>
-    ensures text { IfOk result (λ text. string_bytes text ≡ shown character) }
+    ensures text { IfOk result (λ text. string_bytes text ≡ character_text character) }
     ensures memory { IfErr result (λ message. IsOutOfMemory message) }
 {
-    Ok(shown(alloc, character as u32)?)
+    Ok(character_text(alloc, character as u32)?)
 }
 
 /// Shows a character, or `end of file`.
 pub fn format_opt<A: Allocator>(alloc: A, character: Option<char>) -> Result<String<A>, Message>
-    ensures text { IfOk result (λ text. string_bytes text ≡ shown_or_end character) }
+    ensures text { IfOk result (λ text. string_bytes text ≡ text_or_end character) }
     ensures memory { IfErr result (λ message. IsOutOfMemory message) }
 {
     match character {
@@ -90,15 +90,15 @@ pub fn format_opt<A: Allocator>(alloc: A, character: Option<char>) -> Result<Str
 
 /// Shows a byte as the character of that code.
 pub fn format_byte<A: Allocator>(alloc: A, byte: u8) -> Result<String<A>, Message>
-    ensures text { IfOk result (λ text. string_bytes text ≡ shown byte) }
+    ensures text { IfOk result (λ text. string_bytes text ≡ character_text byte) }
     ensures memory { IfErr result (λ message. IsOutOfMemory message) }
 {
-    Ok(shown(alloc, u32::from(byte))?)
+    Ok(character_text(alloc, u32::from(byte))?)
 }
 
 /// Shows a byte, or `end of file`.
 pub fn format_byte_opt<A: Allocator>(alloc: A, byte: Option<u8>) -> Result<String<A>, Message>
-    ensures text { IfOk result (λ text. string_bytes text ≡ shown_or_end byte) }
+    ensures text { IfOk result (λ text. string_bytes text ≡ text_or_end byte) }
     ensures memory { IfErr result (λ message. IsOutOfMemory message) }
 {
     match byte {
@@ -110,9 +110,9 @@ pub fn format_byte_opt<A: Allocator>(alloc: A, byte: Option<u8>) -> Result<Strin
 const END: &str = "end of file";
 
 /// A code, and the character itself between backticks if it can be seen.
-fn shown<A: Allocator>(alloc: A, code: u32) -> Result<String<A>, AllocError>
+fn character_text<A: Allocator>(alloc: A, code: u32) -> Result<String<A>, AllocError>
     requires { code < 2 ^ 24 }
-    ensures { IfOk result (λ text. string_bytes text ≡ shown code) }
+    ensures { IfOk result (λ text. string_bytes text ≡ character_text code) }
 {
     let mut text = String::new(alloc);
     if code < 33 || code > 126 {

@@ -9,12 +9,12 @@ use Rattle.inline_states_table.specs.declared.Group.TheVariants as groups
 use Rattle.engine_programs.specs.Bodies.{Body, Answer}
 use Rattle.engine_programs.specs.Sorts.{fits, implies}
 use Rattle.inline_states_table.specs.Table.{is_in, sorts}
-use Rattle.inline_states_ends.specs.LabelEnd.{label_end_start, label_end_after, label_end_reference_not_full, label_end_ok, label_end_nok, label_end_resource_start, label_end_resource_before, label_end_resource_open, label_end_resource_destination_after, label_end_resource_destination_missing, label_end_resource_between, label_end_resource_title_after, label_end_resource_end, label_end_reference_full, label_end_reference_full_after, label_end_reference_full_missing, label_end_reference_collapsed, label_end_reference_collapsed_open}
+use Rattle.inline_states_ends.specs.LabelEnd.{label_end_start, label_end_read, label_end_reference_not_full, label_end_ok, label_end_nok, label_end_resource_start, label_end_resource_before, label_end_resource_open, label_end_resource_destination_after, label_end_resource_destination_missing, label_end_resource_between, label_end_resource_title_after, label_end_resource_end, label_end_reference_full, label_end_reference_full_after, label_end_reference_full_missing, label_end_reference_collapsed, label_end_reference_collapsed_open}
 
 module _ {T M : Type 0} (x : Context T) where
   abbrev pub end_body : InlineName → Body M
   end_body inline_states.LabelEndStart = label_end_start x.options.constructs.label_end
-  end_body inline_states.LabelEndAfter = label_end_after x.options.constructs.label_start_link x.bytes x.definitions x.footnotes
+  end_body inline_states.LabelEndAfter = label_end_read x
   end_body inline_states.LabelEndReferenceNotFull = label_end_reference_not_full x.bytes x.definitions
   end_body inline_states.LabelEndOk = label_end_ok
   end_body inline_states.LabelEndNok = label_end_nok

@@ -4,6 +4,7 @@ use Rattle.engine_events.specs.declared.event.Name.TheVariants as names
 use Rattle.engine_events.specs.declared.resolve.Name.TheVariants as resolvers
 use Rattle.engine_events.specs.declared.state.Inline.TheVariants as inline_states
 use Rattle.engine_events.specs.declared.state.State.TheVariants as states
+use Rattle.markdown_engine.specs.Context.{Context}
 use Rattle.markdown_engine.specs.Reading.{Config}
 use Rattle.engine_programs.specs.Bodies.{Fixed, Body, Answer, Enter, Exit, Keep, Hold, RegisterFirst, Tries, Byte, On, Test, around}
 use Rattle.inline_states_table.specs.Words.{next, retry}
@@ -117,6 +118,10 @@ module _ {M : Type 0} where
       Test (λ c. not (has_kind kinds.GfmFootnote (last_start c.tokenize_state.label_starts))) (end_after_link bytes definitions)
       (Test (starts_defined bytes footnotes) (Answer (retry inline_states.LabelEndOk))
       (Test (λ c. links) (end_undefined (end_after_link bytes definitions)) (Answer (retry inline_states.LabelEndNok))))
+
+  -- the same, by what the text is read with
+  abbrev pub label_end_read : {T : Type 0} → Context T → Body M
+  label_end_read x = label_end_after x.options.constructs.label_start_link x.bytes x.definitions x.footnotes
 
   -- where no full reference is: after a label that isn't defined there is no other
   abbrev pub label_end_reference_not_full : List ℕ → List (List ℕ) → Body M

@@ -3,7 +3,7 @@ ghost use Rattle.std.specs.Prelude.{◌≡◌, ◌≤◌, ◌<◌, ◌-◌, ◌+
 ghost use Rattle.std.specs.List.{list_any};
 ghost use Rattle.std.specs.Str.{bytes_eq};
 ghost use Rattle.markdown_options.specs.Messages.{IsOutOfMemory};
-ghost use Rattle.markdown_engine.specs.Machine.{config, read_with};
+ghost use Rattle.markdown_engine.specs.Machine.{config, bytes_of, definitions_of, footnotes_of};
 ghost use Rattle.inline_states_ends.specs.LabelEnd.{reference_defined, starts_defined};
 ghost use Rattle.inline_states_ends.specs.Defined.{ends_line, is_among, is_defined, label_part, label_text, last_start, part_between, text_start};
 
@@ -123,7 +123,7 @@ fn is_defined<M, T, A: Allocator>(
     tokenizer: &Tokenizer<'_, M, T, A>,
     labels: &Vec<String<A>, A>,
 ) -> Result<bool, Message>
-    ensures known { IfOk result (λ known. known ≡ starts_defined (read_with tokenizer.now).bytes (map string_bytes labels.now.items) (config tokenizer.now)) }
+    ensures known { IfOk result (λ known. known ≡ starts_defined (bytes_of tokenizer.now) (map string_bytes labels.now.items) (config tokenizer.now)) }
     ensures memory { IfErr result (λ message. IsOutOfMemory message) }
 {
     let Some(start) = tokenizer.tokenize_state.label_starts.last() else {
@@ -143,7 +143,7 @@ fn is_defined<M, T, A: Allocator>(
 pub(crate) fn is_link_defined<M, T, A: Allocator>(
     tokenizer: &Tokenizer<'_, M, T, A>,
 ) -> Result<bool, Message>
-    ensures known { IfOk result (λ known. known ≡ starts_defined (read_with tokenizer.now).bytes (read_with tokenizer.now).definitions (config tokenizer.now)) }
+    ensures known { IfOk result (λ known. known ≡ starts_defined (bytes_of tokenizer.now) (definitions_of tokenizer.now) (config tokenizer.now)) }
     ensures memory { IfErr result (λ message. IsOutOfMemory message) }
 {
     is_defined(tokenizer, &tokenizer.parse_state.definitions)
@@ -153,7 +153,7 @@ pub(crate) fn is_link_defined<M, T, A: Allocator>(
 pub(crate) fn is_call_defined<M, T, A: Allocator>(
     tokenizer: &Tokenizer<'_, M, T, A>,
 ) -> Result<bool, Message>
-    ensures known { IfOk result (λ known. known ≡ starts_defined (read_with tokenizer.now).bytes (read_with tokenizer.now).footnotes (config tokenizer.now)) }
+    ensures known { IfOk result (λ known. known ≡ starts_defined (bytes_of tokenizer.now) (footnotes_of tokenizer.now) (config tokenizer.now)) }
     ensures memory { IfErr result (λ message. IsOutOfMemory message) }
 {
     is_defined(tokenizer, &tokenizer.parse_state.gfm_footnote_definitions)
@@ -163,7 +163,7 @@ pub(crate) fn is_call_defined<M, T, A: Allocator>(
 pub(crate) fn is_reference_defined<M, T, A: Allocator>(
     tokenizer: &Tokenizer<'_, M, T, A>,
 ) -> Result<bool, Message>
-    ensures known { IfOk result (λ known. known ≡ reference_defined (read_with tokenizer.now).bytes (read_with tokenizer.now).definitions (config tokenizer.now)) }
+    ensures known { IfOk result (λ known. known ≡ reference_defined (bytes_of tokenizer.now) (definitions_of tokenizer.now) (config tokenizer.now)) }
     ensures memory { IfErr result (λ message. IsOutOfMemory message) }
 {
     let labels = &tokenizer.parse_state.definitions;

@@ -14,14 +14,22 @@
 //! label or by `[]`.
 ghost use Rattle.std.specs.Prelude.{[], ◌∷◌};
 ghost use Rattle.engine_events.specs.declared.event.Name.TheVariants as names;
-ghost use Rattle.markdown_engine.specs.Machine.{config, read_with};
+ghost use Rattle.markdown_engine.specs.Machine.{config, constructs_of, bytes_of, definitions_of, read_with};
 ghost use Rattle.engine_programs.specs.Bodies.{Fixed};
 ghost use Rattle.engine_programs.specs.Stacks.{Does, IsOpen};
-ghost use Rattle.inline_states_ends.specs.LabelEnd.{label_end_start, label_end_after, label_end_reference_not_full, label_end_ok, label_end_nok, label_end_resource_start, label_end_resource_before, label_end_resource_open, label_end_resource_destination_after, label_end_resource_destination_missing, label_end_resource_between, label_end_resource_title_after, label_end_resource_end, label_end_reference_full, label_end_reference_full_after, label_end_reference_full_missing, label_end_reference_collapsed, label_end_reference_collapsed_open};
+ghost use Rattle.inline_states_ends.specs.LabelEnd.{label_end_start, label_end_read, label_end_reference_not_full, label_end_ok};
+ghost use Rattle.inline_states_ends.specs.LabelEnd.{label_end_nok, label_end_resource_start, label_end_resource_before};
+ghost use Rattle.inline_states_ends.specs.LabelEnd.{label_end_resource_open, label_end_resource_destination_after};
+ghost use Rattle.inline_states_ends.specs.LabelEnd.{label_end_resource_destination_missing, label_end_resource_between};
+ghost use Rattle.inline_states_ends.specs.LabelEnd.{label_end_resource_title_after, label_end_resource_end, label_end_reference_full};
+ghost use Rattle.inline_states_ends.specs.LabelEnd.{label_end_reference_full_after, label_end_reference_full_missing};
+ghost use Rattle.inline_states_ends.specs.LabelEnd.{label_end_reference_collapsed, label_end_reference_collapsed_open};
 ghost use Rattle.std.specs.Prelude.{◌≡◌, ◌++◌, Some, OnOk};
 ghost use Rattle.engine_events.specs.declared.label.LabelKind.TheVariants as kinds;
 ghost use Rattle.inline_states_ends.specs.Defined.{has_kind, last_start};
-ghost use Rattle.inline_states_ends.specs.LabelEnd.{end_after_link, end_followed, end_formed, end_loose, end_undefined, formed_start, has_start, is_inactive, reference_defined, starts_defined, undefined_start, without_last};
+ghost use Rattle.inline_states_ends.specs.LabelEnd.{end_after_link, end_followed, end_formed, end_loose, end_undefined, formed_start};
+ghost use Rattle.inline_states_ends.specs.LabelEnd.{has_start, is_inactive, reference_defined, starts_defined, undefined_start};
+ghost use Rattle.inline_states_ends.specs.LabelEnd.{without_last};
 
 use crate::defined::{is_call_defined, is_link_defined, is_reference_defined};
 use engine_programs::around::{around, begin};
@@ -117,7 +125,7 @@ fn follow<M, T, A: Allocator>(tokenizer: &mut Tokenizer<'_, M, T, A>, other: Inl
 
 /// At what follows the text of a link or an image.
 fn after_link<M, T, A: Allocator>(tokenizer: &mut Tokenizer<'_, M, T, A>) -> State
-    ensures { Does (end_after_link (read_with tokenizer.old).bytes (read_with tokenizer.old).definitions) tokenizer.old tokenizer.new result }
+    ensures { Does (end_after_link (bytes_of tokenizer.old) (definitions_of tokenizer.old)) tokenizer.old tokenizer.new result }
 {
     match is_link_defined(tokenizer) {
         Ok(true) => follow(tokenizer, Inline::LabelEndOk),
@@ -128,7 +136,7 @@ fn after_link<M, T, A: Allocator>(tokenizer: &mut Tokenizer<'_, M, T, A>) -> Sta
 
 /// At what follows the text of a footnote's start that is no call.
 fn after_undefined<M, T, A: Allocator>(tokenizer: &mut Tokenizer<'_, M, T, A>) -> State
-    ensures { Does (end_undefined (end_after_link (read_with tokenizer.old).bytes (read_with tokenizer.old).definitions)) tokenizer.old tokenizer.new result }
+    ensures { Does (end_undefined (end_after_link (bytes_of tokenizer.old) (definitions_of tokenizer.old))) tokenizer.old tokenizer.new result }
 {
     if undefine(&mut tokenizer.tokenize_state.label_starts).is_err() {
         return State::out_of_memory();
@@ -195,7 +203,7 @@ fn loosen<M, T, A: Allocator>(tokenizer: &mut Tokenizer<'_, M, T, A>) -> State
 
 /// At a `]`.
 pub fn start<M, T, A: Allocator>(tokenizer: &mut Tokenizer<'_, M, T, A>) -> State
-    ensures { Does (label_end_start (read_with tokenizer.old).options.constructs.label_end) tokenizer.old tokenizer.new result }
+    ensures { Does (label_end_start (constructs_of tokenizer.old).label_end) tokenizer.old tokenizer.new result }
 {
     if tokenizer.current != Some(b']') {
         return State::Nok;
@@ -221,7 +229,7 @@ pub fn start<M, T, A: Allocator>(tokenizer: &mut Tokenizer<'_, M, T, A>) -> Stat
 
 /// After the `]`.
 pub fn after<M, T, A: Allocator>(tokenizer: &mut Tokenizer<'_, M, T, A>) -> State
-    ensures { Does (label_end_after (read_with tokenizer.old).options.constructs.label_start_link (read_with tokenizer.old).bytes (read_with tokenizer.old).definitions (read_with tokenizer.old).footnotes) tokenizer.old tokenizer.new result }
+    ensures { Does (label_end_read (read_with tokenizer.old)) tokenizer.old tokenizer.new result }
 {
     if !is_footnote(tokenizer) {
         after_link(tokenizer)
@@ -242,7 +250,7 @@ pub fn after<M, T, A: Allocator>(tokenizer: &mut Tokenizer<'_, M, T, A>) -> Stat
 
 /// Where no full reference is: after a label that isn't defined there is no other.
 pub fn reference_not_full<M, T, A: Allocator>(tokenizer: &mut Tokenizer<'_, M, T, A>) -> State
-    ensures { Does (label_end_reference_not_full (read_with tokenizer.old).bytes (read_with tokenizer.old).definitions) tokenizer.old tokenizer.new result }
+    ensures { Does (label_end_reference_not_full (bytes_of tokenizer.old) (definitions_of tokenizer.old)) tokenizer.old tokenizer.new result }
 {
     if tokenizer.tokenize_state.seen {
         retry(Inline::LabelEndNok)
@@ -425,7 +433,7 @@ pub fn reference_full<M, T, A: Allocator>(tokenizer: &mut Tokenizer<'_, M, T, A>
 
 /// After a label.
 pub fn reference_full_after<M, T, A: Allocator>(tokenizer: &mut Tokenizer<'_, M, T, A>) -> State
-    ensures { Does (label_end_reference_full_after (read_with tokenizer.old).bytes (read_with tokenizer.old).definitions) tokenizer.old tokenizer.new result }
+    ensures { Does (label_end_reference_full_after (bytes_of tokenizer.old) (definitions_of tokenizer.old)) tokenizer.old tokenizer.new result }
 {
     tokenizer.tokenize_state.seen = true;
     match is_reference_defined(tokenizer) {

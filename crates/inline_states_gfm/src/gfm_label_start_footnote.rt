@@ -5,7 +5,7 @@
 //! ```
 ghost use Rattle.std.specs.Prelude.{[], ◌∷◌};
 ghost use Rattle.engine_events.specs.declared.event.Name.TheVariants as names;
-ghost use Rattle.markdown_engine.specs.Machine.{config, read_with};
+ghost use Rattle.markdown_engine.specs.Machine.{config, constructs_of};
 ghost use Rattle.engine_programs.specs.Bodies.{Fixed};
 ghost use Rattle.engine_programs.specs.Stacks.{Does, IsOpen};
 ghost use Rattle.inline_states_gfm.specs.GfmLabelStartFootnote.{gfm_label_start_footnote_start, gfm_label_start_footnote_open};
@@ -22,7 +22,7 @@ use std::alloc::Allocator;
 
 /// At a `[`.
 pub fn start<M, T, A: Allocator>(tokenizer: &mut Tokenizer<'_, M, T, A>) -> State
-    ensures { Does (gfm_label_start_footnote_start (read_with tokenizer.old).options.constructs.gfm_label_start_footnote) tokenizer.old tokenizer.new result }
+    ensures { Does (gfm_label_start_footnote_start (constructs_of tokenizer.old).gfm_label_start_footnote) tokenizer.old tokenizer.new result }
 {
     if tokenizer.current != Some(b'[') {
         return State::Nok;

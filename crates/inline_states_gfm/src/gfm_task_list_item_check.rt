@@ -7,10 +7,12 @@
 //! White space that isn't the end of the content follows.
 ghost use Rattle.std.specs.Prelude.{[], ◌∷◌};
 ghost use Rattle.engine_events.specs.declared.event.Name.TheVariants as names;
-ghost use Rattle.markdown_engine.specs.Machine.{config, read_with};
+ghost use Rattle.markdown_engine.specs.Machine.{config, constructs_of};
 ghost use Rattle.engine_programs.specs.Bodies.{Fixed};
 ghost use Rattle.engine_programs.specs.Stacks.{Does, IsOpen};
-ghost use Rattle.inline_states_gfm.specs.GfmTaskListItemCheck.{gfm_task_list_item_check_start, gfm_task_list_item_check_inside, gfm_task_list_item_check_close, gfm_task_list_item_check_after, gfm_task_list_item_check_after_space_or_tab};
+ghost use Rattle.inline_states_gfm.specs.GfmTaskListItemCheck.{gfm_task_list_item_check_start, gfm_task_list_item_check_inside};
+ghost use Rattle.inline_states_gfm.specs.GfmTaskListItemCheck.{gfm_task_list_item_check_close, gfm_task_list_item_check_after};
+ghost use Rattle.inline_states_gfm.specs.GfmTaskListItemCheck.{gfm_task_list_item_check_after_space_or_tab};
 
 use engine_programs::around::around;
 use engine_programs::steps::{around_to, attempt_to, check_to, exit_to};
@@ -22,7 +24,7 @@ use std::alloc::Allocator;
 
 /// At a `[`.
 pub fn start<M, T, A: Allocator>(tokenizer: &mut Tokenizer<'_, M, T, A>) -> State
-    ensures { Does (gfm_task_list_item_check_start (read_with tokenizer.old).options.constructs.gfm_task_list_item) tokenizer.old tokenizer.new result }
+    ensures { Does (gfm_task_list_item_check_start (constructs_of tokenizer.old).gfm_task_list_item) tokenizer.old tokenizer.new result }
 {
     if tokenizer.current != Some(b'[') {
         return State::Nok;

@@ -10,10 +10,12 @@
 //! ```
 //!
 //! An address is entered as a protocol; which one is an email's is told from its bytes once all is read.
-ghost use Rattle.markdown_engine.specs.Machine.{config, read_with};
+ghost use Rattle.markdown_engine.specs.Machine.{config, constructs_of};
 ghost use Rattle.engine_programs.specs.Stacks.{Does, IsOpen};
 ghost use Rattle.inline_states_table.specs.Table.{address_tokens};
-ghost use Rattle.inline_states_html.specs.Autolink.{autolink_start, autolink_open, autolink_scheme_or_email_atext, autolink_scheme_inside_or_email_atext, autolink_url_inside, autolink_email_atext, autolink_email_at_sign_or_dot, autolink_email_label, autolink_email_value};
+ghost use Rattle.inline_states_html.specs.Autolink.{autolink_start, autolink_open, autolink_scheme_or_email_atext};
+ghost use Rattle.inline_states_html.specs.Autolink.{autolink_scheme_inside_or_email_atext, autolink_url_inside, autolink_email_atext};
+ghost use Rattle.inline_states_html.specs.Autolink.{autolink_email_at_sign_or_dot, autolink_email_label, autolink_email_value};
 ghost use Rattle.std.specs.Prelude.{◌≡◌};
 ghost use Rattle.inline_states_html.specs.Autolink.{autolink_end, ends_url, is_atext};
 
@@ -60,7 +62,7 @@ fn end<M, T, A: Allocator>(tokenizer: &mut Tokenizer<'_, M, T, A>) -> State
 
 /// At a `<`.
 pub fn start<M, T, A: Allocator>(tokenizer: &mut Tokenizer<'_, M, T, A>) -> State
-    ensures { Does (autolink_start (read_with tokenizer.old).options.constructs.autolink) tokenizer.old tokenizer.new result }
+    ensures { Does (autolink_start (constructs_of tokenizer.old).autolink) tokenizer.old tokenizer.new result }
 {
     if tokenizer.current != Some(b'<') {
         return State::Nok;

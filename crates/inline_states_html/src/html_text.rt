@@ -15,10 +15,21 @@
 //! ```
 //!
 //! Data ends before each line ending and goes on after it and the spaces and tabs there.
-ghost use Rattle.markdown_engine.specs.Machine.{config, read_with};
+ghost use Rattle.markdown_engine.specs.Machine.{config, constructs_of};
 ghost use Rattle.engine_programs.specs.Stacks.{Does, IsOpen};
 ghost use Rattle.inline_states_table.specs.Table.{html_tokens};
-ghost use Rattle.inline_states_html.specs.HtmlText.{html_text_start, html_text_open, html_text_declaration_open, html_text_comment_open_inside, html_text_comment, html_text_comment_close, html_text_comment_end, html_text_cdata_open_inside, html_text_cdata, html_text_cdata_close, html_text_cdata_end, html_text_declaration, html_text_instruction, html_text_instruction_close, html_text_tag_close_start, html_text_tag_close, html_text_tag_close_between, html_text_tag_open, html_text_tag_open_between, html_text_tag_open_attribute_name, html_text_tag_open_attribute_name_after, html_text_tag_open_attribute_value_before, html_text_tag_open_attribute_value_quoted, html_text_tag_open_attribute_value_unquoted, html_text_tag_open_attribute_value_quoted_after, html_text_end, html_text_line_ending_before, html_text_line_ending_after, html_text_line_ending_after_prefix};
+ghost use Rattle.inline_states_html.specs.HtmlText.{html_text_start, html_text_open, html_text_declaration_open};
+ghost use Rattle.inline_states_html.specs.HtmlText.{html_text_comment_open_inside, html_text_comment, html_text_comment_close};
+ghost use Rattle.inline_states_html.specs.HtmlText.{html_text_comment_end, html_text_cdata_open_inside, html_text_cdata};
+ghost use Rattle.inline_states_html.specs.HtmlText.{html_text_cdata_close, html_text_cdata_end, html_text_declaration};
+ghost use Rattle.inline_states_html.specs.HtmlText.{html_text_instruction, html_text_instruction_close, html_text_tag_close_start};
+ghost use Rattle.inline_states_html.specs.HtmlText.{html_text_tag_close, html_text_tag_close_between, html_text_tag_open};
+ghost use Rattle.inline_states_html.specs.HtmlText.{html_text_tag_open_between, html_text_tag_open_attribute_name};
+ghost use Rattle.inline_states_html.specs.HtmlText.{html_text_tag_open_attribute_name_after, html_text_tag_open_attribute_value_before};
+ghost use Rattle.inline_states_html.specs.HtmlText.{html_text_tag_open_attribute_value_quoted, html_text_tag_open_attribute_value_unquoted};
+ghost use Rattle.inline_states_html.specs.HtmlText.{html_text_tag_open_attribute_value_quoted_after, html_text_end};
+ghost use Rattle.inline_states_html.specs.HtmlText.{html_text_line_ending_before, html_text_line_ending_after};
+ghost use Rattle.inline_states_html.specs.HtmlText.{html_text_line_ending_after_prefix};
 ghost use Rattle.std.specs.Prelude.{◌≡◌};
 ghost use Rattle.inline_states_html.specs.HtmlText.{is_prefix_byte};
 ghost use Rattle.inline_states_html.specs.HtmlText.{html_text_line};
@@ -63,7 +74,7 @@ fn at_line_ending<M, T, A: Allocator>(
 
 /// At a `<`.
 pub fn start<M, T, A: Allocator>(tokenizer: &mut Tokenizer<'_, M, T, A>) -> State
-    ensures { Does (html_text_start (read_with tokenizer.old).options.constructs.html_text) tokenizer.old tokenizer.new result }
+    ensures { Does (html_text_start (constructs_of tokenizer.old).html_text) tokenizer.old tokenizer.new result }
 {
     if tokenizer.current != Some(b'<') {
         return State::Nok;

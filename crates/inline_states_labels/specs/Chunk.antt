@@ -6,6 +6,8 @@ use Rattle.engine_events.specs.declared.event.Content.TheVariants as contents
 use Rattle.engine_events.specs.declared.event.Event.{Event}
 use Rattle.engine_events.specs.declared.event.Kind.TheVariants as kinds
 use Rattle.engine_events.specs.declared.event.Link.{Link}
+use Rattle.engine_events.specs.declared.event.Name.{Name as EventName}
+use Rattle.markdown_engine.specs.Machine.{past_byte, with_enter, with_exit}
 use Rattle.markdown_engine.specs.Reading.{Config}
 
 -- whether an event is the end of one
@@ -28,3 +30,7 @@ module _ {M : Type 0} where
   -- within a string, which states tell one another, a part is a chunk
   abbrev pub part_link : Config M → Option Link
   part_link c = if c.tokenize_state.connect then chunk_link c else None
+
+  -- an event round the byte, within a string a chunk
+  abbrev pub with_part : EventName → Config M → Config M
+  with_part name c = with_exit name (past_byte (with_enter name (part_link c) c))

@@ -1,8 +1,8 @@
 //! Chunks of strings: data, white space and line endings that are read together later.
 ghost use Rattle.std.specs.Prelude.{◌≡◌, [], OnOk, IfErr, Some};
 ghost use Rattle.markdown_options.specs.Messages.{IsOutOfMemory};
-ghost use Rattle.markdown_engine.specs.Machine.{Became, config, consumed, entered, exited};
-ghost use Rattle.inline_states_labels.specs.Chunk.{link_after, chunk_link, part_link};
+ghost use Rattle.markdown_engine.specs.Machine.{Became, config, with_enter};
+ghost use Rattle.inline_states_labels.specs.Chunk.{link_after, chunk_link, part_link, with_part};
 
 use markdown_engine::Message;
 use markdown_engine::event::{Content, Event, Kind, Link, Name};
@@ -43,7 +43,7 @@ pub fn enter_chunk<M, T, A: Allocator>(
     tokenizer: &mut Tokenizer<'_, M, T, A>,
     name: Name,
 ) -> Result<(), Message>
-    ensures became { OnOk result (Became (entered name (chunk_link (config tokenizer.old)) (config tokenizer.old)) tokenizer.old tokenizer.new) }
+    ensures became { OnOk result (Became (with_enter name (chunk_link (config tokenizer.old)) (config tokenizer.old)) tokenizer.old tokenizer.new) }
     ensures parse_state { tokenizer.new.parse_state ≡ tokenizer.old.parse_state }
     ensures skips { tokenizer.new.skips ≡ tokenizer.old.skips }
     ensures memory { IfErr result (λ message. IsOutOfMemory message) }
@@ -57,7 +57,7 @@ pub fn enter_part<M, T, A: Allocator>(
     tokenizer: &mut Tokenizer<'_, M, T, A>,
     name: Name,
 ) -> Result<(), Message>
-    ensures became { OnOk result (Became (entered name (part_link (config tokenizer.old)) (config tokenizer.old)) tokenizer.old tokenizer.new) }
+    ensures became { OnOk result (Became (with_enter name (part_link (config tokenizer.old)) (config tokenizer.old)) tokenizer.old tokenizer.new) }
     ensures parse_state { tokenizer.new.parse_state ≡ tokenizer.old.parse_state }
     ensures skips { tokenizer.new.skips ≡ tokenizer.old.skips }
     ensures memory { IfErr result (λ message. IsOutOfMemory message) }
@@ -73,7 +73,7 @@ pub fn around_part<M, T, A: Allocator>(
     tokenizer: &mut Tokenizer<'_, M, T, A>,
     name: Name,
 ) -> Result<(), Message>
-    ensures became { OnOk result (Became (exited name (consumed (entered name (part_link (config tokenizer.old)) (config tokenizer.old)))) tokenizer.old tokenizer.new) }
+    ensures became { OnOk result (Became (with_part name (config tokenizer.old)) tokenizer.old tokenizer.new) }
     ensures parse_state { tokenizer.new.parse_state ≡ tokenizer.old.parse_state }
     ensures skips { tokenizer.new.skips ≡ tokenizer.old.skips }
     ensures memory { IfErr result (λ message. IsOutOfMemory message) }

@@ -5,7 +5,7 @@
 //! ```
 ghost use Rattle.std.specs.Prelude.{[], ◌∷◌};
 ghost use Rattle.engine_events.specs.declared.event.Name.TheVariants as names;
-ghost use Rattle.markdown_engine.specs.Machine.{config, read_with};
+ghost use Rattle.markdown_engine.specs.Machine.{config, constructs_of};
 ghost use Rattle.engine_programs.specs.Bodies.{Fixed};
 ghost use Rattle.engine_programs.specs.Stacks.{Does, IsOpen};
 ghost use Rattle.inline_states_labels.specs.LabelStartImage.{label_start_image_start, label_start_image_open, label_start_image_after};
@@ -22,7 +22,7 @@ use std::alloc::Allocator;
 
 /// At a `!`.
 pub fn start<M, T, A: Allocator>(tokenizer: &mut Tokenizer<'_, M, T, A>) -> State
-    ensures { Does (label_start_image_start (read_with tokenizer.old).options.constructs.label_start_image) tokenizer.old tokenizer.new result }
+    ensures { Does (label_start_image_start (constructs_of tokenizer.old).label_start_image) tokenizer.old tokenizer.new result }
 {
     if tokenizer.current != Some(b'!') {
         return State::Nok;
@@ -60,7 +60,7 @@ pub fn open<M, T, A: Allocator>(tokenizer: &mut Tokenizer<'_, M, T, A>) -> State
 
 /// After the `[`: while footnotes are called, no `^` follows.
 pub fn after<M, T, A: Allocator>(tokenizer: &mut Tokenizer<'_, M, T, A>) -> State
-    ensures { Does (label_start_image_after (read_with tokenizer.old).options.constructs.gfm_label_start_footnote) tokenizer.old tokenizer.new result }
+    ensures { Does (label_start_image_after (constructs_of tokenizer.old).gfm_label_start_footnote) tokenizer.old tokenizer.new result }
 {
     match tokenizer.current {
         Some(b'^') => {

@@ -3,7 +3,7 @@
 //! ```text
 //! label_start_link ::= '['
 //! ```
-ghost use Rattle.markdown_engine.specs.Machine.{config, read_with};
+ghost use Rattle.markdown_engine.specs.Machine.{config, constructs_of};
 ghost use Rattle.engine_programs.specs.Stacks.{Does};
 ghost use Rattle.inline_states_labels.specs.LabelStartLink.{label_start_link_start};
 
@@ -17,7 +17,7 @@ use std::alloc::Allocator;
 
 /// At a `[`.
 pub fn start<M, T, A: Allocator>(tokenizer: &mut Tokenizer<'_, M, T, A>) -> State
-    ensures { Does (label_start_link_start (read_with tokenizer.old).options.constructs.label_start_link) tokenizer.old tokenizer.new result }
+    ensures { Does (label_start_link_start (constructs_of tokenizer.old).label_start_link) tokenizer.old tokenizer.new result }
 {
     if tokenizer.current != Some(b'[') {
         return State::Nok;

@@ -5,7 +5,8 @@
 //! ```
 ghost use Rattle.markdown_engine.specs.Machine.{config};
 ghost use Rattle.engine_programs.specs.Stacks.{Does};
-ghost use Rattle.inline_states_labels.specs.SpaceOrTabEol.{space_or_tab_eol_start, space_or_tab_eol_after_first, space_or_tab_eol_at_eol, space_or_tab_eol_after_eol, space_or_tab_eol_after_more};
+ghost use Rattle.inline_states_labels.specs.SpaceOrTabEol.{space_or_tab_eol_start, space_or_tab_eol_after_first, space_or_tab_eol_at_eol};
+ghost use Rattle.inline_states_labels.specs.SpaceOrTabEol.{space_or_tab_eol_after_eol, space_or_tab_eol_after_more};
 ghost use Rattle.inline_states_labels.specs.SpaceOrTabEol.{over_eol};
 
 use crate::chunk::around_part;

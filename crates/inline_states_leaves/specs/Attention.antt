@@ -1,5 +1,6 @@
--- What the states of `inline_runs` do.
-use Rattle.std.specs.Prelude.{ℕ, Bool, refl, ◌==◌}
+-- What the states of `attention` do.
+use Rattle.std.specs.Prelude.{ℕ, refl, ◌==◌}
+use Rattle.markdown_options.specs.declared.configuration.Constructs.{Constructs}
 use Rattle.engine_events.specs.declared.event.Name.TheVariants as names
 use Rattle.engine_events.specs.declared.resolve.Name.TheVariants as resolvers
 use Rattle.engine_events.specs.declared.state.Inline.TheVariants as inline_states
@@ -13,12 +14,12 @@ attention_open marker = Keep (λ c. record c.tokenize_state { marker = marker })
 
 module _ {M : Type 0} where
   -- at a byte that may begin a run
-  abbrev pub attention_start : Bool → Bool → Body M
-  attention_start on strikethrough =
+  abbrev pub attention_start : Constructs → Body M
+  attention_start constructs =
       Byte (Answer states.Nok)
-      (On (λ b. b == 42) (Test (λ c. on) (attention_open 42) (Answer states.Nok))
-      (On (λ b. b == 95) (Test (λ c. on) (attention_open 95) (Answer states.Nok))
-      (On (λ b. b == 126) (Test (λ c. strikethrough) (attention_open 126) (Answer states.Nok)) (Answer states.Nok))))
+      (On (λ b. b == 42) (Test (λ c. constructs.attention) (attention_open 42) (Answer states.Nok))
+      (On (λ b. b == 95) (Test (λ c. constructs.attention) (attention_open 95) (Answer states.Nok))
+      (On (λ b. b == 126) (Test (λ c. constructs.gfm_strikethrough) (attention_open 126) (Answer states.Nok)) (Answer states.Nok))))
 
   -- in a run
   abbrev pub attention_inside : Body M

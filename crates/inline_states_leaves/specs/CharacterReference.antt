@@ -4,6 +4,7 @@ use Rattle.std.specs.Char.{is_ascii_alphanumeric, is_ascii_digit, is_ascii_hexdi
 use Rattle.engine_events.specs.declared.event.Name.TheVariants as names
 use Rattle.engine_events.specs.declared.state.Inline.TheVariants as inline_states
 use Rattle.engine_events.specs.declared.state.State.TheVariants as states
+use Rattle.markdown_engine.specs.Reading.{Config}
 use Rattle.engine_programs.specs.Bodies.{Fixed, Body, Answer, Consume, Enter, Exit, Keep, Byte, On, Test, around, has}
 use Rattle.inline_states_table.specs.Words.{next, more}
 use Rattle.engine_events.specs.Columns.{between}
@@ -29,6 +30,10 @@ abbrev pub is_known : (List ℕ → Option (List ℕ)) → List ℕ → ℕ → 
 is_known texts bytes marker size index = nat_lt 0 size && (not (marker == 38) || is_name texts bytes size index)
 
 module _ {M : Type 0} where
+  -- the same of the value that is being read
+  abbrev pub is_value_known : (List ℕ → Option (List ℕ)) → List ℕ → Config M → Bool
+  is_value_known texts bytes c = is_known texts bytes c.tokenize_state.marker c.tokenize_state.size c.point.index
+
   -- at an `&`
   abbrev pub character_reference_start : Bool → Body M
   character_reference_start on =
@@ -67,7 +72,7 @@ module _ {M : Type 0} where
   abbrev pub character_reference_value : (List ℕ → Option (List ℕ)) → List ℕ → Body M
   character_reference_value texts bytes =
       Byte (Answer states.Nok)
-      (Test (λ c. has (λ b. b == 59) c.current && is_known texts bytes c.tokenize_state.marker c.tokenize_state.size c.point.index)
+      (Test (λ c. has (λ b. b == 59) c.current && is_value_known texts bytes c)
       (Exit (Fixed names.CharacterReferenceValue)
       (around (Fixed names.CharacterReferenceMarkerSemi) (Exit (Fixed names.CharacterReference) (Answer states.Ok))))
       (Test (λ c. has (goes_on c.tokenize_state.marker c.tokenize_state.size) c.current)

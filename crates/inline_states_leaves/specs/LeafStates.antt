@@ -18,7 +18,7 @@ use Rattle.inline_states_leaves.specs.RawText.{raw_text_start, raw_text_sequence
 
 module _ {T M : Type 0} (texts : List ℕ → Option (List ℕ)) (x : Context T) where
   abbrev pub leaf_body : InlineName → Body M
-  leaf_body inline_states.AttentionStart = attention_start x.options.constructs.attention x.options.constructs.gfm_strikethrough
+  leaf_body inline_states.AttentionStart = attention_start x.options.constructs
   leaf_body inline_states.AttentionInside = attention_inside
   leaf_body inline_states.CharacterEscapeStart = character_escape_start x.options.constructs.character_escape
   leaf_body inline_states.CharacterEscapeInside = character_escape_inside

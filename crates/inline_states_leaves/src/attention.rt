@@ -7,7 +7,7 @@
 //! Which runs go together is told once all is read.
 ghost use Rattle.std.specs.Prelude.{[], ◌∷◌};
 ghost use Rattle.engine_events.specs.declared.event.Name.TheVariants as names;
-ghost use Rattle.markdown_engine.specs.Machine.{config, read_with};
+ghost use Rattle.markdown_engine.specs.Machine.{config, constructs_of};
 ghost use Rattle.engine_programs.specs.Bodies.{Fixed};
 ghost use Rattle.engine_programs.specs.Stacks.{Does, IsOpen};
 ghost use Rattle.inline_states_leaves.specs.Attention.{attention_start, attention_inside};
@@ -35,7 +35,7 @@ fn open<M, T, A: Allocator>(tokenizer: &mut Tokenizer<'_, M, T, A>, marker: u8) 
 
 /// At a byte that may begin a run.
 pub fn start<M, T, A: Allocator>(tokenizer: &mut Tokenizer<'_, M, T, A>) -> State
-    ensures { Does (attention_start (read_with tokenizer.old).options.constructs.attention (read_with tokenizer.old).options.constructs.gfm_strikethrough) tokenizer.old tokenizer.new result }
+    ensures { Does (attention_start (constructs_of tokenizer.old)) tokenizer.old tokenizer.new result }
 {
     match tokenizer.current {
         Some(b'*') => {

@@ -7,13 +7,14 @@
 //! ```
 ghost use Rattle.std.specs.Prelude.{[], ◌∷◌};
 ghost use Rattle.engine_events.specs.declared.event.Name.TheVariants as names;
-ghost use Rattle.markdown_engine.specs.Machine.{config, read_with};
+ghost use Rattle.markdown_engine.specs.Machine.{config, constructs_of, bytes_of, tables_of};
 ghost use Rattle.engine_programs.specs.Bodies.{Fixed};
 ghost use Rattle.engine_programs.specs.Stacks.{Does, IsOpen};
 ghost use Rattle.inline_states_table.specs.Table.{reference_tokens};
-ghost use Rattle.inline_states_leaves.specs.CharacterReference.{character_reference_start, character_reference_open, character_reference_numeric, character_reference_value};
+ghost use Rattle.inline_states_leaves.specs.CharacterReference.{character_reference_start, character_reference_open};
+ghost use Rattle.inline_states_leaves.specs.CharacterReference.{character_reference_numeric, character_reference_value};
 ghost use Rattle.std.specs.Prelude.{◌≡◌};
-ghost use Rattle.inline_states_leaves.specs.CharacterReference.{goes_on, has_text, is_known, is_name};
+ghost use Rattle.inline_states_leaves.specs.CharacterReference.{goes_on, has_text, is_value_known, is_name};
 
 use engine_programs::around::{around, leave};
 use engine_programs::steps::{around_to, consume_to, enter_to, exit_to};
@@ -62,7 +63,7 @@ fn has_text<T: Tables>(tables: &T, name: &[u8]) -> bool
 
 /// Whether the value that was read stands for something: digits always do.
 fn is_known<M, T: Tables, A: Allocator>(tokenizer: &Tokenizer<'_, M, T, A>) -> bool
-    ensures { result ≡ is_known (T.reference_of (read_with tokenizer.now).tables) (read_with tokenizer.now).bytes tokenizer.now.tokenize_state.marker tokenizer.now.tokenize_state.size tokenizer.now.point.index }
+    ensures { result ≡ is_value_known (T.reference_of (tables_of tokenizer.now)) (bytes_of tokenizer.now) (config tokenizer.now) }
 {
     let size = tokenizer.tokenize_state.size;
     if size == 0 || tokenizer.tokenize_state.marker != b'&' {
@@ -79,7 +80,7 @@ fn is_known<M, T: Tables, A: Allocator>(tokenizer: &Tokenizer<'_, M, T, A>) -> b
 
 /// At an `&`.
 pub fn start<M, T, A: Allocator>(tokenizer: &mut Tokenizer<'_, M, T, A>) -> State
-    ensures { Does (character_reference_start (read_with tokenizer.old).options.constructs.character_reference) tokenizer.old tokenizer.new result }
+    ensures { Does (character_reference_start (constructs_of tokenizer.old).character_reference) tokenizer.old tokenizer.new result }
 {
     if tokenizer.current != Some(b'&') {
         return State::Nok;
@@ -156,7 +157,7 @@ pub fn numeric<M, T, A: Allocator>(tokenizer: &mut Tokenizer<'_, M, T, A>) -> St
 /// In the value.
 pub fn value<M, T: Tables, A: Allocator>(tokenizer: &mut Tokenizer<'_, M, T, A>) -> State
     requires { IsOpen (Fixed names.CharacterReferenceValue ∷ reference_tokens) tokenizer.old }
-    ensures { Does (character_reference_value (T.reference_of (read_with tokenizer.old).tables) (read_with tokenizer.old).bytes) tokenizer.old tokenizer.new result }
+    ensures { Does (character_reference_value (T.reference_of (tables_of tokenizer.old)) (bytes_of tokenizer.old)) tokenizer.old tokenizer.new result }
 {
     let Some(byte) = tokenizer.current else {
         return State::Nok;

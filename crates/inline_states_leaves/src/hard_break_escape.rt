@@ -5,7 +5,7 @@
 //! ```
 ghost use Rattle.std.specs.Prelude.{[], ◌∷◌};
 ghost use Rattle.engine_events.specs.declared.event.Name.TheVariants as names;
-ghost use Rattle.markdown_engine.specs.Machine.{config, read_with};
+ghost use Rattle.markdown_engine.specs.Machine.{config, constructs_of};
 ghost use Rattle.engine_programs.specs.Bodies.{Fixed};
 ghost use Rattle.engine_programs.specs.Stacks.{Does, IsOpen};
 ghost use Rattle.inline_states_leaves.specs.HardBreakEscape.{hard_break_escape_start, hard_break_escape_after};
@@ -19,7 +19,7 @@ use std::alloc::Allocator;
 
 /// At a backslash.
 pub fn start<M, T, A: Allocator>(tokenizer: &mut Tokenizer<'_, M, T, A>) -> State
-    ensures { Does (hard_break_escape_start (read_with tokenizer.old).options.constructs.hard_break_escape) tokenizer.old tokenizer.new result }
+    ensures { Does (hard_break_escape_start (constructs_of tokenizer.old).hard_break_escape) tokenizer.old tokenizer.new result }
 {
     if tokenizer.current != Some(b'\\') {
         return State::Nok;

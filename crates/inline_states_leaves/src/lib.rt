@@ -1,7 +1,7 @@
 //! The inline constructs that hold no other, and data.
 #![tactic(auto)]
 
-ghost use Rattle.markdown_engine.specs.Machine.{config, read_with};
+ghost use Rattle.markdown_engine.specs.Machine.{config, read_with, tables_of};
 ghost use Rattle.engine_events.specs.declared.state.Name.TheVariants as any_states;
 ghost use Rattle.engine_programs.specs.Stacks.{Does, IsOpen};
 ghost use Rattle.inline_states_table.specs.Table.{sorts};
@@ -25,7 +25,7 @@ pub fn call<M, T: Tables, A: Allocator>(
     state: Inline,
 ) -> State
     requires { IsOpen (sorts (any_states.Inline state)).open_tokens tokenizer.old }
-    ensures { Does (leaf_body (T.reference_of (read_with tokenizer.old).tables) (read_with tokenizer.old) state) tokenizer.old tokenizer.new result }
+    ensures { Does (leaf_body (T.reference_of (tables_of tokenizer.old)) (read_with tokenizer.old) state) tokenizer.old tokenizer.new result }
 {
     match state {
         Inline::AttentionStart => attention::start(tokenizer),

@@ -7,7 +7,7 @@
 //!
 //! A sequence of another size within is entered as one, too; the first and the last are the fences.
 ghost use Rattle.std.specs.Prelude.{[], ◌∷◌};
-ghost use Rattle.markdown_engine.specs.Machine.{config, read_with};
+ghost use Rattle.markdown_engine.specs.Machine.{config, read_with, constructs_of};
 ghost use Rattle.engine_programs.specs.Bodies.{Held};
 ghost use Rattle.engine_programs.specs.Stacks.{Does, IsOpen};
 ghost use Rattle.inline_states_table.specs.Table.{raw_tokens};
@@ -73,7 +73,7 @@ const MATH: (EventName, EventName, EventName) = (
 
 /// At a byte that may begin a run.
 pub fn start<M, T, A: Allocator>(tokenizer: &mut Tokenizer<'_, M, T, A>) -> State
-    ensures { Does (raw_text_start (read_with tokenizer.old).options.constructs.code_text (read_with tokenizer.old).options.constructs.math_text) tokenizer.old tokenizer.new result }
+    ensures { Does (raw_text_start (constructs_of tokenizer.old).code_text (constructs_of tokenizer.old).math_text) tokenizer.old tokenizer.new result }
 {
     match tokenizer.current {
         Some(b'`') => {

@@ -8,7 +8,7 @@ use Rattle.std.proofs.lemmas.Option.{slice_get-map}
 use Rattle.engine_events.specs.declared.event.Content.{Content}
 use Rattle.engine_events.specs.declared.event.Event.{Event}
 use Rattle.engine_edits.specs.Edits.{Placed, placed, with_edit, with_new, with_merged, has_place}
-use Rattle.engine_edits.specs.Replacement.{IsOrdered, Places, added, places, relinked, replaced, rising}
+use Rattle.engine_edits.specs.Replacement.{IsOrdered, Places, added, places, with_new_links, replaced, rising}
 use Rattle.engine_chunks.specs.Chunks.{chunks, part_size, size_to}
 use Rattle.engine_chunks.specs.Parts.{counts, divided, divided_at, places_of}
 use Rattle.markdown_engine.specs.Chains.{AreApart, Chain, chains, chunks_of, Divides}
@@ -149,13 +149,13 @@ pub record Made (edits : List Placed) (removed came : ℕ) (ks : List ℕ) (coun
 module _ (events children : List Event) (ps : Places) where
   -- the part of the child events for a chunk
   abbrev pub part_of : ℕ → ℕ → List Event
-  part_of k from = map (relinked ps) (take (part_size events k (drop from children)) (drop from children))
+  part_of k from = map (with_new_links ps) (take (part_size events k (drop from children)) (drop from children))
 
   part_length : (k from : ℕ) → length (part_of k from) ≡ part_size events k (drop from children)
   part_length k from =
       let size = part_size events k (drop from children) in
       let fits = part_fits events k (drop from children) in
-      length-map (take size (drop from children)) (relinked ps) ∙ (length-take size (drop from children) ∙ omega arith)
+      length-map (take size (drop from children)) (with_new_links ps) ∙ (length-take size (drop from children) ∙ omega arith)
 
   after_edit : (k : ℕ) (ks : List ℕ) (from removed came count : ℕ) (edits : List Placed) → Made edits removed came (k ∷ ks) count
       → Made (with_edit false k 2 (part_of k from) edits) (removed + 2) (came + part_size events k (drop from children)) ks count
@@ -204,7 +204,7 @@ none_some x h = cc
 module _ (events children : List Event) (ps : Places) (all : List Placed) (list : List Event) where
   -- a child event is at a place of the list
   abbrev IsAt : ℕ → ℕ → Type 0
-  IsAt j p = (e : Event) × (slice_get children j ≡ Some e) × (slice_get (replaced 0 all list) p ≡ Some (relinked ps e))
+  IsAt j p = (e : Event) × (slice_get children j ≡ Some e) × (slice_get (replaced 0 all list) p ≡ Some (with_new_links ps e))
 
   child_stands : (k from end j p : ℕ) (edits rest : List Placed) → AreChunks 0 edits end → end ≤ k → k ≤ length list → all ≡ edits ++ placed k 2 (part_of events children ps k from) ∷ rest
       → j < part_size events k (drop from children) → p + 2 * length edits ≡ k + added edits + j → IsAt (from + j) p
@@ -216,7 +216,7 @@ module _ (events children : List Event) (ps : Places) (all : List Placed) (list 
       let e = placed k 2 (part_of events children ps k from) in
       let child = some_at children (from + j) (omega arith) in
       let there : slice_get (replaced 0 (edits ++ e ∷ rest) list) p ≡ slice_get e.add j = stands_there 0 edits rest e list p j (chunks_up 0 edits end k h l) f (omega arith) (omega arith) in
-      let part : slice_get e.add j ≡ Some (relinked ps child.0) = slice_get-map (relinked ps) (take size (drop from children)) j ∙ ap (option_map (relinked ps)) (get_front size (drop from children) j i ∙ (get_later from children j ∙ child.1)) in
+      let part : slice_get e.add j ≡ Some (with_new_links ps child.0) = slice_get-map (with_new_links ps) (take size (drop from children)) j ∙ ap (option_map (with_new_links ps)) (get_front size (drop from children) j i ∙ (get_later from children j ∙ child.1)) in
       (child.0, child.1, ap (λ (z : List Placed). slice_get (replaced 0 z list) p) s ∙ (there ∙ part))
 
   -- child events from one on stand where the places from there on say
@@ -317,9 +317,9 @@ module _ {M : Type 0} (step : Steps M) (resolve : Resolves M) (bytes : List ℕ)
 -- where chunks stand apart, links of child events lead to where those events stand
 pub links_lead : {M : Type 0} (step : Steps M) (resolve : Resolves M) (bytes : List ℕ) (machine : M) (filter : Option Content) (old new : List Event) (found : Found) → AreApart 0 (chunks_of old (chains filter old)) (length old) → LinksLead step resolve bytes machine filter old new found
 links_lead {M} step resolve bytes machine filter old new found a read =
-    let list = map (relinked (places read.edits (length old))) old in
+    let list = map (with_new_links (places read.edits (length old))) old in
     let cs = chains filter old in
     let none = none_made (length old) (chunks_of old cs) a in
-    let size : length list ≡ length old = length-map old (relinked (places read.edits (length old))) in
+    let size : length list ≡ length old = length-map old (with_new_links (places read.edits (length old))) in
     let stand = chains_stand step resolve bytes machine old cs (0, 0) [] read.edits nothing_found found list read.divides (subst (λ (z : ℕ). Made [] 0 0 (chunks_of old cs) z) (sym size) none) in
     subst (λ (z : List Event). EachStands step resolve bytes machine old z cs (0, 0) [] read.edits nothing_found found read.divides) (sym read.edited) stand

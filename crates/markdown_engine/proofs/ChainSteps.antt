@@ -14,7 +14,7 @@ use Rattle.markdown_engine.specs.declared.tokenizer.Tokenizer.{Tokenizer}
 use Rattle.markdown_engine.specs.Chains.{Chain, chain_content, chains, chains_from, with_chain, chunks_of, AreApart, IsPlace, ArePlaces, place_at, after_chunk, with_chunks, end_of, chain_text, first_state, Divides, ReadsChain, MayBegin, is_empty}
 use Rattle.markdown_engine.proofs.ChainLaws.{apart_room}
 use Rattle.markdown_engine.specs.Laws.{HoldsAt}
-use Rattle.markdown_engine.specs.Machine.{config, shown, fresh, source, Completed}
+use Rattle.markdown_engine.specs.Machine.{config, view_config, fresh, source, Completed}
 use Rattle.markdown_engine.specs.Reading.{Config, Outcome, Steps}
 use Rattle.markdown_engine.specs.Resolving.{Found, Resolves, found_both, nothing_found}
 use Rattle.markdown_engine.specs.VirtualText.{Source, Text, text_to, unskipped}
@@ -118,8 +118,8 @@ module _ {M : Type 0} (valid : HoldsAt M) (step : Steps M) (resolve : Resolves M
 
 module _ {M V T A : Type 0} (view : M → V) (step : Steps V) (resolve : Resolves V) (bytes : List ℕ) (machine : V) (events : List Event) (first : ℕ) (content : Content) where
   -- what was read of a chain's text by a tokenizer that skips before its chunks
-  read_of : (start mid new : Tokenizer M T A) (chain : List ℕ) (end : Point) (given : State) (found : Found) → chain ≡ chunks events first → shown view start ≡ fresh (place_at events first) machine → source start ≡ unskipped bytes
-      → start.attempts.items ≡ [] → source mid ≡ with_chunks events start.point chain (source start) → end ≡ end_of events start.point chain → shown view mid ≡ shown view start → mid.attempts.items ≡ start.attempts.items
+  read_of : (start mid new : Tokenizer M T A) (chain : List ℕ) (end : Point) (given : State) (found : Found) → chain ≡ chunks events first → view_config view start ≡ fresh (place_at events first) machine → source start ≡ unskipped bytes
+      → start.attempts.items ≡ [] → source mid ≡ with_chunks events start.point chain (source start) → end ≡ end_of events start.point chain → view_config view mid ≡ view_config view start → mid.attempts.items ≡ start.attempts.items
       → given ≡ states.Next (first_state content) → Completed view (text_to (source mid) (end.index, end.vs)) step resolve true given mid new found → ReadsChain step resolve bytes machine events (first, content) new.events.items found
   read_of start mid new chain end given found ek ec eb ea es ee em et eg h =
       let place = place_at events first in
@@ -130,8 +130,8 @@ module _ {M V T A : Type 0} (view : M → V) (step : Steps V) (resolve : Resolve
       let from : source mid ≡ whole = es ∙ (ap (λ (z : Point). with_chunks events z chain (source start)) point ∙ (ap (λ (z : List ℕ). with_chunks events place z (source start)) ek ∙ ap (λ (z : Source). with_chunks events place ks z) eb)) in
       let to : end ≡ last = ee ∙ (ap (λ (z : Point). end_of events z chain) point ∙ ap (λ (z : List ℕ). end_of events place z) ek) in
       let text : text_to (source mid) (end.index, end.vs) ≡ chain_text bytes events first = ap (λ (z : Source). text_to z (end.index, end.vs)) from ∙ ap (λ (z : Point). text_to whole (z.index, z.vs)) to in
-      let f : Outcome (chain_text bytes events first) step mid.attempts.items (shown view mid) [] given h.read true = subst (λ (z : Text). Outcome z step mid.attempts.items (shown view mid) [] given h.read true) text h.outcome in
-      let g = at_outcome (chain_text bytes events first) step mid.attempts.items [] (shown view mid) (fresh place machine) given (states.Next (first_state content)) h.read true (et ∙ ea) (em ∙ ec) eg f in
+      let f : Outcome (chain_text bytes events first) step mid.attempts.items (view_config view mid) [] given h.read true = subst (λ (z : Text). Outcome z step mid.attempts.items (view_config view mid) [] given h.read true) text h.outcome in
+      let g = at_outcome (chain_text bytes events first) step mid.attempts.items [] (view_config view mid) (fresh place machine) given (states.Next (first_state content)) h.read true (et ∙ ea) (em ∙ ec) eg f in
       record {
         read = h.read;
         runs = whole_run (chain_text bytes events first) step (fresh place machine) (states.Next (first_state content)) h.read true g;
@@ -139,8 +139,8 @@ module _ {M V T A : Type 0} (view : M → V) (step : Steps V) (resolve : Resolve
         labels = h.labels;
       }
 
-  pub chain_read : (start mid new : Tokenizer M T A) (chain : List ℕ) (end : Point) (given : State) (found : Found) → chain ≡ chunks events first → shown view start ≡ fresh (place_at events first) machine → start.parse_state.now.bytes.now ≡ bytes → start.skips.entries ≡ []
-      → start.attempts.items ≡ [] → source mid ≡ with_chunks events start.point chain (source start) → end ≡ end_of events start.point chain → shown view mid ≡ shown view start → mid.attempts.items ≡ start.attempts.items
+  pub chain_read : (start mid new : Tokenizer M T A) (chain : List ℕ) (end : Point) (given : State) (found : Found) → chain ≡ chunks events first → view_config view start ≡ fresh (place_at events first) machine → start.parse_state.now.bytes.now ≡ bytes → start.skips.entries ≡ []
+      → start.attempts.items ≡ [] → source mid ≡ with_chunks events start.point chain (source start) → end ≡ end_of events start.point chain → view_config view mid ≡ view_config view start → mid.attempts.items ≡ start.attempts.items
       → given ≡ states.Next (first_state content) → Completed view (text_to (source mid) (end.index, end.vs)) step resolve true given mid new found → ReadsChain step resolve bytes machine events (first, content) new.events.items found
   chain_read start mid new chain end given found ek ec eb eq ea es ee em et eg h =
       let f = λ (b : List ℕ) (s : List (ℕ × Point)). let z : Source = record { bytes = b; skips = s } in z in

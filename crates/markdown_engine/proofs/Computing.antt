@@ -15,8 +15,8 @@ use Rattle.markdown_engine.specs.Chains.{AreApart, ArePlaces, AreReadable, Chain
 use Rattle.markdown_engine.specs.Context.{Context}
 use Rattle.markdown_engine.specs.Evaluation.{AreReadingOf, IsReadingOf, StaysReading, after_chain, chain_edits, chain_reading, reading}
 use Rattle.markdown_engine.specs.Laws.{Holds, HoldsAt, IsFed, LawfulAt, Ranks, RanksAt}
-use Rattle.markdown_engine.specs.Machine.{Completed, GoesAll, Refused, bytes_of, shown, fresh, read_with, source}
-use Rattle.markdown_engine.specs.Reading.{Config, Outcome, Runs, Steps, ended}
+use Rattle.markdown_engine.specs.Machine.{Completed, GoesAll, Refused, bytes_of, view_config, fresh, read_with, source}
+use Rattle.markdown_engine.specs.Reading.{Config, Outcome, Runs, Steps, end_state}
 use Rattle.markdown_engine.specs.Resolving.{Found, Resolves, found_both, nothing_found, resolve_all}
 use Rattle.markdown_engine.specs.VirtualText.{IsCut, Source, text_to, unskipped, with_skip}
 use Rattle.markdown_engine.proofs.ChainSteps.{apart_first, apart_front, apart_rest, after_front}
@@ -32,7 +32,7 @@ module _ {M : Type 0} (bytes : List ℕ) (valid : HoldsAt M) (step : Steps M) (r
   pub computes : (c d : Config M) (stack : List Attempt) (t : State) (w : Bool) → valid c stack t → Outcome (text_to s to) step stack c [] t d w → reading (text_to s to) step rank c stack t ≡ Some (d, w)
   computes c d stack t w h o = rank_enough (length bytes) valid step rank lawful (text_to s to) (feeds s to bytes same cut) c d stack t w h o
 
-  pub computes_valid : (c d : Config M) (t : State) (w : Bool) → valid c [] t → Runs (text_to s to) step c [] t d w → valid d [] (ended w)
+  pub computes_valid : (c d : Config M) (t : State) (w : Bool) → valid c [] t → Runs (text_to s to) step c [] t d w → valid d [] (end_state w)
   computes_valid c d t w h r = reads_valid (length bytes) valid step rank lawful (text_to s to) (feeds s to bytes same cut) c d t w h r
 
   -- where one reading goes on to whatever another comes to, they are the same
@@ -44,28 +44,28 @@ module _ {M : Type 0} (bytes : List ℕ) (valid : HoldsAt M) (step : Steps M) (r
 
 -- what was pushed stays the same reading
 pub stays_reading : {M V T A : Type 0} (view : M → V) (x : Context T) (valid : Holds T V) (steps : Context T → Steps V) (ranks : Ranks T V) (lawful : LawfulAt (length x.bytes) (valid x) (steps x) (ranks x)) (to : ℕ × ℕ) (start new : Tokenizer M T A) (given s : State)
-    → read_with start ≡ x → read_with new ≡ x → valid x (shown view start) start.attempts.items given → valid x (shown view new) new.attempts.items s → GoesAll view (steps x) (source start) to false given start new s → StaysReading view steps ranks to given start new s
+    → read_with start ≡ x → read_with new ≡ x → valid x (view_config view start) start.attempts.items given → valid x (view_config view new) new.attempts.items s → GoesAll view (steps x) (source start) to false given start new s → StaysReading view steps ranks to given start new s
 stays_reading {V = V} {T = T} view x valid steps ranks lawful to start new given s e f h k g more limit cut on =
     let text = text_to more limit in
     let bytes : more.bytes ≡ x.bytes = on.bytes ∙ ap (λ (z : Context T). z.bytes) e in
     let at = λ (z : Context T) (c : Config V) (stack : List Attempt) (t : State). reading text (steps z) (ranks z) c stack t in
-    ap (λ (z : Context T). at z (shown view new) new.attempts.items s) f
-    ∙ (same_reading x.bytes (valid x) (steps x) (ranks x) lawful more limit bytes cut (shown view start) (shown view new) start.attempts.items new.attempts.items given s h k (g more limit on).back
-    ∙ sym (ap (λ (z : Context T). at z (shown view start) start.attempts.items given) e))
+    ap (λ (z : Context T). at z (view_config view new) new.attempts.items s) f
+    ∙ (same_reading x.bytes (valid x) (steps x) (ranks x) lawful more limit bytes cut (view_config view start) (view_config view new) start.attempts.items new.attempts.items given s h k (g more limit on).back
+    ∙ sym (ap (λ (z : Context T). at z (view_config view start) start.attempts.items given) e))
 
 pub stays_unless : {M V T A : Type 0} (view : M → V) (x : Context T) (valid : Holds T V) (steps : Context T → Steps V) (ranks : Ranks T V) (lawful : LawfulAt (length x.bytes) (valid x) (steps x) (ranks x)) (to : ℕ × ℕ) (start new : Tokenizer M T A) (given s : State)
-    → read_with start ≡ x → read_with new ≡ x → valid x (shown view start) start.attempts.items given → (Refused s → ⊥) → Refused s ⊎ valid x (shown view new) new.attempts.items s → Refused s ⊎ GoesAll view (steps x) (source start) to false given start new s → StaysReading view steps ranks to given start new s
+    → read_with start ≡ x → read_with new ≡ x → valid x (view_config view start) start.attempts.items given → (Refused s → ⊥) → Refused s ⊎ valid x (view_config view new) new.attempts.items s → Refused s ⊎ GoesAll view (steps x) (source start) to false given start new s → StaysReading view steps ranks to given start new s
 stays_unless view x valid steps ranks lawful to start new given s e f h n k g = stays_reading view x valid steps ranks lawful to start new given s e f h (unless_refused s n k) (unless_refused s n g)
 
 -- what was flushed is what reading comes to
 pub flushed_reading : {M V T A : Type 0} (view : M → V) (steps : Context T → Steps V) (ranks : Ranks T V) (resolves : Context T → Resolves V) (valid : Holds T V) (to : ℕ × ℕ) (all : Bool) (given : State) (old new : Tokenizer M T A) (found : Found)
-    → (let x = read_with old in LawfulAt (length x.bytes) (valid x) (steps x) (ranks x)) → IsCut (bytes_of old) to → valid (read_with old) (shown view old) old.attempts.items given
+    → (let x = read_with old in LawfulAt (length x.bytes) (valid x) (steps x) (ranks x)) → IsCut (bytes_of old) to → valid (read_with old) (view_config view old) old.attempts.items given
     → Completed view (text_to (source old) to) (steps (read_with old)) (resolves (read_with old)) all given old new found → IsReadingOf view steps ranks resolves to all given old new found
 flushed_reading view steps ranks resolves valid to all given old new found lawful cut h k =
     let x = read_with old in
     record {
       read = k.read;
-      reading = computes (bytes_of old) (valid x) (steps x) (ranks x) lawful (source old) to refl cut (shown view old) k.read old.attempts.items given true h k.outcome;
+      reading = computes (bytes_of old) (valid x) (steps x) (ranks x) lawful (source old) to refl cut (view_config view old) k.read old.attempts.items given true h k.outcome;
       config = k.config;
       labels = k.labels;
     }

@@ -4,7 +4,7 @@ use Rattle.engine_events.specs.declared.state.Name.{Name}
 use Rattle.engine_events.specs.declared.state.State.{State}
 use Rattle.engine_events.specs.declared.state.State.TheVariants as states
 use Rattle.markdown_engine.specs.Evaluation.{Ending, after_attempt, evaluate}
-use Rattle.markdown_engine.specs.Reading.{Config, Frame, Runs, Steps, ends-nok, ends-ok, feed, first, hand_on, next, passed, retry, second}
+use Rattle.markdown_engine.specs.Reading.{Config, Frame, Runs, Steps, ends-nok, ends-ok, feed, first, hand_on, next, after_success, retry, second}
 use Rattle.markdown_engine.specs.VirtualText.{Text}
 
 module _ {M : Type 0} (text : Text) (step : Steps M) where
@@ -12,7 +12,7 @@ module _ {M : Type 0} (text : Text) (step : Steps M) where
   Reads c fs s None = Unit {0}
   Reads c fs s (Some (d, w)) = Runs text step c fs s d w
 
-  goes_first : (c d : Config M) (f : Frame M) (fs : List (Frame M)) (s : State) (r : Ending M) → Runs text step c fs s d true → Reads (passed f d) [] f.ok r → Reads c (f ∷ fs) s r
+  goes_first : (c d : Config M) (f : Frame M) (fs : List (Frame M)) (s : State) (r : Ending M) → Runs text step c fs s d true → Reads (after_success f d) [] f.ok r → Reads c (f ∷ fs) s r
   unfolding Reads
   goes_first c d f fs s None k h = tt
   goes_first c d f fs s (Some (e, w)) k h = first k h
@@ -25,7 +25,7 @@ module _ {M : Type 0} (text : Text) (step : Steps M) where
   goes_on : (c : Config M) (f : Frame M) (fs : List (Frame M)) (s : State) (rest : Config M → State → Ending M) (r : Ending M) → ((d : Config M) (t : State) → Reads d [] t (rest d t)) → Reads c fs s r → Reads c (f ∷ fs) s (after_attempt f rest r)
   unfolding Reads
   goes_on c f fs s rest None h k = tt
-  goes_on c f fs s rest (Some (d, true)) h k = goes_first c d f fs s (rest (passed f d) f.ok) k (h (passed f d) f.ok)
+  goes_on c f fs s rest (Some (d, true)) h k = goes_first c d f fs s (rest (after_success f d) f.ok) k (h (after_success f d) f.ok)
   goes_on c f fs s rest (Some (d, false)) h k = goes_second c d f fs s (rest (hand_on f.start d) f.nok) k (h (hand_on f.start d) f.nok)
 
   goes_next : (c : Config M) (m : Name) (r : Ending M) → (let e = step (feed text c) m in Reads e.config e.pushed e.state r) → Reads c [] (states.Next m) r
@@ -60,7 +60,7 @@ module _ {M : Type 0} (text : Text) (step : Steps M) where
 
   stays_on : (f : Frame M) (rest more : Config M → State → Ending M) (r q : Ending M) (a : Config M × Bool) → ((d : Config M) (t : State) (b : Config M × Bool) → rest d t ≡ Some b → more d t ≡ Some b) → ((b : Config M × Bool) → r ≡ Some b → q ≡ Some b) → after_attempt f rest r ≡ Some a → after_attempt f more q ≡ Some a
   stays_on f rest more None q a h k e = absurd (let z : None ≡ Some a = e in cc)
-  stays_on f rest more (Some (d, true)) q a h k e = rw (k (d, true) refl) (h (passed f d) f.ok a e)
+  stays_on f rest more (Some (d, true)) q a h k e = rw (k (d, true) refl) (h (after_success f d) f.ok a e)
   stays_on f rest more (Some (d, false)) q a h k e = rw (k (d, false) refl) (h (hand_on f.start d) f.nok a e)
 
   one_more_turn : (n : ℕ) (c : Config M) (fs : List (Frame M)) (s : State) (a : Config M × Bool) → evaluate text step n c fs s ≡ Some a → evaluate text step (suc n) c fs s ≡ Some a

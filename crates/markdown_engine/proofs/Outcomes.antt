@@ -8,7 +8,7 @@ use Rattle.engine_events.specs.declared.state.Name.{Name}
 use Rattle.markdown_engine.specs.declared.attempt.Attempt.{Attempt}
 use Rattle.engine_events.specs.declared.state.State.{State}
 use Rattle.engine_events.specs.declared.state.State.TheVariants as states
-use Rattle.markdown_engine.specs.Reading.{Config, Frame, Steps, Runs, ends-ok, ends-nok, next, retry, first, second, mark, restore, resumed, chosen, feed, passed, hand_on, Unwinds, Outcome, ended}
+use Rattle.markdown_engine.specs.Reading.{Config, Frame, Steps, Runs, ends-ok, ends-nok, next, retry, first, second, mark, restore, continuation, state_after, feed, after_success, hand_on, Unwinds, Outcome, end_state}
 use Rattle.markdown_engine.specs.VirtualText.{Text}
 use Rattle.markdown_engine.specs.Laws.{IsFront, Nested, OnlyAdds}
 
@@ -22,7 +22,7 @@ pub front_nested : {M : Type 0} (a b : List Event) (fs : List (Frame M)) (c : Li
 front_nested a b [] c h k = front_front a b c h k
 front_nested a b (f ∷ fs) c h k = (front_front a b f.start.events h k.0, k.1)
 
-pub front_passed : {M : Type 0} (base : List Event) (f : Frame M) (d : Config M) → IsFront base f.start.events → IsFront base d.events → IsFront base (passed f d).events
+pub front_passed : {M : Type 0} (base : List Event) (f : Frame M) (d : Config M) → IsFront base f.start.events → IsFront base d.events → IsFront base (after_success f d).events
 front_passed base f d h k = elim f.check as (λ b. IsFront base (cond b (hand_on f.start d) d).events) [ true ↦ h | false ↦ k ]
 
 module _ {M : Type 0} (text : Text) (step : Steps M) where
@@ -39,7 +39,7 @@ module _ {M : Type 0} (text : Text) (step : Steps M) where
   pub restored : (f : Frame M) (d : Config M) → IsFront f.start.events d.events → restore (mark f) d ≡ hand_on f.start d
   restored f d h = ap (λ (a : List Event). let c : Config M = record d { events = a; point = f.start.point; next = f.start.next; line_start = f.start.line_start; previous = f.start.previous; current = f.start.current } in c) (front_take f.start.events d.events h)
 
-  pub choice : (x : Bool) {c : Config M} {s : State} {d e : Config M} {w : Bool} {f : Frame M} {fs : List (Frame M)} → IsFront f.start.events d.events → Runs text step c fs s d x → Runs text step (resumed (mark f) d x) [] (chosen (mark f) x) e w → Runs text step c (f ∷ fs) s e w
+  pub choice : (x : Bool) {c : Config M} {s : State} {d e : Config M} {w : Bool} {f : Frame M} {fs : List (Frame M)} → IsFront f.start.events d.events → Runs text step c fs s d x → Runs text step (continuation (mark f) d x) [] (state_after (mark f) x) e w → Runs text step c (f ∷ fs) s e w
   choice true {d = d} {e = e} {w = w} {f = f} h r q = first r (subst (λ (z : Config M). Runs text step (cond f.check z d) [] f.ok e w) (restored f d h) q)
   choice false {d = d} {e = e} {w = w} {f = f} h r q = second r (subst (λ (z : Config M). Runs text step z [] f.nok e w) (restored f d h) q)
 
@@ -55,16 +55,16 @@ module _ {M : Type 0} (text : Text) (step : Steps M) where
   split [] ys c v d w u = (d, w, u, (refl, refl))
   split (a ∷ xs) ys c v d w (e, x, u, r) = let (e', x', u', u'') = split xs ys c v e x u in (e', x', u', (e, x, u'', r))
 
-  pub snoc : (xs : List Attempt) (a : Attempt) (c : Config M) (v : Bool) (e : Config M) (x : Bool) (d : Config M) (w : Bool) → Runs text step (resumed a c v) [] (chosen a v) e x → Unwinds text step xs e x d w → Unwinds text step (xs ++ a ∷ []) c v d w
-  snoc [] a c v e x d w r u = (c, v, (refl, refl), subst (λ (z : Bool). Runs text step (resumed a c v) [] (chosen a v) d z) u.1 (subst (λ (z : Config M). Runs text step (resumed a c v) [] (chosen a v) z x) u.0 r))
+  pub snoc : (xs : List Attempt) (a : Attempt) (c : Config M) (v : Bool) (e : Config M) (x : Bool) (d : Config M) (w : Bool) → Runs text step (continuation a c v) [] (state_after a v) e x → Unwinds text step xs e x d w → Unwinds text step (xs ++ a ∷ []) c v d w
+  snoc [] a c v e x d w r u = (c, v, (refl, refl), subst (λ (z : Bool). Runs text step (continuation a c v) [] (state_after a v) d z) u.1 (subst (λ (z : Config M). Runs text step (continuation a c v) [] (state_after a v) z x) u.0 r))
   snoc (b ∷ xs) a c v e x d w r (e', x', u, r') = (e', x', snoc xs a c v e x e' x' r u, r')
 
-  pub ends : (v : Bool) (c : Config M) → Runs text step c [] (ended v) c v
+  pub ends : (v : Bool) (c : Config M) → Runs text step c [] (end_state v) c v
   ends true c = ends-ok
   ends false c = ends-nok
 
   -- an attempt is popped
-  pub outcome_pop : (v : Bool) (stack : List Attempt) (a : Attempt) (c d : Config M) (w : Bool) → Outcome text step stack (resumed a c v) [] (chosen a v) d w → Outcome text step (stack ++ a ∷ []) c [] (ended v) d w
+  pub outcome_pop : (v : Bool) (stack : List Attempt) (a : Attempt) (c d : Config M) (w : Bool) → Outcome text step stack (continuation a c v) [] (state_after a v) d w → Outcome text step (stack ++ a ∷ []) c [] (end_state v) d w
   outcome_pop v stack a c d w o = record { mid = c; how = v; runs = ends v c; unwinds = snoc stack a c v o.mid o.how d w o.runs o.unwinds }
 
   outcome_pushed : OnlyAdds step → (stack : List Attempt) (c : Config M) (fs : List (Frame M)) (s : State) (d : Config M) (w : Bool) → Nested [] fs c.events → Outcome text step (stack ++ map mark fs) c [] s d w → Outcome text step stack c fs s d w

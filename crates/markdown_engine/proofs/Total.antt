@@ -6,7 +6,7 @@ use Rattle.engine_events.specs.declared.state.State.{State}
 use Rattle.engine_events.specs.declared.state.State.TheVariants as states
 use Rattle.markdown_engine.specs.declared.attempt.Attempt.{Attempt}
 use Rattle.markdown_engine.specs.VirtualText.{Source, Text, byte_before, place_in, text_to}
-use Rattle.markdown_engine.specs.Reading.{Config, Steps, mark, feed, resumed, chosen, ended}
+use Rattle.markdown_engine.specs.Reading.{Config, Steps, mark, feed, continuation, state_after, end_state}
 use Rattle.markdown_engine.specs.Laws.{HoldsAt, LawfulAt, RanksAt, OnlyAdds, IsFed}
 use Rattle.markdown_engine.specs.Outcomes.{HasOutcome, HasRun}
 use Rattle.markdown_engine.proofs.Outcomes.{ends, outcome_pop, outcome_retry, outcome_next}
@@ -26,12 +26,12 @@ last_of (a ∷ stack) = elim (last_of stack) [
 
 module _ {M : Type 0} (text : Text) (step : Steps M) where
   -- an end, where each attempt that may wait has an outcome
-  pop : (v : Bool) (c : Config M) (stack : List Attempt) → ((rest : List Attempt) (a : Attempt) → IsLast stack rest a → HasOutcome text step (resumed a c v) rest (chosen a v)) → HasOutcome text step c stack (ended v)
+  pop : (v : Bool) (c : Config M) (stack : List Attempt) → ((rest : List Attempt) (a : Attempt) → IsLast stack rest a → HasOutcome text step (continuation a c v) rest (state_after a v)) → HasOutcome text step c stack (end_state v)
   pop v c stack h = elim (last_of stack) [
-    | inl e ↦ subst (λ (z : List Attempt). HasOutcome text step c z (ended v)) (sym e) (c, v, record { mid = c; how = v; runs = ends text step v c; unwinds = (refl, refl) })
+    | inl e ↦ subst (λ (z : List Attempt). HasOutcome text step c z (end_state v)) (sym e) (c, v, record { mid = c; how = v; runs = ends text step v c; unwinds = (refl, refl) })
     | inr (rest, a, e) ↦ (
         let (d, w, o) = h rest a e in
-        subst (λ (z : List Attempt). HasOutcome text step c z (ended v)) (sym e) (d, w, outcome_pop text step v rest a c d w o))
+        subst (λ (z : List Attempt). HasOutcome text step c z (end_state v)) (sym e) (d, w, outcome_pop text step v rest a c d w o))
   ]
 
   retried : OnlyAdds step → (c : Config M) (stack : List Attempt) (n : Name) → let e = step c n in HasOutcome text step e.config (stack ++ map mark e.pushed) e.state → HasOutcome text step c stack (states.Retry n)
@@ -68,12 +68,12 @@ module _ {M : Type 0} (size : ℕ) (valid : HoldsAt M) (step : Steps M) (rank : 
       let held = subst (λ (z : List Attempt). valid c z states.Ok) e h in
       let least = subst (λ (z : List Attempt). rank c z states.Ok < suc n) e low in
       let less = lawful.falls.ok c rest a held in
-      below n (resumed a c true) rest a.ok (omega arith) (lawful.keeps.ok c rest a held))
+      below n (continuation a c true) rest a.ok (omega arith) (lawful.keeps.ok c rest a held))
   below (suc n) c stack states.Nok low h = pop text step false c stack (λ rest a e.
       let held = subst (λ (z : List Attempt). valid c z states.Nok) e h in
       let least = subst (λ (z : List Attempt). rank c z states.Nok < suc n) e low in
       let less = lawful.falls.nok c rest a held in
-      below n (resumed a c false) rest a.nok (omega arith) (lawful.keeps.nok c rest a held))
+      below n (continuation a c false) rest a.nok (omega arith) (lawful.keeps.nok c rest a held))
 
   -- whatever holds has an outcome
   pub has_outcome : (c : Config M) (stack : List Attempt) (s : State) → valid c stack s → HasOutcome text step c stack s

@@ -7,7 +7,7 @@ use Rattle.engine_events.specs.declared.state.State.TheVariants as states
 use Rattle.markdown_engine.specs.declared.attempt.Attempt.{Attempt}
 use Rattle.markdown_engine.specs.Evaluation.{after_mark, after_stack, evaluate, reading}
 use Rattle.markdown_engine.specs.Laws.{HoldsAt, IsFed, LawfulAt, Nested, RanksAt}
-use Rattle.markdown_engine.specs.Reading.{Config, Frame, Outcome, Runs, Steps, Unwinds, chosen, ended, ends-nok, ends-ok, feed, first, hand_on, mark, next, passed, resumed, retry, second}
+use Rattle.markdown_engine.specs.Reading.{Config, Frame, Outcome, Runs, Steps, Unwinds, state_after, end_state, ends-nok, ends-ok, feed, first, hand_on, mark, next, after_success, continuation, retry, second}
 use Rattle.markdown_engine.specs.VirtualText.{Text}
 use Rattle.markdown_engine.proofs.Evaluation.{more_turns}
 use Rattle.markdown_engine.proofs.Outcomes.{front_nested, keeps, restored}
@@ -17,16 +17,16 @@ module _ {M : Type 0} (size : ℕ) (valid : HoldsAt M) (step : Steps M) (rank : 
   record Enough (c d : Config M) (fs : List (Frame M)) (s : State) (w : Bool) (stack : List Attempt) : Type 0 where
     turns : ℕ
     there : evaluate text step turns c fs s ≡ Some (d, w)
-    after : valid d stack (ended w)
-    few : turns + 2 * rank d stack (ended w) ≤ 2 * rank c (stack ++ map mark fs) s + 1
+    after : valid d stack (end_state w)
+    few : turns + 2 * rank d stack (end_state w) ≤ 2 * rank c (stack ++ map mark fs) s + 1
 
   nothing_before : (c : Config M) (n : Name) → let e = step c n in Nested [] e.pushed e.config.events
   nothing_before c n = let e = step c n in front_nested [] c.events e.pushed e.config.events (c.events, refl) (lawful.adds c n)
 
-  ends : (w : Bool) (c : Config M) (stack : List Attempt) → valid c (stack ++ []) (ended w) → evaluate text step 1 c [] (ended w) ≡ Some (c, w) → Enough c c [] (ended w) w stack
-  ends w c stack h e = record { turns = 1; there = e; after = subst (λ (z : List Attempt). valid c z (ended w)) (append-nil stack) h; few = rw (append-nil stack) (omega arith) }
+  ends : (w : Bool) (c : Config M) (stack : List Attempt) → valid c (stack ++ []) (end_state w) → evaluate text step 1 c [] (end_state w) ≡ Some (c, w) → Enough c c [] (end_state w) w stack
+  ends w c stack h e = record { turns = 1; there = e; after = subst (λ (z : List Attempt). valid c z (end_state w)) (append-nil stack) h; few = rw (append-nil stack) (omega arith) }
 
-  one_call : (c d : Config M) (n : Name) (w : Bool) (s : State) (stack : List Attempt) (before : ℕ) → valid c stack (states.Retry n) → rank c stack (states.Retry n) ≤ before → (let e = step c n in Enough e.config d e.pushed e.state w stack) → (k : ℕ) × (let e = step c n in evaluate text step k e.config e.pushed e.state ≡ Some (d, w)) × valid d stack (ended w) × (suc k + 2 * rank d stack (ended w) ≤ 2 * before + 1)
+  one_call : (c d : Config M) (n : Name) (w : Bool) (s : State) (stack : List Attempt) (before : ℕ) → valid c stack (states.Retry n) → rank c stack (states.Retry n) ≤ before → (let e = step c n in Enough e.config d e.pushed e.state w stack) → (k : ℕ) × (let e = step c n in evaluate text step k e.config e.pushed e.state ≡ Some (d, w)) × valid d stack (end_state w) × (suc k + 2 * rank d stack (end_state w) ≤ 2 * before + 1)
   one_call c d n w s stack before h l e = let r = lawful.falls.called c stack n h in let f = e.few in (e.turns, e.there, e.after, omega arith)
 
   enough : {c d : Config M} {fs : List (Frame M)} {s : State} {w : Bool} → Runs text step c fs s d w → (stack : List Attempt) → Nested [] fs c.events → valid c (stack ++ map mark fs) s → Enough c d fs s w stack
@@ -47,21 +47,21 @@ module _ {M : Type 0} (size : ℕ) (valid : HoldsAt M) (step : Steps M) (rank : 
   enough (first {c = c} {d = d} {e = e} {v = v} {s = s} {f = f} {fs = fs} r q) stack n h =
       let around = append_assoc stack (mark f ∷ []) (map mark fs) in
       let inner = enough r (stack ++ mark f ∷ []) (front_nested [] f.start.events fs c.events (f.start.events, refl) n.1) (subst (λ (z : List Attempt). valid c z s) (sym around) h) in
-      let back : resumed (mark f) d true ≡ passed f d = ap (λ (z : Config M). cond f.check z d) (restored text step f d (keeps text step lawful.adds r f.start.events n.1)) in
+      let back : continuation (mark f) d true ≡ after_success f d = ap (λ (z : Config M). cond f.check z d) (restored text step f d (keeps text step lawful.adds r f.start.events n.1)) in
       let low = subst (λ (z : Config M). rank z stack f.ok < rank d (stack ++ mark f ∷ []) states.Ok) back (lawful.falls.ok d stack (mark f) inner.after) in
       let held = subst (λ (z : Config M). valid z stack f.ok) back (lawful.keeps.ok d stack (mark f) inner.after) in
-      let outer = enough q stack ((passed f d).events, refl) (subst (λ (z : List Attempt). valid (passed f d) z f.ok) (sym (append-nil stack)) held) in
+      let outer = enough q stack ((after_success f d).events, refl) (subst (λ (z : List Attempt). valid (after_success f d) z f.ok) (sym (append-nil stack)) held) in
       let a = more_turns text step outer.turns inner.turns c fs s (d, true) inner.there in
-      let b = more_turns text step inner.turns outer.turns (passed f d) [] f.ok (e, v) outer.there in
+      let b = more_turns text step inner.turns outer.turns (after_success f d) [] f.ok (e, v) outer.there in
       let few = inner.few in
       let same = ap (λ (z : List Attempt). rank c z s) around in
       let more = outer.few in
-      let same_2 = ap (λ (z : List Attempt). rank (passed f d) z f.ok) (append-nil stack) in
+      let same_2 = ap (λ (z : List Attempt). rank (after_success f d) z f.ok) (append-nil stack) in
       record { turns = suc (outer.turns + inner.turns); there = rw a (rw (let z : outer.turns + inner.turns ≡ inner.turns + outer.turns = omega arith in z) b); after = outer.after; few = omega (arith, few, more, low, same, same_2) }
   enough (second {c = c} {d = d} {e = e} {v = v} {s = s} {f = f} {fs = fs} r q) stack n h =
       let around = append_assoc stack (mark f ∷ []) (map mark fs) in
       let inner = enough r (stack ++ mark f ∷ []) (front_nested [] f.start.events fs c.events (f.start.events, refl) n.1) (subst (λ (z : List Attempt). valid c z s) (sym around) h) in
-      let back : resumed (mark f) d false ≡ hand_on f.start d = restored text step f d (keeps text step lawful.adds r f.start.events n.1) in
+      let back : continuation (mark f) d false ≡ hand_on f.start d = restored text step f d (keeps text step lawful.adds r f.start.events n.1) in
       let low = subst (λ (z : Config M). rank z stack f.nok < rank d (stack ++ mark f ∷ []) states.Nok) back (lawful.falls.nok d stack (mark f) inner.after) in
       let held = subst (λ (z : Config M). valid z stack f.nok) back (lawful.keeps.nok d stack (mark f) inner.after) in
       let outer = enough q stack ((hand_on f.start d).events, refl) (subst (λ (z : List Attempt). valid (hand_on f.start d) z f.nok) (sym (append-nil stack)) held) in
@@ -74,7 +74,7 @@ module _ {M : Type 0} (size : ℕ) (valid : HoldsAt M) (step : Steps M) (rank : 
       record { turns = suc (outer.turns + inner.turns); there = rw a (rw (let z : outer.turns + inner.turns ≡ inner.turns + outer.turns = omega arith in z) b); after = outer.after; few = omega (arith, few, more, low, same, same_2) }
 
   -- what is read holds
-  pub reads_valid : (c d : Config M) (s : State) (w : Bool) → valid c [] s → Runs text step c [] s d w → valid d [] (ended w)
+  pub reads_valid : (c d : Config M) (s : State) (w : Bool) → valid c [] s → Runs text step c [] s d w → valid d [] (end_state w)
   reads_valid c d s w h r = (enough r [] (c.events, refl) h).after
 
   -- any more turns are enough, too
@@ -83,35 +83,35 @@ module _ {M : Type 0} (size : ℕ) (valid : HoldsAt M) (step : Steps M) (rank : 
 
   -- how an attempt of the stack goes on
 
-  pops : (x : Bool) (stack : List Attempt) (a : Attempt) (c : Config M) → valid c (stack ++ a ∷ []) (ended x) → valid (resumed a c x) stack (chosen a x) × (rank (resumed a c x) stack (chosen a x) < rank c (stack ++ a ∷ []) (ended x))
+  pops : (x : Bool) (stack : List Attempt) (a : Attempt) (c : Config M) → valid c (stack ++ a ∷ []) (end_state x) → valid (continuation a c x) stack (state_after a x) × (rank (continuation a c x) stack (state_after a x) < rank c (stack ++ a ∷ []) (end_state x))
   pops true stack a c h = (lawful.keeps.ok c stack a h, lawful.falls.ok c stack a h)
   pops false stack a c h = (lawful.keeps.nok c stack a h, lawful.falls.nok c stack a h)
 
   record Unwound (n : ℕ) (front rest : List Attempt) (c d : Config M) (v w : Bool) : Type 0 where
     there : after_stack text step n rest (Some (c, v)) ≡ Some (d, w)
-    after : valid d front (ended w)
-    few : rank d front (ended w) ≤ rank c (front ++ rest) (ended v)
+    after : valid d front (end_state w)
+    few : rank d front (end_state w) ≤ rank c (front ++ rest) (end_state v)
 
-  mark_there : (n : ℕ) (a : Attempt) (r : Option (Config M × Bool)) (e d : Config M) (x w : Bool) → r ≡ Some (e, x) → evaluate text step n (resumed a e x) [] (chosen a x) ≡ Some (d, w) → after_mark text step n a r ≡ Some (d, w)
+  mark_there : (n : ℕ) (a : Attempt) (r : Option (Config M × Bool)) (e d : Config M) (x w : Bool) → r ≡ Some (e, x) → evaluate text step n (continuation a e x) [] (state_after a x) ≡ Some (d, w) → after_mark text step n a r ≡ Some (d, w)
   mark_there n a r e d x w p q = rw p q
 
-  unwinds : (n : ℕ) (front rest : List Attempt) (c d : Config M) (v w : Bool) → valid c (front ++ rest) (ended v) → 2 * rank c (front ++ rest) (ended v) ≤ n → Unwinds text step rest c v d w → Unwound n front rest c d v w
+  unwinds : (n : ℕ) (front rest : List Attempt) (c d : Config M) (v w : Bool) → valid c (front ++ rest) (end_state v) → 2 * rank c (front ++ rest) (end_state v) ≤ n → Unwinds text step rest c v d w → Unwound n front rest c d v w
   unwinds n front [] c d v w h low u =
-      let held = subst (λ (z : List Attempt). valid c z (ended v)) (append-nil front) h in
-      let same = ap (λ (z : List Attempt). rank c z (ended v)) (append-nil front) in
+      let held = subst (λ (z : List Attempt). valid c z (end_state v)) (append-nil front) h in
+      let same = ap (λ (z : List Attempt). rank c z (end_state v)) (append-nil front) in
       subst (λ (z : Bool). Unwound n front [] c d v z) u.1 (subst (λ (z : Config M). Unwound n front [] c z v v) u.0 (record { there = refl; after = held; few = omega (arith, same) }))
   unwinds n front (a ∷ rest) c d v w h low (e, x, u, r) =
       let one = append_assoc front (a ∷ []) rest in
-      let held = subst (λ (z : List Attempt). valid c z (ended v)) (sym one) h in
-      let same = ap (λ (z : List Attempt). rank c z (ended v)) one in
+      let held = subst (λ (z : List Attempt). valid c z (end_state v)) (sym one) h in
+      let same = ap (λ (z : List Attempt). rank c z (end_state v)) one in
       let inner = unwinds n (front ++ a ∷ []) rest c e v x held (omega (arith, same, low)) u in
       let popped = pops x front a e inner.after in
       let lower = popped.1 in
       let left = inner.few in
-      let on = enough r front ((resumed a e x).events, refl) (subst (λ (z : List Attempt). valid (resumed a e x) z (chosen a x)) (sym (append-nil front)) popped.0) in
+      let on = enough r front ((continuation a e x).events, refl) (subst (λ (z : List Attempt). valid (continuation a e x) z (state_after a x)) (sym (append-nil front)) popped.0) in
       let few = on.few in
-      let alone = ap (λ (z : List Attempt). rank (resumed a e x) z (chosen a x)) (append-nil front) in
-      let there = at_most n on.turns (resumed a e x) [] (chosen a x) (d, w) (omega (arith, few, alone, lower, left, same, low)) on.there in
+      let alone = ap (λ (z : List Attempt). rank (continuation a e x) z (state_after a x)) (append-nil front) in
+      let there = at_most n on.turns (continuation a e x) [] (state_after a x) (d, w) (omega (arith, few, alone, lower, left, same, low)) on.there in
       record { there = mark_there n a (after_stack text step n rest (Some (c, v))) e d x w inner.there there; after = on.after; few = omega (arith, few, alone, lower, left, same) }
 
   -- whatever reading comes to, it is this function of where it is

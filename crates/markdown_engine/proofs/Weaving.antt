@@ -8,13 +8,13 @@ use Rattle.engine_events.specs.declared.event.Name.{Name}
 use Rattle.engine_events.specs.declared.resolve.Name.{Name as Resolver}
 use Rattle.engine_events.specs.declared.state.State.TheVariants as states
 use Rattle.engine_edits.specs.Edits.{Placed, placed}
-use Rattle.engine_edits.specs.Replacement.{Places, edited, places, relinked, replaced}
+use Rattle.engine_edits.specs.Replacement.{Places, events_after, places, with_new_links, replaced}
 use Rattle.engine_chunks.specs.Chunks.{chunks, part_size}
 use Rattle.engine_chunks.specs.Parts.{counts, divided, divided_at, places_of}
 use Rattle.markdown_engine.specs.Chains.{AreApart, ArePlaces, Chain, Divides, MayBegin, ReadsChain, Subtokenized, chains, chunks_of, first_state, place_at}
 use Rattle.markdown_engine.specs.Laws.{HoldsAt, LawfulAt, RanksAt}
 use Rattle.markdown_engine.specs.Machine.{fresh}
-use Rattle.markdown_engine.specs.Order.{AreWhole, IsBalanced, IsNested, opened}
+use Rattle.markdown_engine.specs.Order.{AreWhole, IsBalanced, IsNested, open_after}
 use Rattle.markdown_engine.specs.OrderLaws.{nested_append, nested_front, nested_in, opened_append}
 use Rattle.markdown_engine.specs.Reading.{Config, Steps}
 use Rattle.markdown_engine.specs.Resolving.{Found, Resolves, ResolvesAt, SettlesAt, found_both, nothing_found, resolve_all, resolve_each}
@@ -26,12 +26,12 @@ use Rattle.markdown_engine.proofs.Computing.{chain_valid}
 
 -- Balanced lists
 
-nested_rest : (names : List Name) (a b : List Event) → IsNested names (a ++ b) → IsNested (opened names a) b
+nested_rest : (names : List Name) (a b : List Event) → IsNested names (a ++ b) → IsNested (open_after names a) b
 nested_rest names [] b h = h
 nested_rest names (e ∷ a) b h = nested_rest _ a b h.1
 
 -- what is balanced changes nothing of what is open
-neutral : (names : List Name) (es : List Event) → IsBalanced es → IsNested names es × (opened names es ≡ names)
+neutral : (names : List Name) (es : List Event) → IsBalanced es → IsNested names es × (open_after names es ≡ names)
 neutral names es h = let k = nested_in [] names es h.0 in (k.0, k.1 ∙ ap (λ (z : List Name). z ++ names) h.1)
 
 -- what is open inside of a chain, and then outside of it; in a chain only what is balanced stands between chunks
@@ -39,7 +39,7 @@ abbrev MayStandBetween : List Name → List Event → Type 0
 MayStandBetween [] gap = Unit {0}
 MayStandBetween (n ∷ ns) gap = IsBalanced gap
 
-over_gap : (inside names : List Name) (gap : List Event) → MayStandBetween inside gap → IsNested names gap → IsNested (inside ++ names) gap × (opened (inside ++ names) gap ≡ inside ++ opened names gap)
+over_gap : (inside names : List Name) (gap : List Event) → MayStandBetween inside gap → IsNested names gap → IsNested (inside ++ names) gap × (open_after (inside ++ names) gap ≡ inside ++ open_after names gap)
 over_gap [] names gap h k = (k, refl)
 over_gap (n ∷ ns) names gap h k =
     let there = neutral ((n ∷ ns) ++ names) gap h in
@@ -50,19 +50,19 @@ over_gap (n ∷ ns) names gap h k =
 abbrev Weaves : List Event → ℕ → List Name → List Placed → Type 0
 Weaves list from inside [] = inside ≡ []
 Weaves list from inside (e ∷ es) =
-    (from ≤ e.at) × (e.remove ≡ 2) × MayStandBetween inside (take (e.at - from) (drop from list)) × IsBalanced (take 2 (drop e.at list)) × IsNested inside e.add × Weaves list (e.at + 2) (opened inside e.add) es
+    (from ≤ e.at) × (e.remove ≡ 2) × MayStandBetween inside (take (e.at - from) (drop from list)) × IsBalanced (take 2 (drop e.at list)) × IsNested inside e.add × Weaves list (e.at + 2) (open_after inside e.add) es
 
 later : (n m : ℕ) (list : List Event) → n ≤ m → take (m - n) (drop n list) ++ drop m list ≡ drop n list
 later n m list h = ap (λ (z : List Event). take (m - n) (drop n list) ++ z) (ap (λ (k : ℕ). drop k list) (let z : m ≡ n + (m - n) = omega arith in z) ∙ sym (drop-drop (m - n) n list)) ∙ take-append-drop (m - n) (drop n list)
 
 Closes : List Name → List Event → Type 0
-Closes names es = IsNested names es × (opened names es ≡ [])
+Closes names es = IsNested names es × (open_after names es ≡ [])
 
-closes_rest : (names : List Name) (a b : List Event) → Closes names (a ++ b) → Closes (opened names a) b
+closes_rest : (names : List Name) (a b : List Event) → Closes names (a ++ b) → Closes (open_after names a) b
 unfolding Closes
 closes_rest names a b h = (nested_rest names a b h.0, sym (opened_append names a b) ∙ h.1)
 
-closes_both : (names : List Name) (a b : List Event) → IsNested names a → Closes (opened names a) b → Closes names (a ++ b)
+closes_both : (names : List Name) (a b : List Event) → IsNested names a → Closes (open_after names a) b → Closes names (a ++ b)
 unfolding Closes
 closes_both names a b h k = (nested_append names a b h k.0, opened_append names a b ∙ k.1)
 
@@ -76,7 +76,7 @@ nested_of : (names : List Name) (es : List Event) → Closes names es → IsNest
 unfolding Closes
 nested_of names es h = h.0
 
-opened_of : (names : List Name) (es : List Event) → Closes names es → opened names es ≡ []
+opened_of : (names : List Name) (es : List Event) → Closes names es → open_after names es ≡ []
 unfolding Closes
 opened_of names es h = h.1
 
@@ -88,14 +88,14 @@ weave list from inside names (e ∷ es) w h =
     let rest = replaced (e.at + 2) es list in
     let whole : Closes names (gap ++ drop e.at list) = closes_as names (drop from list) (gap ++ drop e.at list) (sym (later from e.at list w.0)) h in
     let through = over_gap inside names gap w.2 (nested_front names gap (drop e.at list) (nested_of names (gap ++ drop e.at list) whole)) in
-    let outside = opened names gap in
+    let outside = open_after names gap in
     let at_chunk : Closes outside (drop e.at list) = closes_rest names gap (drop e.at list) whole in
     let two : pair ++ drop (e.at + 2) list ≡ drop e.at list = ap (λ (z : List Event). pair ++ z) (sym (drop-drop 2 e.at list)) ∙ take-append-drop 2 (drop e.at list) in
-    let after : Closes outside (drop (e.at + 2) list) = closes_at (opened outside pair) outside (drop (e.at + 2) list) (neutral outside pair w.3).1 (closes_rest outside pair (drop (e.at + 2) list) (closes_as outside (drop e.at list) (pair ++ drop (e.at + 2) list) (sym two) at_chunk)) in
+    let after : Closes outside (drop (e.at + 2) list) = closes_at (open_after outside pair) outside (drop (e.at + 2) list) (neutral outside pair w.3).1 (closes_rest outside pair (drop (e.at + 2) list) (closes_as outside (drop e.at list) (pair ++ drop (e.at + 2) list) (sym two) at_chunk)) in
     let added = nested_in inside outside e.add w.4 in
-    let on = weave list (e.at + 2) (opened inside e.add) outside es w.5 after in
-    let part : Closes (inside ++ outside) (e.add ++ rest) = closes_both (inside ++ outside) e.add rest added.0 (closes_at (opened inside e.add ++ outside) (opened (inside ++ outside) e.add) rest (sym added.1) on) in
-    let all : Closes (inside ++ names) (gap ++ (e.add ++ rest)) = closes_both (inside ++ names) gap (e.add ++ rest) through.0 (closes_at (inside ++ outside) (opened (inside ++ names) gap) (e.add ++ rest) (sym through.1) part) in
+    let on = weave list (e.at + 2) (open_after inside e.add) outside es w.5 after in
+    let part : Closes (inside ++ outside) (e.add ++ rest) = closes_both (inside ++ outside) e.add rest added.0 (closes_at (open_after inside e.add ++ outside) (open_after (inside ++ outside) e.add) rest (sym added.1) on) in
+    let all : Closes (inside ++ names) (gap ++ (e.add ++ rest)) = closes_both (inside ++ names) gap (e.add ++ rest) through.0 (closes_at (inside ++ outside) (open_after (inside ++ names) gap) (e.add ++ rest) (sym through.1) part) in
     closes_as (inside ++ names) (gap ++ (e.add ++ rest)) (replaced from (e ∷ es) list) (ap (λ (n : ℕ). gap ++ (e.add ++ replaced (e.at + n) es list)) (sym w.1)) all
 
 -- Chunks of a chain
@@ -112,14 +112,14 @@ module _ (old children : List Event) (ps : Places) (list : List Event) where
       let size = part_size old k left in
       let part = take size left in
       let whole : Closes inside (part ++ drop size left) = closes_as inside left (part ++ drop size left) (sym (take-append-drop size left)) h in
-      let after : Closes (opened inside part) (drop (from + size) children) = closes_as (opened inside part) (drop size left) (drop (from + size) children) (drop-drop size from children) (closes_rest inside part (drop size left) whole) in
-      (low, refl, gap, pair, still_nested ps inside part (nested_front inside part (drop size left) (nested_of inside (part ++ drop size left) whole)), subst (λ (z : List Name). Weaves list (k + 2) z rest) (sym (still_opened ps inside part)) (on (opened inside part) after))
+      let after : Closes (open_after inside part) (drop (from + size) children) = closes_as (open_after inside part) (drop size left) (drop (from + size) children) (drop-drop size from children) (closes_rest inside part (drop size left) whole) in
+      (low, refl, gap, pair, still_nested ps inside part (nested_front inside part (drop size left) (nested_of inside (part ++ drop size left) whole)), subst (λ (z : List Name). Weaves list (k + 2) z rest) (sym (still_opened ps inside part)) (on (open_after inside part) after))
 
   chunks_weave : (ks : List ℕ) (from pos count : ℕ) (inside : List Name) (more : List Placed) → AreApart pos ks count → AreTogetherFrom list pos ks → Closes inside (drop from children) → placed_to old ks children from ≡ length children
       → Weaves list (after_front pos ks) [] more → Weaves list pos inside (chunk_edits old children ps ks from ++ more)
   chunks_weave [] from pos count inside more a t h p w =
       let none = drop_all from children (omega (arith, p)) in
-      subst (λ (z : List Name). Weaves list pos z more) (sym (ap (opened inside) (sym none) ∙ opened_of inside (drop from children) h)) w
+      subst (λ (z : List Name). Weaves list pos z more) (sym (ap (open_after inside) (sym none) ∙ opened_of inside (drop from children) h)) w
   chunks_weave (k ∷ ks) from pos count inside more a t h p w =
       chunk_weaves k from pos inside (chunk_edits old children ps ks (from + part_size old k (drop from children)) ++ more) a.0 (gap_may inside (take (k - pos) (drop pos list)) t.0) t.1 h
       (λ names c. chunks_weave ks (from + part_size old k (drop from children)) (k + 2) count names more a.1 t.2 c p w)
@@ -133,17 +133,17 @@ module _ (old children : List Event) (ps : Places) (list : List Event) where
 
 -- The list whose links are moved
 
-moved_part : (ps : Places) (n m : ℕ) (es : List Event) → IsBalanced (take n (drop m es)) → IsBalanced (take n (drop m (map (relinked ps) es)))
+moved_part : (ps : Places) (n m : ℕ) (es : List Event) → IsBalanced (take n (drop m es)) → IsBalanced (take n (drop m (map (with_new_links ps) es)))
 moved_part ps n m es h =
     let part = take n (drop m es) in
-    let same : map (relinked ps) part ≡ take n (drop m (map (relinked ps) es)) = sym (take-map (relinked ps) n (drop m es)) ∙ ap (take n) (sym (drop-map (relinked ps) m es)) in
+    let same : map (with_new_links ps) part ≡ take n (drop m (map (with_new_links ps) es)) = sym (take-map (with_new_links ps) n (drop m es)) ∙ ap (take n) (sym (drop-map (with_new_links ps) m es)) in
     subst (λ (z : List Event). IsBalanced z) same (still_nested ps [] part h.0, still_opened ps [] part ∙ h.1)
 
-moved_from : (ps : Places) (es : List Event) (from : ℕ) (ks : List ℕ) → AreTogetherFrom es from ks → AreTogetherFrom (map (relinked ps) es) from ks
+moved_from : (ps : Places) (es : List Event) (from : ℕ) (ks : List ℕ) → AreTogetherFrom es from ks → AreTogetherFrom (map (with_new_links ps) es) from ks
 moved_from ps es from [] h = tt
 moved_from ps es from (k ∷ ks) h = (moved_part ps (k - from) from es h.0, moved_part ps 2 k es h.1, moved_from ps es (k + 2) ks h.2)
 
-moved_together : (ps : Places) (es : List Event) (ks : List ℕ) → AreTogether es ks → AreTogether (map (relinked ps) es) ks
+moved_together : (ps : Places) (es : List Event) (ks : List ℕ) → AreTogether es ks → AreTogether (map (with_new_links ps) es) ks
 moved_together ps es [] h = tt
 moved_together ps es (k ∷ ks) h = (moved_part ps 2 k es h.0, moved_from ps es (k + 2) ks h.1)
 
@@ -164,7 +164,7 @@ module _ {M : Type 0} (valid : HoldsAt M) (step : Steps M) (rank : RanksAt M) (r
       let whole = resolves.whole (resolve_each resolve read.resolvers (record read { resolvers = [] }) nothing_found).config last in
       subst (λ (z : List Event). IsBalanced z) (sym r.added) whole.0
 
-  chains_weave : (list : List Event) (ps : Places) → list ≡ map (relinked ps) old → (cs : List Chain) (acc : ℕ × ℕ) (edits all : List Placed) (found total : Found) (pos : ℕ) (d : Divides step resolve bytes machine old cs acc edits all found total)
+  chains_weave : (list : List Event) (ps : Places) → list ≡ map (with_new_links ps) old → (cs : List Chain) (acc : ℕ × ℕ) (edits all : List Placed) (found total : Found) (pos : ℕ) (d : Divides step resolve bytes machine old cs acc edits all found total)
       → Made edits acc.0 acc.1 (chunks_of old cs) (length old) → AreApart pos (chunks_of old cs) (length old) → MayBegin valid machine old cs → EachTogether old cs → EachPlaced step resolve bytes machine old cs acc edits all found total d
       → (new : List Placed) × (all ≡ edits ++ new) × Weaves list pos [] new
   chains_weave list ps e [] acc edits all found total pos d m a b t p = ([], sym d.0 ∙ sym (append-nil edits), refl)
@@ -187,7 +187,7 @@ module _ {M : Type 0} (valid : HoldsAt M) (step : Steps M) (rank : RanksAt M) (r
   unfolding Closes
   stays_balanced filter new found a b h t read p =
       let ps = places read.edits (length old) in
-      let list = map (relinked ps) old in
+      let list = map (with_new_links ps) old in
       let cs = chains filter old in
       let (edits, same, w) = chains_weave list ps refl cs (0, 0) [] read.edits nothing_found found 0 read.divides (none_made (length old) (chunks_of old cs) a) a b t p in
       let all = weave list 0 [] [] edits w (still_nested ps [] old h.0, still_opened ps [] old ∙ h.1) in

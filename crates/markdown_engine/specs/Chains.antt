@@ -14,7 +14,7 @@ use Rattle.engine_events.specs.declared.state.Block.TheVariants as block_states
 use Rattle.engine_events.specs.declared.state.State.TheVariants as states
 use Rattle.engine_events.specs.Events.{link_of, point_of}
 use Rattle.engine_edits.specs.Edits.{Placed}
-use Rattle.engine_edits.specs.Replacement.{edited}
+use Rattle.engine_edits.specs.Replacement.{events_after}
 use Rattle.engine_chunks.specs.Chunks.{chunks}
 use Rattle.engine_chunks.specs.Parts.{counts, divided}
 use Rattle.markdown_engine.specs.Context.{Context}
@@ -133,7 +133,7 @@ module _ {M : Type 0} (step : Steps M) (resolve : Resolves M) (bytes : List ℕ)
 pub record Subtokenized {M : Type 0} (step : Steps M) (resolve : Resolves M) (bytes : List ℕ) (machine : M) (filter : Option Content) (old new : List Event) (found : Found) : Type 0 where
   pub edits : List Placed
   pub divides : Divides step resolve bytes machine old (chains filter old) (0, 0) [] edits nothing_found found
-  pub edited : new ≡ edited edits old
+  pub edited : new ≡ events_after edits old
 
 -- the same, with what a text is read with
 module _ {T M : Type 0} (step : Context T → Steps M) (resolve : Context T → Resolves M) (x : Context T) (machine : M) where

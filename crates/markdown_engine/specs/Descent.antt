@@ -7,7 +7,7 @@ use Rattle.engine_events.specs.declared.state.State.TheVariants as states
 use Rattle.markdown_engine.specs.declared.attempt.Attempt.{Attempt}
 use Rattle.markdown_engine.specs.declared.virtual_text.VirtualByte.{VirtualByte}
 use Rattle.markdown_engine.specs.Laws.{HoldsAt, IsFed, RanksAt}
-use Rattle.markdown_engine.specs.Reading.{Config, Steps, handed, mark, resumed}
+use Rattle.markdown_engine.specs.Reading.{Config, Steps, with_byte, mark, continuation}
 
 abbrev pub Weighs : Type 0 → Type 0
 Weighs M = Config M → State → ℕ
@@ -19,12 +19,12 @@ AllBelow waits w (a ∷ more) = (waits a < w) × AllBelow waits w more
 
 -- a call makes fewer than `most` attempts
 pub record DescendsAt {M : Type 0} (size : ℕ) (valid : HoldsAt M) (step : Steps M) (most : ℕ) (weight : Weighs M) (waits : Attempt → ℕ) : Type 0 where
-  pub fed : (c : Config M) (stack : List Attempt) (n : Name) (p : Point) (v : Option VirtualByte) → valid c stack (states.Next n) → IsFed size c.point p v → weight (handed c p v) (states.Retry n) ≤ weight c (states.Next n)
+  pub fed : (c : Config M) (stack : List Attempt) (n : Name) (p : Point) (v : Option VirtualByte) → valid c stack (states.Next n) → IsFed size c.point p v → weight (with_byte c p v) (states.Retry n) ≤ weight c (states.Next n)
   pub called : (c : Config M) (stack : List Attempt) (n : Name) → valid c stack (states.Retry n) → let e = step c n in weight e.config e.state < weight c (states.Retry n)
   pub fewer : (c : Config M) (stack : List Attempt) (n : Name) → valid c stack (states.Retry n) → length (step c n).pushed < most
   pub pushed : (c : Config M) (stack : List Attempt) (n : Name) → valid c stack (states.Retry n) → AllBelow waits (weight c (states.Retry n)) (map mark (step c n).pushed)
-  pub ok : (c : Config M) (stack : List Attempt) (a : Attempt) → valid c (stack ++ a ∷ []) states.Ok → weight (resumed a c true) a.ok ≤ waits a
-  pub nok : (c : Config M) (stack : List Attempt) (a : Attempt) → valid c (stack ++ a ∷ []) states.Nok → weight (resumed a c false) a.nok ≤ waits a
+  pub ok : (c : Config M) (stack : List Attempt) (a : Attempt) → valid c (stack ++ a ∷ []) states.Ok → weight (continuation a c true) a.ok ≤ waits a
+  pub nok : (c : Config M) (stack : List Attempt) (a : Attempt) → valid c (stack ++ a ∷ []) states.Nok → weight (continuation a c false) a.nok ≤ waits a
 
 -- the attempts that wait, together
 abbrev pub all_wait : ℕ → (Attempt → ℕ) → List Attempt → ℕ

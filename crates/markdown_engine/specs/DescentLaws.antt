@@ -6,7 +6,7 @@ use Rattle.engine_events.specs.declared.state.State.TheVariants as states
 use Rattle.markdown_engine.specs.declared.attempt.Attempt.{Attempt}
 use Rattle.markdown_engine.specs.Descent.{AllBelow, DescendsAt, Weighs, all_wait, descent}
 use Rattle.markdown_engine.specs.Laws.{FallsAt, HoldsAt}
-use Rattle.markdown_engine.specs.Reading.{Steps, handed, mark, resumed}
+use Rattle.markdown_engine.specs.Reading.{Steps, with_byte, mark, continuation}
 
 one_more : (n w : ℕ) → n ^ (w + 1) ≡ n ^ w * n
 one_more n w = rw add-one (pow-suc n w)
@@ -66,7 +66,7 @@ before v w h = omega arith
 pub descends : {M : Type 0} (size : ℕ) (valid : HoldsAt M) (step : Steps M) (most : ℕ) (weight : Weighs M) (waits : Attempt → ℕ) → DescendsAt size valid step most weight waits → FallsAt size valid step (descent most weight waits)
 unfolding base
 descends size valid step most weight waits d = record {
-  fed = λ c stack n p v h fed. let low = rises most waits (weight (handed c p v) (states.Retry n)) (weight c (states.Next n)) (d.fed c stack n p v h fed) in omega arith;
+  fed = λ c stack n p v h fed. let low = rises most waits (weight (with_byte c p v) (states.Retry n)) (weight c (states.Next n)) (d.fed c stack n p v h fed) in omega arith;
   called = λ c stack n h.
       let e = step c n in
       let w = weight c (states.Retry n) in
@@ -74,6 +74,6 @@ descends size valid step most weight waits d = record {
       let fewer : length (map mark e.pushed) < most = rw (length-map e.pushed mark) (d.fewer c stack n h) in
       let lower = call_falls most waits (weight e.config e.state) (w - 1) stack (map mark e.pushed) (rw same (d.called c stack n h)) fewer (rw same (d.pushed c stack n h)) in
       rw same at lower;
-  ok = λ c stack a h. pop_falls most waits (weight (resumed a c true) a.ok) (weight c states.Ok) stack a (d.ok c stack a h);
-  nok = λ c stack a h. pop_falls most waits (weight (resumed a c false) a.nok) (weight c states.Nok) stack a (d.nok c stack a h);
+  ok = λ c stack a h. pop_falls most waits (weight (continuation a c true) a.ok) (weight c states.Ok) stack a (d.ok c stack a h);
+  nok = λ c stack a h. pop_falls most waits (weight (continuation a c false) a.nok) (weight c states.Nok) stack a (d.nok c stack a h);
 }

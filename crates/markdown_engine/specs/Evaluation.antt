@@ -5,7 +5,7 @@ use Rattle.engine_events.specs.declared.event.Event.{Event}
 use Rattle.engine_events.specs.declared.state.State.{State}
 use Rattle.engine_events.specs.declared.state.State.TheVariants as states
 use Rattle.engine_edits.specs.Edits.{Placed}
-use Rattle.engine_edits.specs.Replacement.{edited}
+use Rattle.engine_edits.specs.Replacement.{events_after}
 use Rattle.engine_chunks.specs.Chunks.{chunks}
 use Rattle.engine_chunks.specs.Parts.{counts, divided}
 use Rattle.markdown_engine.specs.declared.attempt.Attempt.{Attempt}
@@ -13,9 +13,9 @@ use Rattle.markdown_engine.specs.declared.tokenizer.Tokenizer.{Tokenizer}
 use Rattle.markdown_engine.specs.Chains.{Chain, chain_text, chains, first_state, place_at}
 use Rattle.markdown_engine.specs.Context.{Context}
 use Rattle.markdown_engine.specs.Laws.{Ranks, RanksAt}
-use Rattle.markdown_engine.specs.Machine.{GoesOn, Opened, fresh, read_with, shown, source}
-use Rattle.markdown_engine.specs.Reading.{Config, Frame, Steps, chosen, feed, hand_on, passed, resumed}
-use Rattle.markdown_engine.specs.Resolving.{Found, Resolved, Resolves, finished, found_both, nothing_found, resolve_all}
+use Rattle.markdown_engine.specs.Machine.{GoesOn, Opened, fresh, read_with, view_config, source}
+use Rattle.markdown_engine.specs.Reading.{Config, Frame, Steps, state_after, feed, hand_on, after_success, continuation}
+use Rattle.markdown_engine.specs.Resolving.{Found, Resolved, Resolves, resolution, found_both, nothing_found, resolve_all}
 use Rattle.markdown_engine.specs.VirtualText.{IsCut, Source, Text, text_to}
 
 -- what reading may come to: where it ends, well or not; nothing where the turns don't do
@@ -26,7 +26,7 @@ module _ {M : Type 0} where
   -- how reading goes on after an attempt
   abbrev pub after_attempt : Frame M → (Config M → State → Ending M) → Ending M → Ending M
   after_attempt f rest None = None
-  after_attempt f rest (Some (d, true)) = rest (passed f d) f.ok
+  after_attempt f rest (Some (d, true)) = rest (after_success f d) f.ok
   after_attempt f rest (Some (d, false)) = rest (hand_on f.start d) f.nok
 
   module _ (text : Text) (step : Steps M) where
@@ -42,7 +42,7 @@ module _ {M : Type 0} where
     -- how it goes on after an attempt of the stack
     abbrev pub after_mark : ℕ → Attempt → Ending M → Ending M
     after_mark n a None = None
-    after_mark n a (Some (e, x)) = evaluate n (resumed a e x) [] (chosen a x)
+    after_mark n a (Some (e, x)) = evaluate n (continuation a e x) [] (state_after a x)
 
     abbrev pub after_stack : ℕ → List Attempt → Ending M → Ending M
     after_stack n [] r = r
@@ -55,7 +55,7 @@ module _ {M : Type 0} where
 module _ {M V T A : Type 0} (view : M → V) (step : Context T → Steps V) (rank : Ranks T V) where
   -- what reading a text comes to from here
   abbrev pub reading_from : Text → Tokenizer M T A → State → Ending V
-  reading_from text t s = let x = read_with t in reading text (step x) (rank x) (shown view t) t.attempts.items s
+  reading_from text t s = let x = read_with t in reading text (step x) (rank x) (view_config view t) t.attempts.items s
 
   -- however a text goes on after a range, it is what it was
   abbrev pub StaysReading : ℕ × ℕ → State → Tokenizer M T A → Tokenizer M T A → State → Type 0
@@ -70,8 +70,8 @@ module _ {M V T A : Type 0} (view : M → V) (step : Context T → Steps V) (ran
   pub record IsReadingOf (resolve : Context T → Resolves V) (to : ℕ × ℕ) (all : Bool) (given : State) (old new : Tokenizer M T A) (found : Found) : Type 0 where
     pub read : Config V
     pub reading : reading_from (text_to (source old) to) old given ≡ Some (read, true)
-    pub config : shown view new ≡ (finished (resolve (read_with old)) all read).config
-    pub labels : found ≡ (finished (resolve (read_with old)) all read).found
+    pub config : view_config view new ≡ (resolution (resolve (read_with old)) all read).config
+    pub labels : found ≡ (resolution (resolve (read_with old)) all read).found
 
 module _ {M : Type 0} (step : Steps M) (rank : RanksAt M) (resolve : Resolves M) (bytes : List ℕ) (machine : M) (events : List Event) where
   -- what reading the text of a chain comes to
@@ -91,4 +91,4 @@ module _ {M : Type 0} (step : Steps M) (rank : RanksAt M) (resolve : Resolves M)
 -- these are the events with each chain that is asked for read, and what is found
 abbrev pub AreReadingOf : {T M : Type 0} → (Context T → Steps M) → Ranks T M → (Context T → Resolves M) → Context T → M → Option Content → List Event → List Event → Found → Type 0
 AreReadingOf step rank resolve x machine filter old new found =
-    (edits : List Placed) × (chain_edits (step x) (rank x) (resolve x) x.bytes machine old (chains filter old) (0, 0) [] nothing_found ≡ Some (edits, found)) × (new ≡ edited edits old)
+    (edits : List Placed) × (chain_edits (step x) (rank x) (resolve x) x.bytes machine old (chains filter old) (0, 0) [] nothing_found ≡ Some (edits, found)) × (new ≡ events_after edits old)

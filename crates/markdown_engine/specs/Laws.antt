@@ -10,8 +10,8 @@ use Rattle.engine_events.specs.declared.state.State.TheVariants as states
 use Rattle.markdown_engine.specs.declared.attempt.Attempt.{Attempt}
 use Rattle.markdown_engine.specs.declared.virtual_text.VirtualByte.{VirtualByte}
 use Rattle.markdown_engine.specs.Context.{Context}
-use Rattle.markdown_engine.specs.Order.{IsTidy, LeadsOn, Reaches, opened}
-use Rattle.markdown_engine.specs.Reading.{Config, Frame, Steps, consumed, ended, handed, mark, moved, resumed}
+use Rattle.markdown_engine.specs.Order.{IsTidy, LeadsOn, Reaches, open_after}
+use Rattle.markdown_engine.specs.Reading.{Config, Frame, Steps, past_byte, end_state, with_byte, mark, at_point, continuation}
 
 -- the first list is a front of the second
 abbrev pub IsFront : List Event → List Event → Type 0
@@ -65,12 +65,12 @@ MovesOn states.Nok = Unit {0}
 
 -- each move of the engine keeps it
 pub record KeepsAt {M : Type 0} (size : ℕ) (valid : HoldsAt M) (step : Steps M) : Type 0 where
-  pub fed : (c : Config M) (stack : List Attempt) (n : Name) (p : Point) (v : Option VirtualByte) → IsFed size c.point p v → valid c stack (states.Next n) → valid (handed c p v) stack (states.Retry n)
+  pub fed : (c : Config M) (stack : List Attempt) (n : Name) (p : Point) (v : Option VirtualByte) → IsFed size c.point p v → valid c stack (states.Next n) → valid (with_byte c p v) stack (states.Retry n)
   -- a range may begin at a later place
-  pub moved : (c : Config M) (stack : List Attempt) (s : State) (p : Point) → MovesOn s → remaining size p ≤ remaining size c.point → Reaches c.point p → valid c stack s → valid (moved p c) stack s
+  pub moved : (c : Config M) (stack : List Attempt) (s : State) (p : Point) → MovesOn s → remaining size p ≤ remaining size c.point → Reaches c.point p → valid c stack s → valid (at_point p c) stack s
   pub called : (c : Config M) (stack : List Attempt) (n : Name) → valid c stack (states.Retry n) → let e = step c n in valid e.config (stack ++ map mark e.pushed) e.state
-  pub ok : (c : Config M) (stack : List Attempt) (a : Attempt) → valid c (stack ++ a ∷ []) states.Ok → valid (resumed a c true) stack a.ok
-  pub nok : (c : Config M) (stack : List Attempt) (a : Attempt) → valid c (stack ++ a ∷ []) states.Nok → valid (resumed a c false) stack a.nok
+  pub ok : (c : Config M) (stack : List Attempt) (a : Attempt) → valid c (stack ++ a ∷ []) states.Ok → valid (continuation a c true) stack a.ok
+  pub nok : (c : Config M) (stack : List Attempt) (a : Attempt) → valid c (stack ++ a ∷ []) states.Nok → valid (continuation a c false) stack a.nok
   -- an error is no state: it is answered for want of memory alone
   pub no_error : (c : Config M) (stack : List Attempt) (m : Bor Message) → valid c stack (states.Error m) → ⊥
 
@@ -83,13 +83,13 @@ Ranks T M = Context T → RanksAt M
 
 pub record FallsAt {M : Type 0} (size : ℕ) (valid : HoldsAt M) (step : Steps M) (rank : RanksAt M) : Type 0 where
   pub fed : (c : Config M) (stack : List Attempt) (n : Name) (p : Point) (v : Option VirtualByte) → valid c stack (states.Next n) → IsFed size c.point p v
-      → rank (handed c p v) stack (states.Retry n) ≤ rank c stack (states.Next n)
+      → rank (with_byte c p v) stack (states.Retry n) ≤ rank c stack (states.Next n)
   pub called : (c : Config M) (stack : List Attempt) (n : Name) → valid c stack (states.Retry n)
       → let e = step c n in rank e.config (stack ++ map mark e.pushed) e.state < rank c stack (states.Retry n)
   pub ok : (c : Config M) (stack : List Attempt) (a : Attempt) → valid c (stack ++ a ∷ []) states.Ok
-      → rank (resumed a c true) stack a.ok < rank c (stack ++ a ∷ []) states.Ok
+      → rank (continuation a c true) stack a.ok < rank c (stack ++ a ∷ []) states.Ok
   pub nok : (c : Config M) (stack : List Attempt) (a : Attempt) → valid c (stack ++ a ∷ []) states.Nok
-      → rank (resumed a c false) stack a.nok < rank c (stack ++ a ∷ []) states.Nok
+      → rank (continuation a c false) stack a.nok < rank c (stack ++ a ∷ []) states.Nok
 
 -- the place stays, with what is around it
 pub record IsStill {M : Type 0} (c d : Config M) : Type 0 where
@@ -101,7 +101,7 @@ pub record IsStill {M : Type 0} (c d : Config M) : Type 0 where
 
 -- there was a byte, and it was consumed once
 abbrev pub HasConsumed : {M : Type 0} → Config M → Config M → Type 0
-HasConsumed c d = (b : ℕ) × (c.current ≡ Some b) × IsStill (consumed c) d
+HasConsumed c d = (b : ℕ) × (c.current ≡ Some b) × IsStill (past_byte c) d
 
 -- the same, or nothing was consumed
 abbrev pub MayConsume : {M : Type 0} → Config M → Config M → Type 0
@@ -130,7 +130,7 @@ TidiesAt {M} valid = (c : Config M) (stack : List Attempt) (s : State) → valid
 
 -- nothing is open at the end
 abbrev pub ClosesAt : {M : Type 0} → HoldsAt M → Type 0
-ClosesAt {M} valid = (c : Config M) (well : Bool) → valid c [] (ended well) → opened [] c.events ≡ []
+ClosesAt {M} valid = (c : Config M) (well : Bool) → valid c [] (end_state well) → open_after [] c.events ≡ []
 
 -- the laws of reading
 pub record LawfulAt {M : Type 0} (size : ℕ) (valid : HoldsAt M) (step : Steps M) (rank : RanksAt M) : Type 0 where

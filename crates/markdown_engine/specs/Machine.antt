@@ -1,5 +1,6 @@
 -- What the calls of a tokenizer do.
 use Rattle.std.specs.Prelude.{◌≡◌, ℕ, ◌+◌, ◌≤◌, ◌<◌, Bool, true, false, if◌then◌else◌, length, List, [], ◌∷◌, ◌++◌, map, OnOk, Option, None, Result, ◌⊎◌}
+use Rattle.markdown_options.specs.declared.configuration.Constructs.{Constructs}
 use Rattle.engine_events.specs.declared.event.Name.{Name}
 use Rattle.engine_events.specs.declared.event.Kind.TheVariants.{Enter, Exit}
 use Rattle.engine_events.specs.declared.state.State.{State}
@@ -7,14 +8,14 @@ use Rattle.engine_events.specs.declared.state.State.TheVariants as states
 use Rattle.engine_events.specs.declared.event.Link.{Link}
 use Rattle.engine_events.specs.Events.{event}
 pub use Rattle.engine_events.specs.States.{Refused}
-pub use Rattle.markdown_engine.specs.Reading.{consumed}
+pub use Rattle.markdown_engine.specs.Reading.{past_byte}
 use Rattle.markdown_engine.specs.declared.tokenizer.Tokenizer.{Tokenizer}
 use Rattle.engine_events.specs.declared.subresult.Subresult.{Subresult}
 use Rattle.engine_edits.specs.Edits.{edits_of}
 use Rattle.markdown_engine.specs.Kept.{kept, nothing_kept}
 use Rattle.markdown_engine.specs.Context.{Context, context}
-use Rattle.markdown_engine.specs.Resolving.{Found, Resolved, Resolves, finished, found_in}
-use Rattle.markdown_engine.specs.Reading.{Config, Effect, Frame, Steps, Outcome, Runs, ended, mark, moved, seen_as}
+use Rattle.markdown_engine.specs.Resolving.{Found, Resolved, Resolves, resolution, found_in}
+use Rattle.markdown_engine.specs.Reading.{Config, Effect, Frame, Steps, Outcome, Runs, end_state, mark, at_point, seen_as}
 use Rattle.engine_events.specs.declared.resolve.Name.{Name as Resolver}
 use Rattle.markdown_engine.specs.Resolvers.{with_first, with_last}
 use Rattle.markdown_engine.specs.VirtualText.{Source, Text, Walks, is_before, is_feed, place_in, text_to}
@@ -27,8 +28,8 @@ module _ {M T A : Type 0} where
   config t = record { events = t.events.items; point = t.point; next = t.next; line_start = t.line_start; previous = t.previous; current = t.current; tokenize_state = kept t.tokenize_state; map = edits_of t.map; resolvers = t.resolvers.items; interrupt = t.interrupt; lazy = t.lazy; concrete = t.concrete; pierce = t.pierce; machine = t.machine }
 
   -- the same, with what is seen of the machine
-  abbrev pub shown : {V : Type 0} → (M → V) → Tokenizer M T A → Config V
-  shown view t = seen_as view (config t)
+  abbrev pub view_config : {V : Type 0} → (M → V) → Tokenizer M T A → Config V
+  view_config view t = seen_as view (config t)
 
   -- what it reads from
   abbrev pub source : Tokenizer M T A → Source
@@ -41,6 +42,19 @@ module _ {M T A : Type 0} where
   -- what it reads with
   abbrev pub read_with : Tokenizer M T A → Context T
   read_with t = context t.parse_state.now
+
+  abbrev pub constructs_of : Tokenizer M T A → Constructs
+  constructs_of t = (read_with t).options.constructs
+
+  abbrev pub tables_of : Tokenizer M T A → T
+  tables_of t = (read_with t).tables
+
+  -- the labels of the definitions, and of the footnotes
+  abbrev pub definitions_of : Tokenizer M T A → List (List ℕ)
+  definitions_of t = (read_with t).definitions
+
+  abbrev pub footnotes_of : Tokenizer M T A → List (List ℕ)
+  footnotes_of t = (read_with t).footnotes
 
 -- an index and a column of a tab there that are at or after others
 pub record IsAfter (from to : ℕ × ℕ) : Type 0 where
@@ -74,7 +88,7 @@ module _ {M T A : Type 0} where
     pub begins : Begins (source old) from old.point point
     pub forward : remaining (length old.parse_state.now.bytes.now) point ≤ remaining (length old.parse_state.now.bytes.now) old.point
     pub order : Reaches old.point point
-    pub config : config new ≡ moved point (config old)
+    pub config : config new ≡ at_point point (config old)
     pub attempts : new.attempts.items ≡ old.attempts.items
     pub same : Around old new
 
@@ -111,7 +125,7 @@ module _ {M T A : Type 0} where
 module _ {M V T A : Type 0} (view : M → V) where
   -- a call did what the step says
   pub record Did (e : Effect V) (old new : Tokenizer M T A) (s : State) : Type 0 where
-    pub config : shown view new ≡ e.config
+    pub config : view_config view new ≡ e.config
     pub attempts : new.attempts.items ≡ old.attempts.items ++ map mark e.pushed
     pub state : s ≡ e.state
 
@@ -121,7 +135,7 @@ module _ {M V T A : Type 0} (view : M → V) where
 
   -- what `push` leaves: reading a text from what is left is reading it from what was there
   pub record Goes (text : Text) (step : Steps V) (state : State) (old new : Tokenizer M T A) (s : State) : Type 0 where
-    pub back : (d : Config V) (w : Bool) → Outcome text step new.attempts.items (shown view new) [] s d w → Outcome text step old.attempts.items (shown view old) [] state d w
+    pub back : (d : Config V) (w : Bool) → Outcome text step new.attempts.items (view_config view new) [] s d w → Outcome text step old.attempts.items (view_config view old) [] state d w
 
   -- however the text goes on after the range
   abbrev pub GoesAll : Steps V → Source → ℕ × ℕ → Bool → State → Tokenizer M T A → Tokenizer M T A → State → Type 0
@@ -137,15 +151,15 @@ module _ {M V T A : Type 0} (view : M → V) where
   -- reading ended, and this is what it comes to
   pub record Flushed (text : Text) (step : Steps V) (given : State) (old new : Tokenizer M T A) (s : State) : Type 0 where
     pub well : Bool
-    pub state : s ≡ ended well
-    pub outcome : Outcome text step old.attempts.items (shown view old) [] given (shown view new) well
+    pub state : s ≡ end_state well
+    pub outcome : Outcome text step old.attempts.items (view_config view old) [] given (view_config view new) well
 
   -- the same, and reading went well; then resolvers ran if that was asked for, and found this
   pub record Completed (text : Text) (step : Steps V) (resolve : Resolves V) (all : Bool) (given : State) (old new : Tokenizer M T A) (found : Found) : Type 0 where
     pub read : Config V
-    pub outcome : Outcome text step old.attempts.items (shown view old) [] given read true
-    pub config : shown view new ≡ (finished resolve all read).config
-    pub labels : found ≡ (finished resolve all read).found
+    pub outcome : Outcome text step old.attempts.items (view_config view old) [] given read true
+    pub config : view_config view new ≡ (resolution resolve all read).config
+    pub labels : found ≡ (resolution resolve all read).found
 
   -- the same, with what the tokenizer reads with
   abbrev pub Completes : (Context T → Steps V) → (Context T → Resolves V) → ℕ × ℕ → Bool → State → Tokenizer M T A → Tokenizer M T A → Found → Type 0
@@ -153,19 +167,19 @@ module _ {M V T A : Type 0} (view : M → V) where
 
   -- resolvers left this, and found this
   pub record IsResolved (r : Resolved V) (new : Tokenizer M T A) (given : Subresult A) : Type 0 where
-    pub config : shown view new ≡ r.config
+    pub config : view_config view new ≡ r.config
     pub found : found_in given ≡ r.found
 
   -- the text read at once
   pub record ReadWhole (from : Source) (step : Steps V) (given : State) (old new : Tokenizer M T A) (s : State) : Type 0 where
     pub well : Bool
-    pub state : s ≡ ended well
-    pub runs : Runs (text_to from (length from.bytes, 0)) step (shown view old) [] given (shown view new) well
+    pub state : s ≡ end_state well
+    pub runs : Runs (text_to from (length from.bytes, 0)) step (view_config view old) [] given (view_config view new) well
 
   -- what the loop of `push` keeps
   pub record Turn (valid : HoldsAt V) (step : Steps V) (to : ℕ × ℕ) (end : Bool) (first : Tokenizer M T A) (given : State) (t : Tokenizer M T A) (s : State) : Type 0 where
     pub same : Around first t
-    pub holds : Refused s ⊎ valid (shown view t) t.attempts.items s
+    pub holds : Refused s ⊎ valid (view_config view t) t.attempts.items s
     pub reads : Refused s ⊎ GoesAll step (source first) to end given first t s
 
 -- of a state that works on any machine: all of the machine is seen
@@ -185,11 +199,11 @@ module _ {M : Type 0} where
   abbrev pub fresh : Point → M → Config M
   fresh p machine = record { events = []; point = p; next = p; line_start = p; previous = None; current = None; tokenize_state = nothing_kept; map = []; resolvers = []; interrupt = false; lazy = false; concrete = false; pierce = false; machine = machine }
 
-  abbrev pub entered : Name → Option Link → Config M → Config M
-  entered name link c = record c { events = c.events ++ event Enter name c.point link ∷ [] }
+  abbrev pub with_enter : Name → Option Link → Config M → Config M
+  with_enter name link c = record c { events = c.events ++ event Enter name c.point link ∷ [] }
 
-  abbrev pub exited : Name → Config M → Config M
-  exited name c = record c { events = c.events ++ event Exit name (if is_feed c.previous then c.line_start else c.point) None ∷ [] }
+  abbrev pub with_exit : Name → Config M → Config M
+  with_exit name c = record c { events = c.events ++ event Exit name (if is_feed c.previous then c.line_start else c.point) None ∷ [] }
 
   -- with a resolver registered, to run last or first
   abbrev pub to_run_last : Resolver → Config M → Config M
@@ -199,8 +213,8 @@ module _ {M : Type 0} where
   to_run_first name c = record c { resolvers = with_first name c.resolvers }
 
   -- an attempt that begins here
-  abbrev pub begun : Bool → State → State → Config M → Frame M
-  begun check ok nok c = record { check = check; ok = ok; nok = nok; start = c }
+  abbrev pub frame_at : Bool → State → State → Config M → Frame M
+  frame_at check ok nok c = record { check = check; ok = ok; nok = nok; start = c }
 
   -- a call that makes no attempt
   abbrev pub plain : Config M → State → Effect M
@@ -208,8 +222,8 @@ module _ {M : Type 0} where
 
   -- a call that makes one attempt last
   abbrev pub tries : State → State → Config M → State → Effect M
-  tries ok nok c s = record { config = c; pushed = begun false ok nok c ∷ []; state = s }
+  tries ok nok c s = record { config = c; pushed = frame_at false ok nok c ∷ []; state = s }
 
   -- a call that looks ahead last
   abbrev pub checks : State → State → Config M → State → Effect M
-  checks ok nok c s = record { config = c; pushed = begun true ok nok c ∷ []; state = s }
+  checks ok nok c s = record { config = c; pushed = frame_at true ok nok c ∷ []; state = s }

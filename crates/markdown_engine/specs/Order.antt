@@ -22,9 +22,9 @@ abbrev pub opened_by : Kind → Name → List Name → List Name
 opened_by Enter name names = name ∷ names
 opened_by Exit name names = outer names
 
-abbrev pub opened : List Name → List Event → List Name
-opened names [] = names
-opened names (e ∷ es) = opened (opened_by e.kind e.name names) es
+abbrev pub open_after : List Name → List Event → List Name
+open_after names [] = names
+open_after names (e ∷ es) = open_after (opened_by e.kind e.name names) es
 
 abbrev pub MayStand : Kind → Name → List Name → Type 0
 MayStand Enter name names = Unit {0}
@@ -37,11 +37,11 @@ IsNested names (e ∷ es) = MayStand e.kind e.name names × IsNested (opened_by 
 
 -- the innermost open event has this name
 abbrev pub IsInnermost : Name → List Event → Type 0
-IsInnermost name events = IsFirst name (opened [] events)
+IsInnermost name events = IsFirst name (open_after [] events)
 
 -- nested, and nothing is open at the end
 abbrev pub IsBalanced : List Event → Type 0
-IsBalanced events = IsNested [] events × (opened [] events ≡ [])
+IsBalanced events = IsNested [] events × (open_after [] events ≡ [])
 
 -- the second is the first place, or one after it
 pub record Reaches (p q : Point) : Type 0 where
@@ -82,4 +82,4 @@ abbrev pub AreMarks : (List Name → List Attempt → Type 0) → List Event →
 AreMarks fits events [] = Unit {0}
 AreMarks fits events (a ∷ more) =
     let front = take a.events events in
-    (a.events ≤ length events) × AreTidy front a.point × fits (opened [] front) (a ∷ more) × AreMarks fits front more
+    (a.events ≤ length events) × AreTidy front a.point × fits (open_after [] front) (a ∷ more) × AreMarks fits front more

@@ -59,28 +59,28 @@ place_after p None = p
 place_after p (Some v) = v.next
 
 -- reading goes on at another place
-abbrev pub moved : {M : Type 0} → Point → Config M → Config M
-moved p c = record c { point = p }
+abbrev pub at_point : {M : Type 0} → Point → Config M → Config M
+at_point p c = record c { point = p }
 
 -- the byte of a place, or the end there, is handed in
-abbrev pub handed : {M : Type 0} → Config M → Point → Option VirtualByte → Config M
-handed c p v = record c { point = p; current = byte_of v; next = place_after c.next v }
+abbrev pub with_byte : {M : Type 0} → Config M → Point → Option VirtualByte → Config M
+with_byte c p v = record c { point = p; current = byte_of v; next = place_after c.next v }
 
 -- over the byte
-abbrev pub consumed : {M : Type 0} → Config M → Config M
-consumed c = record c { point = c.next; line_start = if is_feed c.current then c.next else c.line_start; previous = c.current; current = None }
+abbrev pub past_byte : {M : Type 0} → Config M → Config M
+past_byte c = record c { point = c.next; line_start = if is_feed c.current then c.next else c.line_start; previous = c.current; current = None }
 
 -- the next byte is handed in, at the text's end none
 abbrev pub feed : {M : Type 0} → Text → Config M → Config M
-feed text c = handed c (text.start c.point) (text.byte (text.start c.point))
+feed text c = with_byte c (text.start c.point) (text.byte (text.start c.point))
 
 -- back at the start of an attempt, with what isn't restored
 abbrev pub hand_on : {M : Type 0} → Config M → Config M → Config M
 hand_on start c = record c { events = start.events; point = start.point; next = start.next; line_start = start.line_start; previous = start.previous; current = start.current }
 
 -- a check goes back in any case
-abbrev pub passed : {M : Type 0} → Frame M → Config M → Config M
-passed f c = cond f.check (hand_on f.start c) c
+abbrev pub after_success : {M : Type 0} → Frame M → Config M → Config M
+after_success f c = cond f.check (hand_on f.start c) c
 
 -- `Runs text step c fs s c' v`: in c, with the attempts fs just made, and the state s next, reading ends in c', well or not
 pub data Runs {M : Type 0} (text : Text) (step : Steps M) : Config M → List (Frame M) → State → Config M → Bool → Type 0 where
@@ -88,7 +88,7 @@ pub data Runs {M : Type 0} (text : Text) (step : Steps M) : Config M → List (F
   ends-nok : {c : Config M} → Runs text step c [] states.Nok c false
   next : {c d : Config M} {v : Bool} {n : Name} → Runs text step (step (feed text c) n).config (step (feed text c) n).pushed (step (feed text c) n).state d v → Runs text step c [] (states.Next n) d v
   retry : {c d : Config M} {v : Bool} {n : Name} → Runs text step (step c n).config (step c n).pushed (step c n).state d v → Runs text step c [] (states.Retry n) d v
-  first : {c d e : Config M} {v : Bool} {s : State} {f : Frame M} {fs : List (Frame M)} → Runs text step c fs s d true → Runs text step (passed f d) [] f.ok e v → Runs text step c (f ∷ fs) s e v
+  first : {c d e : Config M} {v : Bool} {s : State} {f : Frame M} {fs : List (Frame M)} → Runs text step c fs s d true → Runs text step (after_success f d) [] f.ok e v → Runs text step c (f ∷ fs) s e v
   second : {c d e : Config M} {v : Bool} {s : State} {f : Frame M} {fs : List (Frame M)} → Runs text step c fs s d false → Runs text step (hand_on f.start d) [] f.nok e v → Runs text step c (f ∷ fs) s e v
 
 -- the mark that the code keeps of an attempt
@@ -99,18 +99,18 @@ mark f = record { check = f.check; ok = f.ok; nok = f.nok; events = length f.sta
 abbrev pub restore : {M : Type 0} → Attempt → Config M → Config M
 restore a c = record c { events = take a.events c.events; point = a.point; next = a.next; line_start = a.line_start; previous = a.previous; current = a.current }
 
-abbrev pub resumed : {M : Type 0} → Attempt → Config M → Bool → Config M
-resumed a c true = cond a.check (restore a c) c
-resumed a c false = restore a c
+abbrev pub continuation : {M : Type 0} → Attempt → Config M → Bool → Config M
+continuation a c true = cond a.check (restore a c) c
+continuation a c false = restore a c
 
-abbrev pub chosen : Attempt → Bool → State
-chosen a true = a.ok
-chosen a false = a.nok
+abbrev pub state_after : Attempt → Bool → State
+state_after a true = a.ok
+state_after a false = a.nok
 
 -- the attempts of a stack, the last of which is the innermost, go on from c and v to d and w
 abbrev pub Unwinds : {M : Type 0} → Text → Steps M → List Attempt → Config M → Bool → Config M → Bool → Type 0
 Unwinds text step [] c v d w = (c ≡ d) × (v ≡ w)
-Unwinds {M} text step (a ∷ rest) c v d w = (e : Config M) × (x : Bool) × Unwinds text step rest c v e x × Runs text step (resumed a e x) [] (chosen a x) d w
+Unwinds {M} text step (a ∷ rest) c v d w = (e : Config M) × (x : Bool) × Unwinds text step rest c v e x × Runs text step (continuation a e x) [] (state_after a x) d w
 
 -- what reading comes to, with a stack of attempts
 pub record Outcome {M : Type 0} (text : Text) (step : Steps M) (stack : List Attempt) (c : Config M) (fs : List (Frame M)) (s : State) (d : Config M) (w : Bool) : Type 0 where
@@ -120,6 +120,6 @@ pub record Outcome {M : Type 0} (text : Text) (step : Steps M) (stack : List Att
   pub unwinds : Unwinds text step stack mid how d w
 
 -- the state in which an attempt ends
-abbrev pub ended : Bool → State
-ended true = states.Ok
-ended false = states.Nok
+abbrev pub end_state : Bool → State
+end_state true = states.Ok
+end_state false = states.Nok

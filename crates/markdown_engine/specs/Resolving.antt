@@ -4,7 +4,7 @@ use Rattle.engine_events.specs.declared.resolve.Name.{Name as Resolver}
 use Rattle.engine_events.specs.declared.state.Name.{Name}
 use Rattle.engine_events.specs.declared.state.State.TheVariants as states
 use Rattle.engine_events.specs.declared.subresult.Subresult.{Subresult}
-use Rattle.engine_edits.specs.Replacement.{IsOrdered, edited}
+use Rattle.engine_edits.specs.Replacement.{IsOrdered, events_after}
 use Rattle.markdown_engine.specs.Context.{Context}
 use Rattle.markdown_engine.specs.Laws.{HoldsAt, Holds}
 use Rattle.markdown_engine.specs.Order.{AreWhole}
@@ -45,16 +45,16 @@ module _ {M : Type 0} (resolve : Resolves M) where
 
   -- the edits that were asked for are made
   abbrev pub with_edits : Config M → Config M
-  with_edits c = record c { events = edited c.map c.events; map = [] }
+  with_edits c = record c { events = events_after c.map c.events; map = [] }
 
   -- all that are registered run in their order, and then the edits are made
   abbrev pub resolve_all : Config M → Resolved M
   resolve_all c = let r = resolve_each c.resolvers (record c { resolvers = [] }) nothing_found in record r { config = with_edits r.config }
 
   -- if that is asked for
-  abbrev pub finished : Bool → Config M → Resolved M
-  finished false c = record { config = c; found = nothing_found }
-  finished true c = resolve_all c
+  abbrev pub resolution : Bool → Config M → Resolved M
+  resolution false c = record { config = c; found = nothing_found }
+  resolution true c = resolve_all c
 
 -- what holds of a configuration where these resolvers are still to run
 abbrev pub SettlesAt : Type 0 → Type 1
@@ -70,7 +70,7 @@ pub record ResolvesAt {M : Type 0} (valid : HoldsAt M) (resolve : Resolves M) (s
   pub keeps : (c : Config M) (n : Resolver) (ns : List Resolver) → settled c (n ∷ ns) → settled (resolve c n).config ns
   -- the edits can be made, and leave events that are balanced and in order
   pub ordered : (c : Config M) → settled c [] → IsOrdered 0 c.map (length c.events)
-  pub whole : (c : Config M) → settled c [] → AreWhole (edited c.map c.events) c.point
+  pub whole : (c : Config M) → settled c [] → AreWhole (events_after c.map c.events) c.point
 
 abbrev pub Resolving : {T M : Type 0} → Holds T M → (Context T → Resolves M) → Settles T M → Type 0
 Resolving {T} valid resolve settled = (x : Context T) → ResolvesAt (valid x) (resolve x) (settled x)

@@ -7,11 +7,11 @@ use Rattle.engine_events.specs.declared.place.Point.{Point}
 use Rattle.engine_events.specs.declared.state.State.TheVariants as states
 use Rattle.engine_events.specs.Events.{link_of, point_of}
 use Rattle.engine_edits.specs.Edits.{Placed}
-use Rattle.engine_edits.specs.Replacement.{IsOrdered, Places, edited, places, relinked, relinked_as}
+use Rattle.engine_edits.specs.Replacement.{IsOrdered, Places, events_after, places, with_new_links, relinked_as}
 use Rattle.markdown_engine.specs.declared.attempt.Attempt.{Attempt}
 use Rattle.markdown_engine.specs.Laws.{FallsAt, HoldsAt, KeepsAt, LawfulAt, RanksAt}
-use Rattle.markdown_engine.specs.Order.{AreWhole, InOrder, IsNested, MayStand, Reaches, opened, opened_by, text_start}
-use Rattle.markdown_engine.specs.Reading.{Config, Steps, restore, resumed}
+use Rattle.markdown_engine.specs.Order.{AreWhole, InOrder, IsNested, MayStand, Reaches, open_after, opened_by, text_start}
+use Rattle.markdown_engine.specs.Reading.{Config, Steps, restore, continuation}
 use Rattle.markdown_engine.specs.Resolving.{IsUnresolved, Leaves, ResolvesAt, Unresolved, resolves_nothing, settles_whole}
 
 module _ (ps : Places) where
@@ -27,35 +27,35 @@ module _ (ps : Places) where
   same_point e None = refl
   same_point e (Some l) = refl
 
-  pub still_nested : (names : List EventName) (es : List Event) → IsNested names es → IsNested names (map (relinked ps) es)
+  pub still_nested : (names : List EventName) (es : List Event) → IsNested names es → IsNested names (map (with_new_links ps) es)
   still_nested names [] h = h
   still_nested names (e ∷ es) h =
       let k = nests_alike e (link_of e) names in
-      (k.0 h.0, subst (λ (z : List EventName). IsNested z (map (relinked ps) es)) (sym k.1) (still_nested (opened_by e.kind e.name names) es h.1))
+      (k.0 h.0, subst (λ (z : List EventName). IsNested z (map (with_new_links ps) es)) (sym k.1) (still_nested (opened_by e.kind e.name names) es h.1))
 
-  pub still_opened : (names : List EventName) (es : List Event) → opened names (map (relinked ps) es) ≡ opened names es
+  pub still_opened : (names : List EventName) (es : List Event) → open_after names (map (with_new_links ps) es) ≡ open_after names es
   still_opened names [] = refl
   still_opened names (e ∷ es) =
-      ap (λ (z : List EventName). opened z (map (relinked ps) es)) (nests_alike e (link_of e) names).1 ∙ still_opened (opened_by e.kind e.name names) es
+      ap (λ (z : List EventName). open_after z (map (with_new_links ps) es)) (nests_alike e (link_of e) names).1 ∙ still_opened (opened_by e.kind e.name names) es
 
-  still_in_order : (from to : Point) (es : List Event) → InOrder from es to → InOrder from (map (relinked ps) es) to
+  still_in_order : (from to : Point) (es : List Event) → InOrder from es to → InOrder from (map (with_new_links ps) es) to
   still_in_order from to [] h = h
   still_in_order from to (e ∷ es) h =
       let k = same_point e (link_of e) in
-      (subst (λ (z : Point). Reaches from z) (sym k) h.0, subst (λ (z : Point). InOrder z (map (relinked ps) es) to) (sym k) (still_in_order (point_of e) to es h.1))
+      (subst (λ (z : Point). Reaches from z) (sym k) h.0, subst (λ (z : Point). InOrder z (map (with_new_links ps) es) to) (sym k) (still_in_order (point_of e) to es h.1))
 
-  pub still_whole : (es : List Event) (to : Point) → AreWhole es to → AreWhole (map (relinked ps) es) to
+  pub still_whole : (es : List Event) (to : Point) → AreWhole es to → AreWhole (map (with_new_links ps) es) to
   still_whole es to h = ((still_nested [] es h.0.0, still_opened [] es ∙ h.0.1), still_in_order text_start to es h.1)
 
 -- no edits are made
-unedited : (edits : List Placed) (es : List Event) (to : Point) → edits ≡ [] → AreWhole es to → AreWhole (edited edits es) to
-unedited edits es to e h = subst (λ (z : List Placed). AreWhole (edited z es) to) (sym e) (still_whole (places [] (length es)) es to h)
+unedited : (edits : List Placed) (es : List Event) (to : Point) → edits ≡ [] → AreWhole es to → AreWhole (events_after edits es) to
+unedited edits es to e h = subst (λ (z : List Placed). AreWhole (events_after z es) to) (sym e) (still_whole (places [] (length es)) es to h)
 
 no_edits : (edits : List Placed) (count : ℕ) → edits ≡ [] → IsOrdered 0 edits count
 no_edits edits count e = subst (λ (z : List Placed). IsOrdered 0 z count) (sym e) (omega arith)
 
 module _ {M : Type 0} (size : ℕ) (valid : HoldsAt M) (step : Steps M) where
-  back : (a : Attempt) (c : Config M) (v : Bool) → IsUnresolved c → IsUnresolved (resumed a c v)
+  back : (a : Attempt) (c : Config M) (v : Bool) → IsUnresolved c → IsUnresolved (continuation a c v)
   back a c true h = elim a.check as (λ b. IsUnresolved (cond b (restore a c) c)) [ true ↦ h | false ↦ h ]
   back a c false h = h
 

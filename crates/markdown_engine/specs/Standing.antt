@@ -3,7 +3,7 @@ use Rattle.std.specs.Prelude.{◌≡◌, ℕ, List, [], ◌∷◌, slice_get, Op
 use Rattle.engine_events.specs.declared.event.Content.{Content}
 use Rattle.engine_events.specs.declared.event.Event.{Event}
 use Rattle.engine_edits.specs.Edits.{Placed}
-use Rattle.engine_edits.specs.Replacement.{Places, relinked}
+use Rattle.engine_edits.specs.Replacement.{Places, with_new_links}
 use Rattle.engine_chunks.specs.Chunks.{chunks}
 use Rattle.engine_chunks.specs.Parts.{counts, divided, places_of}
 use Rattle.markdown_engine.specs.Chains.{Chain, chains, Divides, Subtokenized}
@@ -13,7 +13,7 @@ use Rattle.markdown_engine.specs.Resolving.{Found, Resolves, found_both, nothing
 
 -- each child event that has a place stands there, and its links name the places of the others
 abbrev pub StandAt : Places → List Event → List Event → Type 0
-StandAt ps children new = (j p : ℕ) → slice_get ps j ≡ Some (Some p) → (e : Event) × (slice_get children j ≡ Some e) × (slice_get new p ≡ Some (relinked ps e))
+StandAt ps children new = (j p : ℕ) → slice_get ps j ≡ Some (Some p) → (e : Event) × (slice_get children j ≡ Some e) × (slice_get new p ≡ Some (with_new_links ps e))
 
 module _ {M : Type 0} (step : Steps M) (resolve : Resolves M) (bytes : List ℕ) (machine : M) (old new : List Event) where
   -- so it is with the child events of each of these chains, before which so many events go and come

@@ -6,7 +6,7 @@ use Rattle.markdown_engine.specs.declared.attempt.Attempt.{Attempt}
 use Rattle.markdown_engine.specs.declared.virtual_text.VirtualByte.{VirtualByte}
 use Rattle.markdown_engine.specs.Laws.{IsAhead, IsFed, IsFront, IsStill}
 use Rattle.markdown_engine.specs.OrderLaws.{handed_leads}
-use Rattle.markdown_engine.specs.Reading.{Config, handed}
+use Rattle.markdown_engine.specs.Reading.{Config, with_byte}
 
 -- what holds of both branches of a test holds of the whole
 pub by_test : {A : Type 0} (P : A → Type 0) (t : Bool) (x y : A) → P x → P y → P (if t then x else y)
@@ -34,6 +34,6 @@ pub same_place : {M : Type 0} (c : Config M) → IsStill c c
 same_place c = record { point = refl; next = refl; line_start = refl; previous = refl; current = refl }
 
 -- a byte that is handed in leads on, and leaves less
-pub handed_ahead : {M : Type 0} (size : ℕ) (c : Config M) (p : Point) (v : Option VirtualByte) → IsFed size c.point p v → IsAhead size (handed c p v)
+pub handed_ahead : {M : Type 0} (size : ℕ) (c : Config M) (p : Point) (v : Option VirtualByte) → IsFed size c.point p v → IsAhead size (with_byte c p v)
 handed_ahead size c p None fed = record { less = λ b e. absurd (let f : None ≡ Some b = e in cc); leads = handed_leads size c p None fed }
 handed_ahead size c p (Some w) fed = record { less = λ b e. (fed.read w refl).falls; leads = handed_leads size c p (Some w) fed }

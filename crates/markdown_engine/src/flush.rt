@@ -41,7 +41,7 @@ impl<'a, M: Machine<T>, T: Tables, A: Allocator + Clone> Tokenizer<'a, M, T, A> 
     ghost use Rattle.std.specs.Prelude.{◌≡◌, ◌⊎◌, IfErr, IfOk, IsErr, OnErr, OnOk, [], false, true};
     ghost use Rattle.markdown_options.specs.Messages.{IsOutOfMemory};
     ghost use Rattle.engine_events.specs.declared.state.State.TheVariants as states;
-    ghost use Rattle.markdown_engine.specs.Machine.{Completes, IsResolved, bytes_of, read_with, shown};
+    ghost use Rattle.markdown_engine.specs.Machine.{Completes, IsResolved, bytes_of, read_with, view_config};
     ghost use Rattle.markdown_engine.specs.Evaluation.{IsReadingOf};
     ghost use Rattle.markdown_engine.specs.Order.{AreWhole};
     ghost use Rattle.markdown_engine.specs.Resolving.{found_in, nothing_found, resolve_all, resolve_each};
@@ -53,7 +53,7 @@ impl<'a, M: Machine<T>, T: Tables, A: Allocator + Clone> Tokenizer<'a, M, T, A> 
     /// Once memory was refused, an error is answered.
     pub fn flush(&mut self, state: State, resolve: bool) -> Result<Subresult<A>, Message>
         requires end { IsCut (bytes_of self.old) self.old.end }
-        requires valid { (self.old.failed ≡ true) ⊎ M.valid (read_with self.old) (shown M.seen self.old) self.old.attempts.items state }
+        requires valid { (self.old.failed ≡ true) ⊎ M.valid (read_with self.old) (view_config M.seen self.old) self.old.attempts.items state }
         ensures completed { IfOk result (λ found. Completes M.seen M.step M.resolved self.old.end resolve state self.old self.new (found_in found)) }
         ensures evaluated { IfOk result (λ found. IsReadingOf M.seen M.step M.rank M.resolved self.old.end resolve state self.old self.new (found_in found)) }
         ensures done { IfOk result (λ found. found.done ≡ false) }
@@ -73,7 +73,7 @@ impl<'a, M: Machine<T>, T: Tables, A: Allocator + Clone> Tokenizer<'a, M, T, A> 
         resolve: bool,
     ) -> Result<Subresult<A>, Message>
         requires to { IsCut (bytes_of self.old) to }
-        requires valid { (self.old.failed ≡ true) ⊎ M.valid (read_with self.old) (shown M.seen self.old) self.old.attempts.items state }
+        requires valid { (self.old.failed ≡ true) ⊎ M.valid (read_with self.old) (view_config M.seen self.old) self.old.attempts.items state }
         ensures completed { IfOk result (λ found. Completes M.seen M.step M.resolved to resolve state self.old self.new (found_in found)) }
         ensures done { IfOk result (λ found. found.done ≡ false) }
         ensures whole { OnOk result (AreWhole self.new.events.items self.new.point) }
@@ -97,7 +97,7 @@ impl<'a, M: Machine<T>, T: Tables, A: Allocator + Clone> Tokenizer<'a, M, T, A> 
         resolve: bool,
     ) -> Result<Subresult<A>, Message>
         requires to { IsCut (bytes_of self.old) to }
-        requires valid { M.valid (read_with self.old) (shown M.seen self.old) self.old.attempts.items state }
+        requires valid { M.valid (read_with self.old) (view_config M.seen self.old) self.old.attempts.items state }
         ensures completed { IfOk result (λ found. Completes M.seen M.step M.resolved to resolve state self.old self.new (found_in found)) }
         ensures done { IfOk result (λ found. found.done ≡ false) }
         ensures whole { OnOk result (AreWhole self.new.events.items self.new.point) }
@@ -115,9 +115,9 @@ impl<'a, M: Machine<T>, T: Tables, A: Allocator + Clone> Tokenizer<'a, M, T, A> 
 
     /// Runs the resolvers that are registered, and makes the edits.
     fn resolve_all(&mut self, found: &mut Subresult<A>) -> Result<(), Message>
-        requires settled { M.settled (read_with self.old) (record (shown M.seen self.old) { resolvers = [] }) self.old.resolvers.items }
+        requires settled { M.settled (read_with self.old) (record (view_config M.seen self.old) { resolvers = [] }) self.old.resolvers.items }
         requires nothing { found_in found.old ≡ nothing_found }
-        ensures resolved { OnOk result (IsResolved M.seen (resolve_all (M.resolved (read_with self.old)) (shown M.seen self.old)) self.new found.new) }
+        ensures resolved { OnOk result (IsResolved M.seen (resolve_all (M.resolved (read_with self.old)) (view_config M.seen self.old)) self.new found.new) }
         ensures done { found.new.done ≡ found.old.done }
         ensures whole { OnOk result (AreWhole self.new.events.items self.new.point) }
         ensures memory { IfErr result (λ message. IsOutOfMemory message) }
@@ -134,10 +134,10 @@ impl<'a, M: Machine<T>, T: Tables, A: Allocator + Clone> Tokenizer<'a, M, T, A> 
         names: &[resolve::Name],
         found: &mut Subresult<A>,
     ) -> Result<(), Message>
-        requires settled { M.settled (read_with self.old) (shown M.seen self.old) names.now }
+        requires settled { M.settled (read_with self.old) (view_config M.seen self.old) names.now }
         ensures resolved { OnOk result (IsResolved M.seen (resolve_each
-            (M.resolved (read_with self.old)) names.now (shown M.seen self.old) (found_in found.old)) self.new found.new) }
-        ensures settled { OnOk result (M.settled (read_with self.old) (shown M.seen self.new) []) }
+            (M.resolved (read_with self.old)) names.now (view_config M.seen self.old) (found_in found.old)) self.new found.new) }
+        ensures settled { OnOk result (M.settled (read_with self.old) (view_config M.seen self.new) []) }
         ensures done { found.new.done ≡ found.old.done }
         ensures memory { IfErr result (λ message. IsOutOfMemory message) }
     {

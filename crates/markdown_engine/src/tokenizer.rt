@@ -2,9 +2,11 @@
 ghost use Rattle.std.specs.Prelude.{◌≡◌, ◌+◌, ◌<◌, ◌≤◌, ◌++◌, [], ◌∷◌, length, None, Some, false, true, ◌⊎◌, List, OnOk, OnErr, IfOk, IfErr, IsOk};
 ghost use Rattle.markdown_options.specs.Messages.{IsOutOfMemory};
 ghost use Rattle.engine_events.specs.declared.state.State.TheVariants as states;
-ghost use Rattle.markdown_engine.specs.Reading.{Steps, mark, restore, resumed, handed};
+ghost use Rattle.markdown_engine.specs.Reading.{Steps, mark, restore, continuation, with_byte};
 ghost use Rattle.std.specs.BTreeMap.{insert_entry};
-ghost use Rattle.markdown_engine.specs.Machine.{Around, Became, Began, Ended, Flushed, Pushed, Reached, Refused, SameText, Shows, begun, bytes_of, config, consumed, entered, exited, read_with, shown, source, to_run_first, to_run_last};
+ghost use Rattle.markdown_engine.specs.Machine.{Around, Became, Began, Ended, Flushed, Pushed, Reached, Refused, SameText, Shows, frame_at};
+ghost use Rattle.markdown_engine.specs.Machine.{bytes_of, config, past_byte, with_enter, with_exit, read_with, view_config, source};
+ghost use Rattle.markdown_engine.specs.Machine.{to_run_first, to_run_last};
 ghost use Rattle.markdown_engine.specs.Resolvers.{AreOnce, is_registered};
 ghost use Rattle.markdown_engine.specs.VirtualText.{is_before, line_start};
 ghost use Rattle.markdown_engine.specs.Laws.{Holds, Ranks, Lawful};
@@ -50,17 +52,17 @@ pub trait Machine<T: Tables> {
 
     /// Calls a state.
     fn call<'a, A: Allocator>(tokenizer: &mut Tokenizer<'a, Self, T, A>, name: Name) -> State
-        requires { valid (read_with tokenizer.old) (shown seen tokenizer.old) tokenizer.old.attempts.items (states.Retry name) }
-        ensures { Shows seen (step (read_with tokenizer.old) (shown seen tokenizer.old) name) tokenizer.old tokenizer.new result };
+        requires { valid (read_with tokenizer.old) (view_config seen tokenizer.old) tokenizer.old.attempts.items (states.Retry name) }
+        ensures { Shows seen (step (read_with tokenizer.old) (view_config seen tokenizer.old) name) tokenizer.old tokenizer.new result };
 
     /// Runs a resolver, and answers what it found, if anything.
     fn resolve<'a, A: Allocator + Clone>(
         tokenizer: &mut Tokenizer<'a, Self, T, A>,
         name: resolve::Name,
     ) -> Result<Option<Subresult<A>>, Message>
-        requires { (more : List Resolver) × settled (read_with tokenizer.old) (shown seen tokenizer.old) (name ∷ more) }
-        ensures config { OnOk result (shown seen tokenizer.new ≡ (resolved (read_with tokenizer.old) (shown seen tokenizer.old) name).config) }
-        ensures found { IfOk result (λ found. found_of found ≡ (resolved (read_with tokenizer.old) (shown seen tokenizer.old) name).found) }
+        requires { (more : List Resolver) × settled (read_with tokenizer.old) (view_config seen tokenizer.old) (name ∷ more) }
+        ensures config { OnOk result (view_config seen tokenizer.new ≡ (resolved (read_with tokenizer.old) (view_config seen tokenizer.old) name).config) }
+        ensures found { IfOk result (λ found. found_of found ≡ (resolved (read_with tokenizer.old) (view_config seen tokenizer.old) name).found) }
         ensures parse_state { tokenizer.new.parse_state.now ≡ tokenizer.old.parse_state.now }
         ensures memory { IfErr result (λ message. IsOutOfMemory message) };
 
@@ -186,7 +188,7 @@ impl<'a, M, T, A: Allocator + Clone> Tokenizer<'a, M, T, A> {
 impl<'a, M, T, A: Allocator> Tokenizer<'a, M, T, A> {
     /// Adds that something begins here.
     pub fn enter(&mut self, name: EventName) -> Result<(), Message>
-        ensures became { OnOk result (Became (entered name None (config self.old)) self.old self.new) }
+        ensures became { OnOk result (Became (with_enter name None (config self.old)) self.old self.new) }
         ensures text { SameText self.old self.new }
         ensures memory { IfErr result (λ message. IsOutOfMemory message) }
     {
@@ -199,7 +201,7 @@ impl<'a, M, T, A: Allocator> Tokenizer<'a, M, T, A> {
     /// States change no event that was added, so the link names the chunk before, if there is one, and
     /// none after; a resolver joins the chunks at the end, by `link_all`.
     pub fn enter_link(&mut self, name: EventName, link: Link) -> Result<(), Message>
-        ensures became { OnOk result (Became (entered name (Some link) (config self.old)) self.old self.new) }
+        ensures became { OnOk result (Became (with_enter name (Some link) (config self.old)) self.old self.new) }
         ensures text { SameText self.old self.new }
         ensures memory { IfErr result (λ message. IsOutOfMemory message) }
     {
@@ -210,7 +212,7 @@ impl<'a, M, T, A: Allocator> Tokenizer<'a, M, T, A> {
     /// Adds that what was entered last ends here; right after a line ending, at the line's start.
     pub fn exit(&mut self, name: EventName) -> Result<(), Message>
         requires { IsInnermost name self.old.events.items }
-        ensures became { OnOk result (Became (exited name (config self.old)) self.old self.new) }
+        ensures became { OnOk result (Became (with_exit name (config self.old)) self.old self.new) }
         ensures text { SameText self.old self.new }
         ensures memory { IfErr result (λ message. IsOutOfMemory message) }
     {
@@ -234,7 +236,7 @@ impl<'a, M, T, A: Allocator> Tokenizer<'a, M, T, A> {
 
     /// Moves over the byte.
     pub fn consume(&mut self)
-        ensures { Became (consumed (config self.old)) self.old self.new }
+        ensures { Became (past_byte (config self.old)) self.old self.new }
     {
         // By fields, no two neighbours at once: a wider copy waits for the stores that `hand` has
         // just made, and takes twice as long as the rest of a step.
@@ -252,7 +254,7 @@ impl<'a, M, T, A: Allocator> Tokenizer<'a, M, T, A> {
     /// Tries what follows: goes on with one state if it goes well, and otherwise goes back here
     /// and on with another.
     pub fn attempt(&mut self, ok: State, nok: State) -> Result<(), Message>
-        ensures began { Began (begun false ok nok (config self.old)) self.old self.new result }
+        ensures began { Began (frame_at false ok nok (config self.old)) self.old self.new result }
         ensures memory { IfErr result (λ message. IsOutOfMemory message) }
     {
         self.begin(false, ok, nok)
@@ -260,7 +262,7 @@ impl<'a, M, T, A: Allocator> Tokenizer<'a, M, T, A> {
 
     /// Looks ahead: goes back here in any case, and on with one state or the other.
     pub fn check(&mut self, ok: State, nok: State) -> Result<(), Message>
-        ensures began { Began (begun true ok nok (config self.old)) self.old self.new result }
+        ensures began { Began (frame_at true ok nok (config self.old)) self.old self.new result }
         ensures memory { IfErr result (λ message. IsOutOfMemory message) }
     {
         self.begin(true, ok, nok)
@@ -268,7 +270,7 @@ impl<'a, M, T, A: Allocator> Tokenizer<'a, M, T, A> {
 
     /// Begins an attempt here.
     fn begin(&mut self, check: bool, ok: State, nok: State) -> Result<(), Message>
-        ensures began { Began (begun check ok nok (config self.old)) self.old self.new result }
+        ensures began { Began (frame_at check ok nok (config self.old)) self.old self.new result }
         ensures memory { IfErr result (λ message. IsOutOfMemory message) }
     {
         let attempt = Attempt {
@@ -340,7 +342,7 @@ impl<'a, M, T, A: Allocator> Tokenizer<'a, M, T, A> {
 
     /// Goes back to the mark of an attempt, unless it went well and isn't a check.
     fn resume(&mut self, attempt: &Attempt, well: bool)
-        ensures config { config self.new ≡ resumed attempt.now (config self.old) well }
+        ensures config { config self.new ≡ continuation attempt.now (config self.old) well }
         ensures attempts { self.new.attempts ≡ self.old.attempts }
         ensures text { SameText self.old self.new }
     {
@@ -351,7 +353,7 @@ impl<'a, M, T, A: Allocator> Tokenizer<'a, M, T, A> {
 
     /// Hands in the byte of a place, or the text's end there.
     fn hand(&mut self, place: Point, given: Option<VirtualByte>)
-        ensures config { config self.new ≡ handed (config self.old) place given }
+        ensures config { config self.new ≡ with_byte (config self.old) place given }
         ensures attempts { self.new.attempts ≡ self.old.attempts }
         ensures text { SameText self.old self.new }
     {
@@ -370,7 +372,8 @@ impl<'a, M: Machine<T>, T: Tables, A: Allocator> Tokenizer<'a, M, T, A> {
     ghost use Rattle.markdown_engine.specs.Evaluation.{StaysReadingFrom};
     ghost use Rattle.markdown_engine.specs.Laws.{MovesOn};
     ghost use Rattle.std.specs.Prelude.{◌≡◌, ◌≤◌, ◌<◌, [], length, true, false, ◌⊎◌};
-    ghost use Rattle.markdown_engine.specs.Machine.{AreCuts, Ended, Flushed, Opened, Pushed, PushedFrom, ReadWhole, Reached, Refused, bytes_of, read_with, shown, source};
+    ghost use Rattle.markdown_engine.specs.Machine.{AreCuts, Ended, Flushed, Opened, Pushed, PushedFrom, ReadWhole, Reached, Refused};
+    ghost use Rattle.markdown_engine.specs.Machine.{bytes_of, read_with, view_config, source};
     ghost use Rattle.markdown_engine.specs.VirtualText.{IsCut, byte_before, place_in, text_to};
     ghost use Rattle.markdown_engine.specs.Outcomes.{HasOutcome, HasRun};
 
@@ -396,8 +399,8 @@ impl<'a, M: Machine<T>, T: Tables, A: Allocator> Tokenizer<'a, M, T, A> {
     /// Reads up to the end of a range, which may be the text's end, too.
     fn read(&mut self, to: (usize, usize), end: bool, state: State) -> State
         requires to { IsCut (bytes_of self.old) to }
-        requires valid { Refused state ⊎ M.valid (read_with self.old) (shown M.seen self.old) self.old.attempts.items state }
-        ensures valid { Refused result ⊎ M.valid (read_with self.old) (shown M.seen self.new) self.new.attempts.items result }
+        requires valid { Refused state ⊎ M.valid (read_with self.old) (view_config M.seen self.old) self.old.attempts.items state }
+        ensures valid { Refused result ⊎ M.valid (read_with self.old) (view_config M.seen self.new) self.new.attempts.items result }
         ensures reads { Pushed M.seen (M.step (read_with self.old)) to end state self.old self.new result }
         ensures reached { Reached to self.new result }
         ensures moves_on { MovesOn result }
@@ -461,8 +464,8 @@ impl<'a, M: Machine<T>, T: Tables, A: Allocator> Tokenizer<'a, M, T, A> {
         requires from { IsCut (bytes_of self.old) from }
         requires to { IsCut (bytes_of self.old) to }
         requires moves_on { MovesOn state }
-        requires valid { (self.old.failed ≡ true) ⊎ M.valid (read_with self.old) (shown M.seen self.old) self.old.attempts.items state }
-        ensures valid { (self.new.failed ≡ true) ⊎ M.valid (read_with self.old) (shown M.seen self.new) self.new.attempts.items result }
+        requires valid { (self.old.failed ≡ true) ⊎ M.valid (read_with self.old) (view_config M.seen self.old) self.old.attempts.items state }
+        ensures valid { (self.new.failed ≡ true) ⊎ M.valid (read_with self.old) (view_config M.seen self.new) self.new.attempts.items result }
         ensures reads { (self.new.failed ≡ true) ⊎ PushedFrom M.seen (M.step (read_with self.old)) from to state self.old self.new result }
         ensures evaluated { (self.new.failed ≡ true) ⊎ StaysReadingFrom M.seen M.step M.rank from to state self.old self.new result }
         ensures moves_on { MovesOn result }
@@ -486,11 +489,11 @@ impl<'a, M: Machine<T>, T: Tables, A: Allocator> Tokenizer<'a, M, T, A> {
     /// Reads on, up to an index and a column of a tab there, where the text ends.
     pub(crate) fn finish(&mut self, to: (usize, usize), state: State) -> State
         requires to { IsCut (bytes_of self.old) to }
-        requires valid { Refused state ⊎ M.valid (read_with self.old) (shown M.seen self.old) self.old.attempts.items state }
+        requires valid { Refused state ⊎ M.valid (read_with self.old) (view_config M.seen self.old) self.old.attempts.items state }
         ensures reads { Refused result ⊎ Flushed M.seen (text_to (source self.old) to) (M.step (read_with self.old)) state self.old self.new result }
-        ensures valid { Refused result ⊎ M.valid (read_with self.old) (shown M.seen self.new) [] result }
+        ensures valid { Refused result ⊎ M.valid (read_with self.old) (view_config M.seen self.new) [] result }
         ensures parse_state { self.new.parse_state.now ≡ self.old.parse_state.now }
-        ensures total { Refused state ⊎ HasOutcome (text_to (source self.old) to) (M.step (read_with self.old)) (shown M.seen self.old)
+        ensures total { Refused state ⊎ HasOutcome (text_to (source self.old) to) (M.step (read_with self.old)) (view_config M.seen self.old)
             self.old.attempts.items state }
         ensures whole { Refused result ⊎ AreWhole self.new.events.items self.new.point }
         ensures failed { Refused result → self.new.failed ≡ true }
@@ -501,9 +504,9 @@ impl<'a, M: Machine<T>, T: Tables, A: Allocator> Tokenizer<'a, M, T, A> {
     /// Reads a text at once.
     pub fn whole(&mut self, state: State) -> State
         requires fresh { self.old.attempts.items ≡ [] }
-        requires valid { M.valid (read_with self.old) (shown M.seen self.old) [] state }
+        requires valid { M.valid (read_with self.old) (view_config M.seen self.old) [] state }
         ensures reads { Refused result ⊎ ReadWhole M.seen (source self.old) (M.step (read_with self.old)) state self.old self.new result }
-        ensures total { HasRun (text_to (source self.old) (length (bytes_of self.old), 0)) (M.step (read_with self.old)) (shown M.seen self.old) state }
+        ensures total { HasRun (text_to (source self.old) (length (bytes_of self.old), 0)) (M.step (read_with self.old)) (view_config M.seen self.old) state }
         ensures whole { Refused result ⊎ AreWhole self.new.events.items self.new.point }
         ensures failed { Refused result → self.new.failed ≡ true }
     {
@@ -516,7 +519,7 @@ impl<'a, M: Machine<T>, T: Tables, A: Allocator> Tokenizer<'a, M, T, A> {
     pub fn in_ranges(&mut self, cuts: &[(usize, usize)], state: State) -> State
         requires cuts { AreCuts (0, 0) cuts.now (length (bytes_of self.old)) }
         requires fresh { self.old.attempts.items ≡ [] }
-        requires valid { M.valid (read_with self.old) (shown M.seen self.old) [] state }
+        requires valid { M.valid (read_with self.old) (view_config M.seen self.old) [] state }
         ensures reads { Refused result ⊎ ReadWhole M.seen (source self.old) (M.step (read_with self.old)) state self.old self.new result }
         ensures whole { Refused result ⊎ AreWhole self.new.events.items self.new.point }
         ensures failed { Refused result → self.new.failed ≡ true }
@@ -535,7 +538,7 @@ impl<'a, M: Machine<T>, T: Tables, A: Allocator> Tokenizer<'a, M, T, A> {
 
 impl<'a, M: Machine<T>, T: Tables, A: Allocator + Clone> Tokenizer<'a, M, T, A> {
     ghost use Rattle.std.specs.Prelude.{◌≡◌, ◌≤◌, ◌<◌, [], length, ◌⊎◌};
-    ghost use Rattle.markdown_engine.specs.Machine.{ReadWhole, Refused, bytes_of, read_with, shown, source};
+    ghost use Rattle.markdown_engine.specs.Machine.{ReadWhole, Refused, bytes_of, read_with, view_config, source};
     ghost use Rattle.markdown_engine.specs.VirtualText.{line_start, with_skip};
 
     /// Reads a text in two ranges, the second of which is read from a later place of its line: what
@@ -545,7 +548,7 @@ impl<'a, M: Machine<T>, T: Tables, A: Allocator + Clone> Tokenizer<'a, M, T, A> 
         requires within { point.index ≤ length (bytes_of self.old) }
         requires line { cut ≤ line_start self.old.parse_state.now.bytes.now point.index }
         requires fresh { self.old.attempts.items ≡ [] }
-        requires valid { M.valid (read_with self.old) (shown M.seen self.old) [] state }
+        requires valid { M.valid (read_with self.old) (view_config M.seen self.old) [] state }
         ensures reads { Refused result ⊎ ReadWhole M.seen (with_skip (source self.old) point) (M.step (read_with self.old)) state self.old self.new result }
         ensures whole { Refused result ⊎ AreWhole self.new.events.items self.new.point }
         ensures failed { Refused result → self.new.failed ≡ true }

@@ -3,7 +3,8 @@
 //! A tab gives itself and then spaces up to the next tab stop (CommonMark 2.2). CR LF, CR and LF
 //! each give one line feed (CommonMark 2.1). A line may be read from a later place than its start.
 ghost use Rattle.std.specs.Prelude.{◌≡◌, ◌<◌, ◌≤◌, ◌+◌, ◌-◌, ◌^◌, length};
-ghost use Rattle.markdown_engine.specs.VirtualText.{IsCut, virtual_byte, tab_column, is_before, feeds, in_line, next_line, ends_before, line_start, place_in, start_of_line, Walks};
+ghost use Rattle.markdown_engine.specs.VirtualText.{IsCut, virtual_byte, tab_column, is_before, feeds, in_line, next_line, ends_before};
+ghost use Rattle.markdown_engine.specs.VirtualText.{line_start, place_in, start_of_line, Walks};
 ghost use Rattle.markdown_engine.specs.Laws.{remaining};
 ghost use Rattle.markdown_engine.specs.Order.{Reaches};
 

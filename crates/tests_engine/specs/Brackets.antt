@@ -10,8 +10,8 @@ use Rattle.engine_events.specs.declared.state.State.TheVariants as states
 use Rattle.markdown_engine.specs.declared.attempt.Attempt.{Attempt}
 use Rattle.markdown_engine.specs.Descent.{Weighs, descent}
 use Rattle.markdown_engine.specs.Laws.{IsAhead, RanksAt, remaining}
-use Rattle.markdown_engine.specs.Machine.{consumed, entered, exited, plain, tries}
-use Rattle.markdown_engine.specs.Order.{AreMarks, IsTidy, LeadsOn, opened}
+use Rattle.markdown_engine.specs.Machine.{past_byte, with_enter, with_exit, plain, tries}
+use Rattle.markdown_engine.specs.Order.{AreMarks, IsTidy, LeadsOn, open_after}
 use Rattle.markdown_engine.specs.Reading.{Config, Effect, Steps}
 use Rattle.tests_engine.specs.declared.brackets.Brackets.{Brackets}
 use Rattle.tests_engine.specs.Readings.{IsReading}
@@ -33,19 +33,19 @@ rest_state = Inline inline_states.DataInside
 module _ {M : Type 0} where
   unfoldable pub items : Option ℕ → Config M → Effect M
   items None c = plain c states.Ok
-  items (Some b) c = if b == 40 then tries (states.Next items_state) (states.Next rest_state) c (states.Retry group_state) else if b == 41 then plain c states.Ok else plain (consumed c) (states.Next items_state)
+  items (Some b) c = if b == 40 then tries (states.Next items_state) (states.Next rest_state) c (states.Retry group_state) else if b == 41 then plain c states.Ok else plain (past_byte c) (states.Next items_state)
 
   unfoldable pub rest : Option ℕ → Config M → Effect M
   rest None c = plain c states.Ok
-  rest (Some b) c = plain (consumed c) (states.Next rest_state)
+  rest (Some b) c = plain (past_byte c) (states.Next rest_state)
 
   unfoldable pub group : Option ℕ → Config M → Effect M
   group None c = plain c states.Nok
-  group (Some b) c = if b == 40 then tries (states.Next close_state) states.Nok (consumed (entered names.Label None c)) (states.Next items_state) else plain c states.Nok
+  group (Some b) c = if b == 40 then tries (states.Next close_state) states.Nok (past_byte (with_enter names.Label None c)) (states.Next items_state) else plain c states.Nok
 
   unfoldable pub close : Option ℕ → Config M → Effect M
   close None c = plain c states.Nok
-  close (Some b) c = if b == 41 then plain (exited names.Label (consumed c)) states.Ok else plain c states.Nok
+  close (Some b) c = if b == 41 then plain (with_exit names.Label (past_byte c)) states.Ok else plain c states.Nok
 
 -- the parts of a text; any other state reads the rest
 pub data Part : Type 0 where
@@ -133,9 +133,9 @@ Fits open_names stack = open_names ≡ labels stack
 module _ {M : Type 0} where
   abbrev pub IsOpen : State → List Attempt → Config M → Type 0
   IsOpen (states.Error m) stack c = Unit {0}
-  IsOpen (states.Next n) stack c = opened [] c.events ≡ labels_at (part n) stack
-  IsOpen (states.Retry n) stack c = (opened [] c.events ≡ labels_at (part n) stack) × LeadsOn c
-  IsOpen states.Ok stack c = opened [] c.events ≡ labels stack
+  IsOpen (states.Next n) stack c = open_after [] c.events ≡ labels_at (part n) stack
+  IsOpen (states.Retry n) stack c = (open_after [] c.events ≡ labels_at (part n) stack) × LeadsOn c
+  IsOpen states.Ok stack c = open_after [] c.events ≡ labels stack
   IsOpen states.Nok stack c = Unit {0}
 
   pub record IsSound (s : State) (stack : List Attempt) (c : Config M) : Type 0 where

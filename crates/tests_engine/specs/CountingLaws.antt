@@ -3,7 +3,7 @@ use Rattle.std.proofs.Common.{◌≡◌, ℕ, List, [], Option, Some, None, refl
 use Rattle.engine_events.specs.declared.event.Event.{Event}
 use Rattle.engine_events.specs.declared.state.Name.{Name}
 use Rattle.markdown_engine.specs.Laws.{LawfulAt}
-use Rattle.markdown_engine.specs.Order.{AreTidy, IsTidy, opened}
+use Rattle.markdown_engine.specs.Order.{AreTidy, IsTidy, open_after}
 use Rattle.markdown_engine.specs.OrderLaws.{from_start}
 use Rattle.markdown_engine.specs.Reading.{Config}
 use Rattle.markdown_engine.specs.Resolving.{Leaves, LeavesAt, ResolvesAt, Unresolved, resolves_nothing, settles_whole}
@@ -29,7 +29,7 @@ goes_over = record {
   after_on = λ c p order h. h;
   tidy = none_tidy;
   after_tidy = none_tidy;
-  closed = λ c h. ap (opened []) h;
+  closed = λ c h. ap (open_after []) h;
 }
 
 leaves_at : (b : Option ℕ) (c : Config ℕ) (n : Name) → LeavesAt c (at_byte (λ d. d) over_byte b c n)

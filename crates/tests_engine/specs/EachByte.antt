@@ -5,9 +5,9 @@ use Rattle.engine_events.specs.declared.state.Name.{Name}
 use Rattle.engine_events.specs.declared.state.State.TheVariants as states
 use Rattle.markdown_engine.specs.declared.virtual_text.VirtualByte.{VirtualByte}
 use Rattle.markdown_engine.specs.Laws.{HoldsAt, IsFed, IsFront, IsStill, RanksAt, remaining}
-use Rattle.markdown_engine.specs.Machine.{consumed, plain}
-use Rattle.markdown_engine.specs.Order.{IsTidy, LeadsOn, Reaches, opened}
-use Rattle.markdown_engine.specs.Reading.{Config, Effect, Steps, handed, moved}
+use Rattle.markdown_engine.specs.Machine.{past_byte, plain}
+use Rattle.markdown_engine.specs.Order.{IsTidy, LeadsOn, Reaches, open_after}
+use Rattle.markdown_engine.specs.Reading.{Config, Effect, Steps, with_byte, at_point}
 
 module _ {M : Type 0} (stop over : Config M → Config M) where
   -- a byte is gone over; the end stops
@@ -32,15 +32,15 @@ module _ {M : Type 0} (between after : Config M → Type 0) where
     pub stops : (c : Config M) → IsFront c.events (stop c).events
     pub adds : (c : Config M) → IsFront c.events (over c).events
     pub stays : (c : Config M) → IsStill c (stop c)
-    pub consumes : (c : Config M) → IsStill (consumed c) (over c)
+    pub consumes : (c : Config M) → IsStill (past_byte c) (over c)
     pub ends : (c : Config M) → between c → after (stop c)
     pub keeps : (c : Config M) → Reaches c.point c.next → between c → between (over c)
-    pub fed : (size : ℕ) (c : Config M) (p : Point) (v : Option VirtualByte) → IsFed size c.point p v → between c → between (handed c p v)
-    pub on : (c : Config M) (p : Point) → Reaches c.point p → between c → between (moved p c)
-    pub after_on : (c : Config M) (p : Point) → Reaches c.point p → after c → after (moved p c)
+    pub fed : (size : ℕ) (c : Config M) (p : Point) (v : Option VirtualByte) → IsFed size c.point p v → between c → between (with_byte c p v)
+    pub on : (c : Config M) (p : Point) → Reaches c.point p → between c → between (at_point p c)
+    pub after_on : (c : Config M) (p : Point) → Reaches c.point p → after c → after (at_point p c)
     pub tidy : (c : Config M) → between c → IsTidy c
     pub after_tidy : (c : Config M) → after c → IsTidy c
-    pub closed : (c : Config M) → after c → opened [] c.events ≡ []
+    pub closed : (c : Config M) → after c → open_after [] c.events ≡ []
 
 module _ {M : Type 0} where
   -- twice what is left, and the call at hand

@@ -9,7 +9,7 @@ use Rattle.markdown_engine.specs.declared.virtual_text.VirtualByte.{VirtualByte}
 use Rattle.markdown_engine.specs.Laws.{BeginAround, ClosesAt, Consumes, FallsAt, IsFed, KeepsAt, LawfulAt, MovesOn, Nested, TidiesAt, remaining}
 use Rattle.markdown_engine.specs.Order.{Reaches}
 use Rattle.markdown_engine.specs.OrderLaws.{handed_leads}
-use Rattle.markdown_engine.specs.Reading.{Config, handed, mark, moved}
+use Rattle.markdown_engine.specs.Reading.{Config, with_byte, mark, at_point}
 use Rattle.markdown_engine.specs.StepLaws.{some_wait}
 use Rattle.tests_engine.specs.EachByte.{GoesOver, HoldsEach, at_byte, each_byte, each_rank, left_at}
 
@@ -26,7 +26,7 @@ module _ {M : Type 0} (size : ℕ) (between after : Config M → Type 0) (stop o
   called_at None c stack n e k = (append-nil stack ∙ k.0, h.ends c k.1)
   called_at (Some b) c stack n e k = (append-nil stack ∙ k.0, h.keeps c (k.2 b e) k.1)
 
-  moved_at : (s : State) (c : Config M) (stack : List Attempt) (p : Point) → MovesOn s → Reaches c.point p → HoldsEach between after c stack s → HoldsEach between after (moved p c) stack s
+  moved_at : (s : State) (c : Config M) (stack : List Attempt) (p : Point) → MovesOn s → Reaches c.point p → HoldsEach between after c stack s → HoldsEach between after (at_point p c) stack s
   moved_at (states.Error m) c stack p on order k = k
   moved_at (states.Next n) c stack p on order k = (k.0, h.on c p order k.1)
   moved_at (states.Retry n) c stack p on order k = absurd on
@@ -47,7 +47,7 @@ module _ {M : Type 0} (size : ℕ) (between after : Config M → Type 0) (stop o
   lower_at None c stack n = omega arith
   lower_at (Some b) c stack n = subst (λ (z : Point). 2 * remaining size z + 2 < 2 * remaining size c.next + 3) (sym (h.consumes c).point) (omega arith)
 
-  fed_at : (c : Config M) (stack : List Attempt) (n : Name) (p : Point) (v : Option VirtualByte) → IsFed size c.point p v → each_rank size (handed c p v) stack (states.Retry n) ≤ each_rank size c stack (states.Next n)
+  fed_at : (c : Config M) (stack : List Attempt) (n : Name) (p : Point) (v : Option VirtualByte) → IsFed size c.point p v → each_rank size (with_byte c p v) stack (states.Retry n) ≤ each_rank size c stack (states.Next n)
   fed_at c stack n p None fed = omega arith
   fed_at c stack n p (Some w) fed = let f = (fed.read w refl).falls in let g = fed.forward in omega arith
 

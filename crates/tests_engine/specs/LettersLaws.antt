@@ -4,10 +4,10 @@ use Rattle.engine_events.specs.declared.event.Name.TheVariants.{Data}
 use Rattle.engine_events.specs.declared.place.Point.{Point}
 use Rattle.engine_events.specs.declared.state.Name.{Name}
 use Rattle.markdown_engine.specs.Laws.{LawfulAt}
-use Rattle.markdown_engine.specs.Machine.{consumed, entered}
-use Rattle.markdown_engine.specs.Order.{Reaches, opened}
+use Rattle.markdown_engine.specs.Machine.{past_byte, with_enter}
+use Rattle.markdown_engine.specs.Order.{Reaches, open_after}
 use Rattle.markdown_engine.specs.OrderLaws.{entered_opened, entered_tidy, exited_after, exited_opened, handed_tidy, moved_tidy}
-use Rattle.markdown_engine.specs.Reading.{Config, moved}
+use Rattle.markdown_engine.specs.Reading.{Config, at_point}
 use Rattle.markdown_engine.specs.Resolving.{Leaves, LeavesAt, ResolvesAt, Unresolved, resolves_nothing, settles_whole}
 use Rattle.markdown_engine.specs.ResolvingLaws.{lawful_unresolved, resolves_unresolved}
 use Rattle.markdown_engine.specs.StepLaws.{same_front, two_more}
@@ -19,14 +19,14 @@ use Rattle.tests_engine.specs.Letters.{IsBetween, letter_step, reads_letters, ro
 module _ {M : Type 0} where
   pub between_letters : (c : Config M) → Reaches c.point c.next → IsBetween c → IsBetween (round_byte c)
   between_letters c order h =
-      let d = entered Data None c in
+      let d = with_enter Data None c in
       let inside = entered_opened Data None c in
       record {
-        tidy = exited_after Data d order (opened [] c.events, inside) (entered_tidy Data None c h.tidy);
-        closed = exited_opened Data (consumed d) (opened [] c.events) inside ∙ h.closed;
+        tidy = exited_after Data d order (open_after [] c.events, inside) (entered_tidy Data None c h.tidy);
+        closed = exited_opened Data (past_byte d) (open_after [] c.events) inside ∙ h.closed;
       }
 
-  pub between_moved : (c : Config M) (p : Point) → Reaches c.point p → IsBetween c → IsBetween (moved p c)
+  pub between_moved : (c : Config M) (p : Point) → Reaches c.point p → IsBetween c → IsBetween (at_point p c)
   between_moved c p order h = record { tidy = moved_tidy c p order h.tidy; closed = h.closed }
 
 goes_over : GoesOver IsBetween IsBetween (λ c. c) (round_byte {M = Letters})

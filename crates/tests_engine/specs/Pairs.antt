@@ -11,8 +11,8 @@ use Rattle.engine_events.specs.declared.state.State.TheVariants as states
 use Rattle.markdown_engine.specs.declared.attempt.Attempt.{Attempt}
 use Rattle.markdown_engine.specs.Descent.{Weighs, descent}
 use Rattle.markdown_engine.specs.Laws.{IsAhead, RanksAt, remaining}
-use Rattle.markdown_engine.specs.Machine.{checks, consumed, entered, exited, plain}
-use Rattle.markdown_engine.specs.Order.{AreMarks, AreTidy, IsTidy, Reaches, opened}
+use Rattle.markdown_engine.specs.Machine.{checks, past_byte, with_enter, with_exit, plain}
+use Rattle.markdown_engine.specs.Order.{AreMarks, AreTidy, IsTidy, Reaches, open_after}
 use Rattle.markdown_engine.specs.Reading.{Config, Effect, Steps}
 use Rattle.markdown_engine.specs.VirtualText.{is_feed}
 use Rattle.tests_engine.specs.declared.pairs.Pairs.{Pairs}
@@ -48,7 +48,7 @@ module _ {M : Type 0} where
 
   unfoldable pub first : Option ℕ → Config M → Effect M
   first None c = plain c states.Nok
-  first (Some b) c = plain (consumed c) (states.Next second_state)
+  first (Some b) c = plain (past_byte c) (states.Next second_state)
 
   unfoldable pub second : Option ℕ → Config M → Effect M
   second None c = plain c states.Nok
@@ -56,15 +56,15 @@ module _ {M : Type 0} where
 
   unfoldable pub single : Option ℕ → Config M → Effect M
   single None c = plain c states.Ok
-  single (Some b) c = plain (exited Data (consumed (entered Data None c))) (states.Next items_state)
+  single (Some b) c = plain (with_exit Data (past_byte (with_enter Data None c))) (states.Next items_state)
 
   unfoldable pub pair : Option ℕ → Config M → Effect M
   pair None c = plain c states.Ok
-  pair (Some b) c = plain (consumed (entered AttentionSequence None c)) (states.Next close_state)
+  pair (Some b) c = plain (past_byte (with_enter AttentionSequence None c)) (states.Next close_state)
 
   unfoldable pub close : Option ℕ → Config M → Effect M
-  close None c = plain (exited AttentionSequence c) states.Ok
-  close (Some b) c = plain (exited AttentionSequence (consumed c)) (states.Next items_state)
+  close None c = plain (with_exit AttentionSequence c) states.Ok
+  close (Some b) c = plain (with_exit AttentionSequence (past_byte c)) (states.Next items_state)
 
 -- the parts of a text; any other state reads items
 pub data Part : Type 0 where
@@ -148,15 +148,15 @@ module _ {M : Type 0} where
 
   pub record IsAt (p : Part) (stack : List Attempt) (c : Config M) : Type 0 where
     pub waits : Waits p stack
-    pub open_names : opened [] c.events ≡ open_at p
+    pub open_names : open_after [] c.events ≡ open_at p
     pub exits : Exits p c
 
   abbrev pub Stands : ℕ → State → List Attempt → Config M → Type 0
   Stands size (states.Error m) stack c = ⊥
   Stands size (states.Next n) stack c = IsAt (part n) stack c
   Stands size (states.Retry n) stack c = IsAt (part n) stack c × IsAhead size c
-  Stands size states.Ok stack c = MayLook stack × (opened [] c.events ≡ [])
-  Stands size states.Nok stack c = IsLooking stack × (opened [] c.events ≡ [])
+  Stands size states.Ok stack c = MayLook stack × (open_after [] c.events ≡ [])
+  Stands size states.Nok stack c = IsLooking stack × (open_after [] c.events ≡ [])
 
   pub record IsSound (size : ℕ) (s : State) (stack : List Attempt) (c : Config M) : Type 0 where
     pub stands : Stands size s stack c

@@ -12,10 +12,10 @@ use Rattle.markdown_engine.specs.declared.virtual_text.VirtualByte.{VirtualByte}
 use Rattle.markdown_engine.specs.Descent.{AllBelow, DescendsAt}
 use Rattle.markdown_engine.specs.DescentLaws.{descends}
 use Rattle.markdown_engine.specs.Laws.{BeginAround, ClosesAt, Consumes, FallsAt, IsAhead, IsFed, IsFront, KeepsAt, LawfulAt, MovesOn, Nested, OnlyAdds, TidiesAt, remaining}
-use Rattle.markdown_engine.specs.Machine.{begun, consumed, entered, exited, plain}
-use Rattle.markdown_engine.specs.Order.{AreMarks, AreTidy, IsInnermost, IsTidy, Reaches, opened}
+use Rattle.markdown_engine.specs.Machine.{frame_at, past_byte, with_enter, with_exit, plain}
+use Rattle.markdown_engine.specs.Order.{AreMarks, AreTidy, IsInnermost, IsTidy, Reaches, open_after}
 use Rattle.markdown_engine.specs.OrderLaws.{consumed_tidy, entered_opened, entered_tidy, exit_place, exited_after, exited_opened, exited_tidy, handed_tidy, marks_pushed, moved_tidy, reaches_on, restored_fits, restored_tidy, stays, tidy_on}
-use Rattle.markdown_engine.specs.Reading.{Config, Effect, handed, mark, moved, restore, resumed}
+use Rattle.markdown_engine.specs.Reading.{Config, Effect, with_byte, mark, at_point, restore, continuation}
 use Rattle.markdown_engine.specs.Resolving.{Leaves, LeavesAt, ResolvesAt, Unresolved, resolves_nothing, settles_whole}
 use Rattle.markdown_engine.specs.ResolvingLaws.{lawful_unresolved, resolves_unresolved}
 use Rattle.markdown_engine.specs.StepLaws.{by_test, handed_ahead, same_front, same_place, two_more}
@@ -42,7 +42,7 @@ module _ {M : Type 0} where
   first_call : (b : Option ℕ) (c : Config M) → c.current ≡ b → IsCall c (first b c)
   unfolding first
   first_call None c e = calls c c states.Nok (same_front c.events) refl refl (inl (same_place c))
-  first_call (Some b) c e = calls c (consumed c) (states.Next second_state) (same_front c.events) refl refl (b, e, same_place (consumed c))
+  first_call (Some b) c e = calls c (past_byte c) (states.Next second_state) (same_front c.events) refl refl (b, e, same_place (past_byte c))
 
   second_call : (b : Option ℕ) (c : Config M) → c.current ≡ b → IsCall c (second b c)
   unfolding second
@@ -54,17 +54,17 @@ module _ {M : Type 0} where
   single_call : (b : Option ℕ) (c : Config M) → c.current ≡ b → IsCall c (single b c)
   unfolding single
   single_call None c e = calls c c states.Ok (same_front c.events) refl refl (inl (same_place c))
-  single_call (Some b) c e = calls c (exited Data (consumed (entered Data None c))) (states.Next items_state) (two_more c.events _ _) refl refl (b, e, record { point = refl; next = refl; line_start = refl; previous = refl; current = refl })
+  single_call (Some b) c e = calls c (with_exit Data (past_byte (with_enter Data None c))) (states.Next items_state) (two_more c.events _ _) refl refl (b, e, record { point = refl; next = refl; line_start = refl; previous = refl; current = refl })
 
   pair_call : (b : Option ℕ) (c : Config M) → c.current ≡ b → IsCall c (pair b c)
   unfolding pair
   pair_call None c e = calls c c states.Ok (same_front c.events) refl refl (inl (same_place c))
-  pair_call (Some b) c e = calls c (consumed (entered AttentionSequence None c)) (states.Next close_state) (_, refl) refl refl (b, e, record { point = refl; next = refl; line_start = refl; previous = refl; current = refl })
+  pair_call (Some b) c e = calls c (past_byte (with_enter AttentionSequence None c)) (states.Next close_state) (_, refl) refl refl (b, e, record { point = refl; next = refl; line_start = refl; previous = refl; current = refl })
 
   close_call : (b : Option ℕ) (c : Config M) → c.current ≡ b → IsCall c (close b c)
   unfolding close
-  close_call None c e = calls c (exited AttentionSequence c) states.Ok (_, refl) refl refl (inl (record { point = refl; next = refl; line_start = refl; previous = refl; current = refl }))
-  close_call (Some b) c e = calls c (exited AttentionSequence (consumed c)) (states.Next items_state) (_, refl) refl refl (b, e, record { point = refl; next = refl; line_start = refl; previous = refl; current = refl })
+  close_call None c e = calls c (with_exit AttentionSequence c) states.Ok (_, refl) refl refl (inl (record { point = refl; next = refl; line_start = refl; previous = refl; current = refl }))
+  close_call (Some b) c e = calls c (with_exit AttentionSequence (past_byte c)) (states.Next items_state) (_, refl) refl refl (b, e, record { point = refl; next = refl; line_start = refl; previous = refl; current = refl })
 
   part_call : (p : Part) (c : Config M) → IsCall c (step_of p c)
   part_call Items c = items_call c.current c refl
@@ -85,8 +85,8 @@ module _ {M : Type 0} where
   pairs_leaves c n = (pairs_call c n).leaves
 
 -- over the byte after an event's begin the event is the innermost
-pub single_innermost : {M : Type 0} (c d e : Config M) → d ≡ entered Data None c → e ≡ consumed d → IsInnermost Data e.events
-single_innermost {M} c d e h k = (opened [] c.events, ap (λ (z : Config M). opened [] z.events) (k ∙ ap consumed h) ∙ entered_opened Data None c)
+pub single_innermost : {M : Type 0} (c d e : Config M) → d ≡ with_enter Data None c → e ≡ past_byte d → IsInnermost Data e.events
+single_innermost {M} c d e h k = (open_after [] c.events, ap (λ (z : Config M). open_after [] z.events) (k ∙ ap past_byte h) ∙ entered_opened Data None c)
 
 -- What holds is kept
 
@@ -113,7 +113,7 @@ module _ {M : Type 0} (size : ℕ) (stack : List Attempt) where
   unfolding Fine
   plain_fine d s h = subst (λ (z : List Attempt). IsSound size s z d) (sym (append-nil stack)) h
 
-  ends : (c : Config M) → stack ≡ [] → IsTidy c → opened [] c.events ≡ [] → Fine (plain c states.Ok)
+  ends : (c : Config M) → stack ≡ [] → IsTidy c → open_after [] c.events ≡ [] → Fine (plain c states.Ok)
   ends c w t o = plain_fine c states.Ok (record { stands = (no_looks stack w, o); tidy = t; marks = no_marks c.events stack w })
 
   module _ (c : Config M) (t : IsTidy c) (m : AreMarks Fits c.events stack) (ahead : IsAhead size c) where
@@ -122,7 +122,7 @@ module _ {M : Type 0} (size : ℕ) (stack : List Attempt) where
     items_fine None e h = ends c h.waits t h.open_names
     items_fine (Some b) e h =
         let d = marked b c in
-        let a = mark (begun true (states.Next pair_state) (states.Next single_state) d) in
+        let a = mark (frame_at true (states.Next pair_state) (states.Next single_state) d) in
         let looks : IsSound size (states.Retry first_state) (a ∷ []) d = record {
           stands = (record { waits = record { check = refl; ok = refl; nok = refl }; open_names = h.open_names; exits = tt }, record { less = ahead.less; leads = ahead.leads });
           tidy = t;
@@ -133,7 +133,7 @@ module _ {M : Type 0} (size : ℕ) (stack : List Attempt) where
     first_fine : (b : Option ℕ) → c.current ≡ b → IsAt First stack c → Fine (first b c)
     unfolding first part
     first_fine None e h = plain_fine c states.Nok (record { stands = (h.waits, h.open_names); tidy = t; marks = m })
-    first_fine (Some b) e h = plain_fine (consumed c) (states.Next second_state) (record { stands = record { waits = h.waits; open_names = h.open_names; exits = tt }; tidy = consumed_tidy c (ahead.leads b e) t; marks = m })
+    first_fine (Some b) e h = plain_fine (past_byte c) (states.Next second_state) (record { stands = record { waits = h.waits; open_names = h.open_names; exits = tt }; tidy = consumed_tidy c (ahead.leads b e) t; marks = m })
 
     second_fine : (b : Option ℕ) → c.current ≡ b → IsAt Second stack c → Fine (second b c)
     unfolding second
@@ -147,12 +147,12 @@ module _ {M : Type 0} (size : ℕ) (stack : List Attempt) where
     unfolding single part
     single_fine None e h = ends c h.waits t h.open_names
     single_fine (Some b) e h =
-        let d = entered Data None c in
-        let f = exited Data (consumed d) in
+        let d = with_enter Data None c in
+        let f = with_exit Data (past_byte d) in
         let inside = entered_opened Data None c in
         plain_fine f (states.Next items_state) (record {
-          stands = record { waits = h.waits; open_names = exited_opened Data (consumed d) (opened [] c.events) inside ∙ h.open_names; exits = tt };
-          tidy = exited_after Data d (ahead.leads b e) (opened [] c.events, inside) (entered_tidy Data None c t);
+          stands = record { waits = h.waits; open_names = exited_opened Data (past_byte d) (open_after [] c.events) inside ∙ h.open_names; exits = tt };
+          tidy = exited_after Data d (ahead.leads b e) (open_after [] c.events, inside) (entered_tidy Data None c t);
           marks = no_marks f.events stack h.waits;
         })
 
@@ -160,10 +160,10 @@ module _ {M : Type 0} (size : ℕ) (stack : List Attempt) where
     unfolding pair part
     pair_fine None e h = ends c h.waits t h.open_names
     pair_fine (Some b) e h =
-        let d = entered AttentionSequence None c in
+        let d = with_enter AttentionSequence None c in
         let tidy = consumed_tidy d (ahead.leads b e) (entered_tidy AttentionSequence None c t) in
         let there = exit_place (is_feed c.current) c.next c.line_start in
-        plain_fine (consumed d) (states.Next close_state) (record {
+        plain_fine (past_byte d) (states.Next close_state) (record {
           stands = record {
             waits = h.waits;
             open_names = entered_opened AttentionSequence None c ∙ ap (λ (z : List EventName). AttentionSequence ∷ z) h.open_names;
@@ -175,11 +175,11 @@ module _ {M : Type 0} (size : ℕ) (stack : List Attempt) where
 
     close_fine : (b : Option ℕ) → c.current ≡ b → IsAt Close stack c → Fine (close b c)
     unfolding close part
-    close_fine None e h = ends (exited AttentionSequence c) h.waits (exited_tidy AttentionSequence c h.exits.place ([], h.open_names)) (exited_opened AttentionSequence c [] h.open_names)
+    close_fine None e h = ends (with_exit AttentionSequence c) h.waits (exited_tidy AttentionSequence c h.exits.place ([], h.open_names)) (exited_opened AttentionSequence c [] h.open_names)
     close_fine (Some b) e h =
-        let d = exited AttentionSequence (consumed c) in
+        let d = with_exit AttentionSequence (past_byte c) in
         plain_fine d (states.Next items_state) (record {
-          stands = record { waits = h.waits; open_names = exited_opened AttentionSequence (consumed c) [] h.open_names; exits = tt };
+          stands = record { waits = h.waits; open_names = exited_opened AttentionSequence (past_byte c) [] h.open_names; exits = tt };
           tidy = exited_after AttentionSequence c (ahead.leads b e) ([], h.open_names) t;
           marks = no_marks d.events stack h.waits;
         })
@@ -197,32 +197,32 @@ module _ {M : Type 0} (size : ℕ) (stack : List Attempt) where
   called_fine c n h = part_fine c h.tidy h.marks h.stands.1 (part n) h.stands.0
 
   at_on : (p : Part) (c d : Config M) → d.events ≡ c.events → (MayExit c → MayExit d) → IsAt p stack c → IsAt p stack d
-  at_on Items c d e f h = record { waits = h.waits; open_names = ap (opened []) e ∙ h.open_names; exits = tt }
-  at_on First c d e f h = record { waits = h.waits; open_names = ap (opened []) e ∙ h.open_names; exits = tt }
-  at_on Second c d e f h = record { waits = h.waits; open_names = ap (opened []) e ∙ h.open_names; exits = tt }
-  at_on Single c d e f h = record { waits = h.waits; open_names = ap (opened []) e ∙ h.open_names; exits = tt }
-  at_on Pair c d e f h = record { waits = h.waits; open_names = ap (opened []) e ∙ h.open_names; exits = tt }
-  at_on Close c d e f h = record { waits = h.waits; open_names = ap (opened []) e ∙ h.open_names; exits = f h.exits }
+  at_on Items c d e f h = record { waits = h.waits; open_names = ap (open_after []) e ∙ h.open_names; exits = tt }
+  at_on First c d e f h = record { waits = h.waits; open_names = ap (open_after []) e ∙ h.open_names; exits = tt }
+  at_on Second c d e f h = record { waits = h.waits; open_names = ap (open_after []) e ∙ h.open_names; exits = tt }
+  at_on Single c d e f h = record { waits = h.waits; open_names = ap (open_after []) e ∙ h.open_names; exits = tt }
+  at_on Pair c d e f h = record { waits = h.waits; open_names = ap (open_after []) e ∙ h.open_names; exits = tt }
+  at_on Close c d e f h = record { waits = h.waits; open_names = ap (open_after []) e ∙ h.open_names; exits = f h.exits }
 
-  may_exit_on : (c : Config M) (p : Point) → Reaches c.point p → MayExit c → MayExit (moved p c)
+  may_exit_on : (c : Config M) (p : Point) → Reaches c.point p → MayExit c → MayExit (at_point p c)
   may_exit_on c p k h = record { place = exit_on (is_feed c.previous) c.line_start c.point p c.events k h.place }
 
-  fed_fine : (c : Config M) (n : Name) (p : Point) (v : Option VirtualByte) → IsFed size c.point p v → pairs_valid size c stack (states.Next n) → pairs_valid size (handed c p v) stack (states.Retry n)
+  fed_fine : (c : Config M) (n : Name) (p : Point) (v : Option VirtualByte) → IsFed size c.point p v → pairs_valid size c stack (states.Next n) → pairs_valid size (with_byte c p v) stack (states.Retry n)
   unfolding pairs_valid
   fed_fine c n p v fed h = record {
-    stands = (at_on (part n) c (handed c p v) refl (λ k. record { place = (may_exit_on c p fed.order k).place }) h.stands, handed_ahead size c p v fed);
+    stands = (at_on (part n) c (with_byte c p v) refl (λ k. record { place = (may_exit_on c p fed.order k).place }) h.stands, handed_ahead size c p v fed);
     tidy = handed_tidy size c p v fed h.tidy;
     marks = h.marks;
   }
 
-  moved_stands : (c : Config M) (s : State) (p : Point) → MovesOn s → Reaches c.point p → Stands size s stack c → Stands size s stack (moved p c)
+  moved_stands : (c : Config M) (s : State) (p : Point) → MovesOn s → Reaches c.point p → Stands size s stack c → Stands size s stack (at_point p c)
   moved_stands c (states.Error m) p on k h = h
-  moved_stands c (states.Next n) p on k h = at_on (part n) c (moved p c) refl (may_exit_on c p k) h
+  moved_stands c (states.Next n) p on k h = at_on (part n) c (at_point p c) refl (may_exit_on c p k) h
   moved_stands c (states.Retry n) p on k h = absurd on
   moved_stands c states.Ok p on k h = h
   moved_stands c states.Nok p on k h = h
 
-  moved_fine : (c : Config M) (s : State) (p : Point) → MovesOn s → Reaches c.point p → pairs_valid size c stack s → pairs_valid size (moved p c) stack s
+  moved_fine : (c : Config M) (s : State) (p : Point) → MovesOn s → Reaches c.point p → pairs_valid size c stack s → pairs_valid size (at_point p c) stack s
   unfolding pairs_valid
   moved_fine c s p on k h = record { stands = moved_stands c s p on k h.stands; tidy = moved_tidy c p k h.tidy; marks = h.marks }
 
@@ -247,14 +247,14 @@ module _ {M : Type 0} (size : ℕ) where
         marks = tt;
       })
 
-  ok_fine : (c : Config M) (stack : List Attempt) (a : Attempt) → pairs_valid size c (stack ++ a ∷ []) states.Ok → pairs_valid size (resumed a c true) stack a.ok
+  ok_fine : (c : Config M) (stack : List Attempt) (a : Attempt) → pairs_valid size c (stack ++ a ∷ []) states.Ok → pairs_valid size (continuation a c true) stack a.ok
   unfolding pairs_valid part
   ok_fine c stack a h =
       let k = looks_alone stack a (looks_at stack a h.stands.0) in
       let fine = goes_back stack a c pair_state k.0 h.marks refl refl tt in
       rw k.1.check (rw k.1.ok fine)
 
-  nok_fine : (c : Config M) (stack : List Attempt) (a : Attempt) → pairs_valid size c (stack ++ a ∷ []) states.Nok → pairs_valid size (resumed a c false) stack a.nok
+  nok_fine : (c : Config M) (stack : List Attempt) (a : Attempt) → pairs_valid size c (stack ++ a ∷ []) states.Nok → pairs_valid size (continuation a c false) stack a.nok
   unfolding pairs_valid part
   nok_fine c stack a h =
       let k = looks_alone stack a h.stands.0 in
@@ -324,13 +324,13 @@ module _ {M : Type 0} (size : ℕ) where
   unfolding pairs_valid pairs_step
   call_descends c stack n h = part_descend c h.stands.1 (part n)
 
-  ok_descends : (c : Config M) (stack : List Attempt) (a : Attempt) → pairs_valid size c (stack ++ a ∷ []) states.Ok → pairs_weight size (resumed a c true) a.ok ≤ pairs_waits size a
+  ok_descends : (c : Config M) (stack : List Attempt) (a : Attempt) → pairs_valid size c (stack ++ a ∷ []) states.Ok → pairs_weight size (continuation a c true) a.ok ≤ pairs_waits size a
   unfolding pairs_valid part
   ok_descends c stack a h =
       let k = looks_alone stack a (looks_at stack a h.stands.0) in
       rw k.1.check (rw k.1.ok (omega arith))
 
-  nok_descends : (c : Config M) (stack : List Attempt) (a : Attempt) → pairs_valid size c (stack ++ a ∷ []) states.Nok → pairs_weight size (resumed a c false) a.nok ≤ pairs_waits size a
+  nok_descends : (c : Config M) (stack : List Attempt) (a : Attempt) → pairs_valid size c (stack ++ a ∷ []) states.Nok → pairs_weight size (continuation a c false) a.nok ≤ pairs_waits size a
   unfolding pairs_valid part
   nok_descends c stack a h = rw (looks_alone stack a h.stands.0).1.nok (omega arith)
 

@@ -14,11 +14,11 @@ use Rattle.engine_events.specs.declared.resolve.Name.{Name as Resolver}
 use Rattle.engine_events.specs.declared.resolve.Name.TheVariants.{Text}
 use Rattle.engine_events.specs.Events.{event, link_of, point_of}
 use Rattle.engine_edits.specs.Edits.{Placed, placed, with_edit}
-use Rattle.engine_edits.specs.Replacement.{IsOrdered, Places, edited, places, relinked, relinked_as, replaced}
+use Rattle.engine_edits.specs.Replacement.{IsOrdered, Places, events_after, places, with_new_links, relinked_as, replaced}
 use Rattle.markdown_engine.specs.Laws.{LawfulAt}
-use Rattle.markdown_engine.specs.Order.{AreWhole, InOrder, IsNested, MayStand, Reaches, opened, opened_by, text_start}
+use Rattle.markdown_engine.specs.Order.{AreWhole, InOrder, IsNested, MayStand, Reaches, open_after, opened_by, text_start}
 use Rattle.markdown_engine.specs.OrderLaws.{from_start, handed_tidy, nested_append, nested_in, opened_append, order_more, stays}
-use Rattle.markdown_engine.specs.Reading.{Config, moved}
+use Rattle.markdown_engine.specs.Reading.{Config, at_point}
 use Rattle.markdown_engine.specs.Resolving.{ResolvesAt}
 use Rattle.markdown_engine.specs.ResolvingLaws.{still_whole}
 use Rattle.markdown_engine.specs.Resolvers.{with_last}
@@ -40,7 +40,7 @@ registers names (inr h) = ap (with_last Text) h
 with_resolver : (c : Config Wrapped) → IsBetween c → IsBetween (with_text c)
 with_resolver c h = record { tidy = record { nested = h.tidy.nested; order = h.tidy.order }; closed = h.closed }
 
-moved_on : (runs : List Resolver → Type 0) (c : Config Wrapped) (p : Point) → Reaches c.point p → IsUnwrapped runs c → IsUnwrapped runs (moved p c)
+moved_on : (runs : List Resolver → Type 0) (c : Config Wrapped) (p : Point) → Reaches c.point p → IsUnwrapped runs c → IsUnwrapped runs (at_point p c)
 moved_on runs c p order h = record { between = between_moved c p order h.between; unedited = h.unedited; runs = h.runs }
 
 goes_over : GoesOver (IsUnwrapped MayRun) (IsUnwrapped WillRun) with_text over_byte
@@ -74,9 +74,9 @@ wrapped_whole : (es : List Event) (to : Point) → AreWhole es to → AreWhole (
 wrapped_whole es to h =
     let exit = event Exit Paragraph to None in
     let inside = nested_in [] (Paragraph ∷ []) es h.0.0 in
-    let last : opened (Paragraph ∷ []) es ≡ Paragraph ∷ [] = inside.1 ∙ ap (λ (z : List EventName). z ++ Paragraph ∷ []) h.0.1 in
+    let last : open_after (Paragraph ∷ []) es ≡ Paragraph ∷ [] = inside.1 ∙ ap (λ (z : List EventName). z ++ Paragraph ∷ []) h.0.1 in
     let nested : IsNested (Paragraph ∷ []) (es ++ exit ∷ []) = nested_append (Paragraph ∷ []) es (exit ∷ []) inside.0 (([], last), tt) in
-    let closed : opened (Paragraph ∷ []) (es ++ exit ∷ []) ≡ [] = opened_append (Paragraph ∷ []) es (exit ∷ []) ∙ ap (λ (z : List EventName). opened z (exit ∷ [])) last in
+    let closed : open_after (Paragraph ∷ []) (es ++ exit ∷ []) ≡ [] = opened_append (Paragraph ∷ []) es (exit ∷ []) ∙ ap (λ (z : List EventName). open_after z (exit ∷ [])) last in
     let order = order_more (first_place es to) to es exit (order_first text_start es to h.1) (stays to) in
     (((tt, nested), closed), (from_start (first_place es to), order))
 
@@ -85,7 +85,7 @@ same_place : (ps : Places) (e : Event) (l : Option Link) → point_of (relinked_
 same_place ps e None = refl
 same_place ps e (Some l) = refl
 
-same_first : (ps : Places) (es : List Event) (p : Point) → first_place (map (relinked ps) es) p ≡ first_place es p
+same_first : (ps : Places) (es : List Event) (p : Point) → first_place (map (with_new_links ps) es) p ≡ first_place es p
 same_first ps [] p = refl
 same_first ps (e ∷ es) p = same_place ps e (link_of e)
 
@@ -98,27 +98,27 @@ two_replaced f es a b =
     rw (take_all (length es - 0) (map f es) (rw (length-map es f) (omega arith)), drop_all (length es + 0) (map f es) (rw (length-map es f) (omega arith))) refl
 
 -- the edits put one event round all, whose links are moved
-edited_all : (es : List Event) (p : Point) → let edits = round_all es p [] in edited edits es ≡ event Enter Paragraph (first_place es p) None ∷ (map (relinked (places edits (length es))) es ++ event Exit Paragraph p None ∷ [])
+edited_all : (es : List Event) (p : Point) → let edits = round_all es p [] in events_after edits es ≡ event Enter Paragraph (first_place es p) None ∷ (map (with_new_links (places edits (length es))) es ++ event Exit Paragraph p None ∷ [])
 edited_all [] p = refl
 edited_all (e ∷ es) p =
     let enter = event Enter Paragraph (point_of e) None in
     let exit = event Exit Paragraph p None in
     let count = length (e ∷ es) in
     let edits = placed 0 0 (enter ∷ []) ∷ placed count 0 (exit ∷ []) ∷ [] in
-    subst (λ (z : List Placed). edited z (e ∷ es) ≡ enter ∷ (map (relinked (places z count)) (e ∷ es) ++ exit ∷ [])) (sym (two_edits (length es) (enter ∷ []) (exit ∷ []))) (two_replaced (relinked (places edits count)) (e ∷ es) enter exit)
+    subst (λ (z : List Placed). events_after z (e ∷ es) ≡ enter ∷ (map (with_new_links (places z count)) (e ∷ es) ++ exit ∷ [])) (sym (two_edits (length es) (enter ∷ []) (exit ∷ []))) (two_replaced (with_new_links (places edits count)) (e ∷ es) enter exit)
 
 round_ordered : (es : List Event) (p : Point) → IsOrdered 0 (round_all es p []) (length es)
 round_ordered [] p = (omega arith, omega arith)
 round_ordered (e ∷ es) p = subst (λ (z : List Placed). IsOrdered 0 z (length (e ∷ es))) (sym (two_edits (length es) (event Enter Paragraph (point_of e) None ∷ []) (event Exit Paragraph p None ∷ []))) (omega arith, (omega arith, omega arith))
 
-round_whole : (es : List Event) (p : Point) → AreWhole es p → AreWhole (edited (round_all es p []) es) p
+round_whole : (es : List Event) (p : Point) → AreWhole es p → AreWhole (events_after (round_all es p []) es) p
 round_whole es p h =
     let ps = places (round_all es p []) (length es) in
-    let all = wrapped_whole (map (relinked ps) es) p (still_whole ps es p h) in
-    let there = subst (λ (z : Point). AreWhole (event Enter Paragraph z None ∷ (map (relinked ps) es ++ event Exit Paragraph p None ∷ [])) p) (same_first ps es p) all in
+    let all = wrapped_whole (map (with_new_links ps) es) p (still_whole ps es p h) in
+    let there = subst (λ (z : Point). AreWhole (event Enter Paragraph z None ∷ (map (with_new_links ps) es ++ event Exit Paragraph p None ∷ [])) p) (same_first ps es p) all in
     subst (λ (z : List Event). AreWhole z p) (sym (edited_all es p)) there
 
-with_map : (edits : List Placed) (es : List Event) (p : Point) → edits ≡ round_all es p [] → IsOrdered 0 edits (length es) × (AreWhole es p → AreWhole (edited edits es) p)
+with_map : (edits : List Placed) (es : List Event) (p : Point) → edits ≡ round_all es p [] → IsOrdered 0 edits (length es) × (AreWhole es p → AreWhole (events_after edits es) p)
 with_map edits es p e = rw e (round_ordered es p, round_whole es p)
 
 begun_settled : (c : Config Wrapped) (names : List Resolver) → names ≡ only_text → IsUnwrapped WillRun c → settles_wrapped (record c { resolvers = [] }) names

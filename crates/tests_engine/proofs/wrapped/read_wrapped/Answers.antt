@@ -9,7 +9,7 @@ use Rattle.markdown_engine.specs.declared.attempt.Attempt.{Attempt}
 use Rattle.markdown_engine.specs.declared.tokenizer.Tokenizer.{Tokenizer}
 use Rattle.markdown_engine.specs.Machine.{Around, Begins, Completed, GoesAll, IsAfter, Opened, Refused, config, fresh, source}
 use Rattle.markdown_engine.specs.Order.{text_start}
-use Rattle.markdown_engine.specs.Reading.{Config, Frame, Outcome, Runs, ends-ok, ends-nok, next, retry, first, second, feed, hand_on, moved}
+use Rattle.markdown_engine.specs.Reading.{Config, Frame, Outcome, Runs, ends-ok, ends-nok, next, retry, first, second, feed, hand_on, at_point}
 use Rattle.markdown_engine.specs.Resolving.{Found, found_in, nothing_found, resolve_each}
 use Rattle.markdown_engine.specs.VirtualText.{Source, Text, place_in, text_to, unskipped}
 use Rattle.markdown_engine.proofs.Push.{around, at_outcome, same_goes_on, unless_refused, whole_run}
@@ -42,7 +42,7 @@ module _ {T A : Type 0} (bytes : List ℕ) (machine : Wrapped) (old start new la
   opened_fresh : config old ≡ fresh text_start machine → Opened (0, 0) old start → config start ≡ fresh text_start machine
   opened_fresh e o =
       let there : o.point ≡ text_start = begins_there (source old) old.point o.point o.begins ∙ ap (λ (z : Config Wrapped). z.point) e in
-      o.config ∙ (ap (moved o.point) e ∙ ap (λ (z : Point). moved z (fresh text_start machine)) there)
+      o.config ∙ (ap (at_point o.point) e ∙ ap (λ (z : Point). at_point z (fresh text_start machine)) there)
 
   read_all : config old ≡ fresh text_start machine → old.attempts.items ≡ [] → source old ≡ unskipped bytes → new.end ≡ (length bytes, 0) → Opened (0, 0) old start → Around start new → GoesAll (λ m. m) wrapped_step (source start) (length bytes, 0) false wrapped_start start new s
       → Completed (λ m. m) (text_to (source new) new.end) wrapped_step wraps_all true s new last found → IsWrapped bytes machine last.events.items found

@@ -1,5 +1,5 @@
 use Rattle.std.proofs.Common.{◌≡◌, ◌∙◌, refl, sym, true, false}
-use Rattle.markdown_engine.specs.Machine.{shown, read_with, source}
+use Rattle.markdown_engine.specs.Machine.{view_config, read_with, source}
 use Rattle.markdown_engine.specs.Resolving.{found_in}
 use Rattle.markdown_engine.specs.VirtualText.{text_to}
 use Rattle.markdown_engine.proofs.Push.{not_refused, same_read, unless_refused}
@@ -16,7 +16,7 @@ resolve_all-requires g c =
     let well = read_well g.M.Machine.seen (g.M.Machine.valid x) (text_to (source old) c.args.to) (g.M.Machine.step x) c.args.state old mid c.finish.result resolving.well (not_refused c.finish.result c.in_default.not-Error) c.finish.ensures.valid c.finish.ensures.reads in
     let at : read_with mid ≡ x = same_read old mid c.finish.ensures.parse_state in
     record {
-      settled = settled_at g.M.Machine.settled x (read_with mid) _ mid.resolvers.items (sym at) (resolving.begins (shown g.M.Machine.seen mid) well.0);
+      settled = settled_at g.M.Machine.settled x (read_with mid) _ mid.resolvers.items (sym at) (resolving.begins (view_config g.M.Machine.seen mid) well.0);
       nothing = c.in_ok-found.ensures.found;
     }
 
@@ -29,7 +29,7 @@ returns g c =
     let well = read_well g.M.Machine.seen (g.M.Machine.valid x) (text_to (source old) c.args.to) (g.M.Machine.step x) c.args.state old mid c.finish.result resolving.well (not_refused c.finish.result c.in_default.not-Error) c.finish.ensures.valid c.finish.ensures.reads in
     let at : read_with mid ≡ x = same_read old mid c.finish.ensures.parse_state in
     elim c.if-resolve.branch [
-      | then-resolve+in_ok-resolve_all w ↦ rw (w.self-is, w.found-is) (let said = all_at g.M.Machine.resolved (read_with mid) x (shown g.M.Machine.seen mid) (shown g.M.Machine.seen w.resolve_all.new.self) (found_in w.resolve_all.new.found) at w.in_ok-resolve_all.ensures.resolved.config w.in_ok-resolve_all.ensures.resolved.found in record {
+      | then-resolve+in_ok-resolve_all w ↦ rw (w.self-is, w.found-is) (let said = all_at g.M.Machine.resolved (read_with mid) x (view_config g.M.Machine.seen mid) (view_config g.M.Machine.seen w.resolve_all.new.self) (found_in w.resolve_all.new.found) at w.in_ok-resolve_all.ensures.resolved.config w.in_ok-resolve_all.ensures.resolved.found in record {
         completed = completed_if g.M.Machine.seen (text_to (source old) c.args.to) (g.M.Machine.step x) (g.M.Machine.resolved x) c.args.state old w.resolve_all.new.self (found_in w.resolve_all.new.found) true c.args.resolve (sym w.if-resolve.true)
             (completed_all g.M.Machine.seen (text_to (source old) c.args.to) (g.M.Machine.step x) (g.M.Machine.resolved x) c.args.state old mid w.resolve_all.new.self (found_in w.resolve_all.new.found) well.1 said.0 said.1);
         done = w.in_ok-resolve_all.ensures.done ∙ c.in_ok-found.ensures.done;

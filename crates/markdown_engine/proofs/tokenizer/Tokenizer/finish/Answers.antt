@@ -1,5 +1,5 @@
 use Rattle.std.proofs.Common.{refl, length, inl, inr}
-use Rattle.markdown_engine.specs.Machine.{shown, read_with, source}
+use Rattle.markdown_engine.specs.Machine.{view_config, read_with, source}
 use Rattle.markdown_engine.specs.VirtualText.{text_to}
 use Rattle.markdown_engine.proofs.Order.{read_whole}
 use Rattle.markdown_engine.proofs.Push.{ended_valid, flushed}
@@ -19,7 +19,7 @@ returns-clause-total g c =
     elim c.requires.valid [
       | inl r ↦ inl r
       | inr h ↦ inr (has_outcome (length old.parse_state.now.bytes.now) (g.M.Machine.valid x) (g.M.Machine.step x) (g.M.Machine.rank x) (g.met.M.Machine.lawful x)
-          (text_to (source old) c.args.to) (feeds_to (source old) c.args.to c.requires.to.within c.requires.to.column) (shown g.M.Machine.seen old) old.attempts.items c.args.state h)
+          (text_to (source old) c.args.to) (feeds_to (source old) c.args.to c.requires.to.within c.requires.to.column) (view_config g.M.Machine.seen old) old.attempts.items c.args.state h)
     ]
 
 pub returns-clause-whole : goal.returns-clause-whole

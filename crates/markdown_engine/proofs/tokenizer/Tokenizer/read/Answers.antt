@@ -1,6 +1,6 @@
 use Rattle.engine_events.specs.declared.state.State.TheVariants as states
 use Rattle.std.proofs.Common.{◌∙◌, inl, length, true, false, refl, sym}
-use Rattle.markdown_engine.specs.Machine.{shown, read_with, source}
+use Rattle.markdown_engine.specs.Machine.{view_config, read_with, source}
 use Rattle.markdown_engine.proofs.tokenizer.Tokenizer.read.Goals as goal
 use Rattle.markdown_engine.proofs.Push.{handing, same_read, shown_resumed, answers_at, valid_at, turn_pop, turn_retry, turn_next, smaller_next, valid_fed, same_text, same_stack, at_end, only_memory}
 
@@ -33,7 +33,7 @@ call-next-requires g c =
     let done = c.hand.ensures in
     let given = handing g.M.Machine.seen c.args.to c.args.self.now c.turns.self c.hand.new.self p b c.requires.to.within c.requires.to.column c.turns.invariant.same c.place-place.ensures c.byte_before-byte.ensures done.config done.attempts done.text.parse_state done.text.skips in
     let at = same_read c.turns.self c.hand.new.self given.same.parse_state ∙ same_read c.args.self.now c.turns.self c.turns.invariant.same.parse_state in
-    valid_at g.M.Machine.valid x (read_with c.hand.new.self) (shown g.M.Machine.seen c.hand.new.self) c.hand.new.self.attempts.items (states.Retry c.in-Next.name) (sym at) (valid_fed g.M.Machine.seen (length x.bytes) (g.M.Machine.valid x) (g.M.Machine.step x) (g.M.Machine.rank x) (g.met.M.Machine.lawful x)
+    valid_at g.M.Machine.valid x (read_with c.hand.new.self) (view_config g.M.Machine.seen c.hand.new.self) c.hand.new.self.attempts.items (states.Retry c.in-Next.name) (sym at) (valid_fed g.M.Machine.seen (length x.bytes) (g.M.Machine.valid x) (g.M.Machine.step x) (g.M.Machine.rank x) (g.met.M.Machine.lawful x)
     c.in-Next.name p b c.args.to c.args.end c.args.self.now c.turns.self c.hand.new.self c.args.state c.turns.next given c.in-Next.is c.turns.invariant)
 
 pub turns-smaller-in-Next : goal.turns-smaller-in-Next
@@ -69,4 +69,4 @@ pub returns-in-None-pop-clause-reads : goal.returns-in-None-pop-clause-reads
 returns-in-None-pop-clause-reads g c = same_stack g.M.Machine.seen (g.M.Machine.valid (read_with c.args.self.now)) (g.M.Machine.step (read_with c.args.self.now)) c.args.to c.args.end c.args.self.now c.turns.self _ c.args.state c.turns.next refl c.in-None-pop.ensures.items (record { parse_state = refl; skips = refl }) c.turns.invariant
 
 pub returns-in-Error-clause-ends : goal.returns-in-Error-clause-ends
-returns-in-Error-clause-ends g c end = inl (only_memory (length c.args.self.now.parse_state.now.bytes.now) (g.M.Machine.valid (read_with c.args.self.now)) (g.M.Machine.step (read_with c.args.self.now)) (g.met.M.Machine.lawful (read_with c.args.self.now)).keeps (shown g.M.Machine.seen c.turns.self) c.turns.self.attempts.items c.turns.next _ c.in-Error.is c.turns.invariant.holds)
+returns-in-Error-clause-ends g c end = inl (only_memory (length c.args.self.now.parse_state.now.bytes.now) (g.M.Machine.valid (read_with c.args.self.now)) (g.M.Machine.step (read_with c.args.self.now)) (g.met.M.Machine.lawful (read_with c.args.self.now)).keeps (view_config g.M.Machine.seen c.turns.self) c.turns.self.attempts.items c.turns.next _ c.in-Error.is c.turns.invariant.holds)

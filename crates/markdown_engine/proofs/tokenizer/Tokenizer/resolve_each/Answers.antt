@@ -1,7 +1,7 @@
 use Rattle.std.proofs.Common.{◌≡◌, ◌+◌, drop, subst, sym, List}
 use Rattle.std.proofs.lemmas.List.{drop_more}
 use Rattle.engine_events.specs.declared.resolve.Name.{Name as Resolver}
-use Rattle.markdown_engine.specs.Machine.{shown, read_with}
+use Rattle.markdown_engine.specs.Machine.{view_config, read_with}
 use Rattle.markdown_engine.specs.Resolving.{found_of}
 use Rattle.markdown_engine.proofs.Push.{same_read}
 use Rattle.markdown_engine.proofs.Resolves.{resolved_at, resolving_on, settled_at}
@@ -15,7 +15,7 @@ resolve-requires g c =
     let t = c.loop-name.self in
     let here = drop_more names i _ c.loop-name-test.true in
     let at = same_read c.args.self.now t c.loop-name.invariant.parse_state in
-    (drop (i + 1) names, settled_at settled (read_with c.args.self.now) (read_with t) (shown g.M.Machine.seen t) _ (sym at) (subst (λ (z : List Resolver). settled (read_with c.args.self.now) (shown g.M.Machine.seen t) z) here c.loop-name.invariant.settles))
+    (drop (i + 1) names, settled_at settled (read_with c.args.self.now) (read_with t) (view_config g.M.Machine.seen t) _ (sym at) (subst (λ (z : List Resolver). settled (read_with c.args.self.now) (view_config g.M.Machine.seen t) z) here c.loop-name.invariant.settles))
 
 pub loop-name-preserved : goal.loop-name-preserved
 loop-name-preserved g c =

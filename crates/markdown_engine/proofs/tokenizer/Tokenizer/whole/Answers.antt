@@ -1,5 +1,5 @@
 use Rattle.std.proofs.Common.{length, refl, arith}
-use Rattle.markdown_engine.specs.Machine.{shown, read_with, source}
+use Rattle.markdown_engine.specs.Machine.{view_config, read_with, source}
 use Rattle.markdown_engine.specs.VirtualText.{text_to}
 use Rattle.markdown_engine.proofs.Push.{at_once}
 use Rattle.markdown_engine.proofs.Total.{feeds_to, has_run}
@@ -14,4 +14,4 @@ returns-clause-total g c =
     let x = read_with old in
     let size = length old.parse_state.now.bytes.now in
     has_run size (g.M.Machine.valid x) (g.M.Machine.step x) (g.M.Machine.rank x) (g.met.M.Machine.lawful x)
-    (text_to (source old) (size, 0)) (feeds_to (source old) (size, 0) (omega arith) (λ e. refl)) (shown g.M.Machine.seen old) c.args.state c.requires.valid
+    (text_to (source old) (size, 0)) (feeds_to (source old) (size, 0) (omega arith) (λ e. refl)) (view_config g.M.Machine.seen old) c.args.state c.requires.valid

@@ -1,0 +1,58 @@
+-- What the machine of texts and strings does: its states by their names, and that they fit the table.
+use Rattle.std.specs.Prelude.{ℕ, Bool, false, ◌==◌, List, Option}
+use Rattle.std.specs.List.{list_any}
+use Rattle.engine_events.specs.declared.state.Inline.{Inline as InlineName}
+use Rattle.engine_events.specs.declared.state.Inline.TheVariants as inline_states
+use Rattle.engine_events.specs.declared.state.Name.{Name}
+use Rattle.engine_events.specs.declared.state.Name.TheVariants.{Inline}
+use Rattle.engine_events.specs.declared.state.State.TheVariants as states
+use Rattle.markdown_engine.specs.Context.{Context}
+use Rattle.engine_programs.specs.Bodies.{Body, Answer, Test, Tries}
+use Rattle.inline_states_table.specs.declared.Group.{Group}
+use Rattle.inline_states_table.specs.declared.Group.TheVariants as groups
+use Rattle.inline_states_table.specs.Table.{inline_group}
+use Rattle.inline_states_table.specs.Words.{next, retry}
+use Rattle.inline_states_leaves.specs.LeafStates.{leaf_body}
+use Rattle.inline_states_html.specs.HtmlStates.{html_body}
+use Rattle.inline_states_labels.specs.LabelStates.{label_body}
+use Rattle.inline_states_ends.specs.EndStates.{end_body}
+use Rattle.inline_states_gfm.specs.GfmStates.{gfm_body}
+use Rattle.inline_states.specs.declared.inlines.Inlines.{Inlines}
+use Rattle.inline_states.specs.Strings.{string_start, string_before, string_before_data}
+use Rattle.inline_states.specs.Text.{text_before, text_before_html, text_before_hard_break_escape, text_before_label_start_link, text_before_data}
+
+-- a content that may begin with a check begins at an index
+abbrev pub is_start : Inlines → ℕ → Bool
+is_start machine index = list_any (λ start. start == index) machine.starts.now
+
+-- at the start of a text: a check is tried where one may be
+abbrev pub text_start : Body Inlines
+text_start =
+    Test (λ c. is_start c.machine c.point.index)
+    (Tries false (next inline_states.TextBefore) (next inline_states.TextBefore) (retry inline_states.GfmTaskListItemCheckStart))
+    (Answer (retry inline_states.TextBefore))
+
+abbrev pub whole_body : InlineName → Body Inlines
+whole_body inline_states.StringStart = string_start
+whole_body inline_states.StringBefore = string_before
+whole_body inline_states.StringBeforeData = string_before_data
+whole_body inline_states.TextStart = text_start
+whole_body inline_states.TextBefore = text_before
+whole_body inline_states.TextBeforeHtml = text_before_html
+whole_body inline_states.TextBeforeHardBreakEscape = text_before_hard_break_escape
+whole_body inline_states.TextBeforeLabelStartLink = text_before_label_start_link
+whole_body inline_states.TextBeforeData = text_before_data
+whole_body n = Answer states.Nok
+
+module _ {T : Type 0} (texts : List ℕ → Option (List ℕ)) (x : Context T) where
+  abbrev pub body_of : Group → InlineName → Body Inlines
+  body_of groups.Leaves n = leaf_body texts x n
+  body_of groups.Html n = html_body x n
+  body_of groups.Labels n = label_body x n
+  body_of groups.Ends n = end_body x n
+  body_of groups.Gfm n = gfm_body x n
+  body_of groups.Whole n = whole_body n
+
+  unfoldable pub bodies : Name → Body Inlines
+  bodies (Inline n) = body_of (inline_group n) n
+  bodies n = Answer states.Nok

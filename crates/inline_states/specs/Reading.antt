@@ -1,0 +1,36 @@
+-- What reading by the inline states gives.
+use Rattle.std.specs.Borrow.{Bor}
+use Rattle.std.specs.Prelude.{◌≡◌, ℕ, Bool, List, [], length, Option}
+use Rattle.engine_events.specs.declared.event.Event.{Event}
+use Rattle.engine_events.specs.declared.state.Inline.{Inline as InlineName}
+use Rattle.engine_events.specs.declared.state.Inline.TheVariants as inline_states
+use Rattle.engine_events.specs.declared.state.Name.TheVariants.{Inline}
+use Rattle.engine_events.specs.declared.state.State.TheVariants as states
+use Rattle.markdown_engine.specs.Context.{Context}
+use Rattle.markdown_engine.specs.Machine.{fresh}
+use Rattle.markdown_engine.specs.Order.{text_start}
+use Rattle.markdown_engine.specs.Reading.{Config, Runs}
+use Rattle.markdown_engine.specs.VirtualText.{Text, text_to, unskipped}
+use Rattle.engine_programs.specs.Bodies.{step_by}
+use Rattle.inline_states.specs.declared.inlines.Inlines.{Inlines}
+use Rattle.inline_states.specs.Inlines.{bodies}
+
+-- all of a text
+abbrev pub text_of : List ℕ → Text
+text_of bytes = text_to (unskipped bytes) (length bytes, 0)
+
+module _ {T : Type 0} (texts : List ℕ → Option (List ℕ)) (x : Context T) where
+  -- these are the events of the one reading of a text, from a state on
+  pub record IsReading (first : InlineName) (machine : Inlines) (events : List Event) : Type 0 where
+    pub config : Config Inlines
+    pub well : Bool
+    pub runs : Runs (text_of x.bytes) (step_by (bodies texts x)) (fresh text_start machine) [] (states.Next (Inline first)) config well
+    pub read : events ≡ config.events
+
+  -- the events of a text, where contents that may begin with a check begin at these places
+  abbrev pub AreTextEvents : Bor (List ℕ) → List Event → Type 0
+  AreTextEvents starts events = IsReading inline_states.TextStart (record { starts = starts }) events
+
+  -- the events of a string
+  abbrev pub AreStringEvents : List Event → Type 0
+  AreStringEvents events = (machine : Inlines) × (machine.starts.now ≡ []) × IsReading inline_states.StringStart machine events

@@ -1,0 +1,30 @@
+-- What the states of `string` do.
+use Rattle.std.specs.Prelude.{false, refl, ◌==◌}
+use Rattle.engine_events.specs.declared.resolve.Name.TheVariants as resolvers
+use Rattle.engine_events.specs.declared.state.Inline.TheVariants as inline_states
+use Rattle.engine_events.specs.declared.state.State.TheVariants as states
+use Rattle.engine_programs.specs.Bodies.{Body, Answer, Keep, Register, Tries, Byte, On}
+use Rattle.inline_states_table.specs.Words.{next, retry}
+
+module _ {M : Type 0} where
+  -- at the first byte
+  abbrev pub string_start : Body M
+  string_start =
+      Answer (retry inline_states.StringBefore)
+
+  -- before each part
+  abbrev pub string_before : Body M
+  string_before =
+      Byte (Register resolvers.Data (Register resolvers.String (Answer states.Ok)))
+      (On (λ b. b == 38)
+      (Tries false (next inline_states.StringBefore) (next inline_states.StringBeforeData) (retry inline_states.CharacterReferenceStart))
+      (On (λ b. b == 92)
+      (Tries false (next inline_states.StringBefore) (next inline_states.StringBeforeData) (retry inline_states.CharacterEscapeStart))
+      (Answer (retry inline_states.StringBeforeData))))
+
+  -- where no construct is
+  abbrev pub string_before_data : Body M
+  string_before_data =
+      Byte (Answer states.Ok)
+      (Keep (λ c. record c.tokenize_state { seen = false }) (λ c i. refl)
+      (Tries false (next inline_states.StringBefore) states.Nok (retry inline_states.DataStart)))

@@ -1,0 +1,107 @@
+//! The machine of texts and strings.
+ghost use Rattle.std.specs.Prelude.{◌≡◌, ℕ, length};
+ghost use Rattle.markdown_engine.specs.Machine.{config, read_with};
+ghost use Rattle.markdown_engine.specs.Resolving.{resolves_nothing, settles_whole};
+ghost use Rattle.engine_programs.specs.Bodies.{step_by};
+ghost use Rattle.engine_programs.specs.Stacks.{Does, IsOpen, program_rank, program_valid};
+ghost use Rattle.engine_events.specs.declared.state.Name.TheVariants as any_states;
+ghost use Rattle.inline_states_table.specs.Table.{sorts};
+ghost use Rattle.inline_states.specs.Inlines.{bodies, is_start, text_start, whole_body};
+ghost use Rattle.inline_states.specs.declared.inlines.Inlines.{Inlines};
+ghost use Rattle.inline_states.specs.InlineLaws.{inline_lawful, inline_resolves};
+
+use crate::{string, text};
+use engine_programs::steps::attempt_to;
+use inline_states_table::{Group, group_of, next, retry};
+use markdown_engine::state::{Inline, Name, State};
+use markdown_engine::subresult::Subresult;
+use markdown_engine::tokenizer::{Machine, Tokenizer};
+use markdown_engine::{Message, resolve};
+use markdown_options::Tables;
+use std::alloc::Allocator;
+
+/// The machine of texts and strings.
+#[derive(Clone, Copy, Debug, PartialEq, Eq)]
+pub struct Inlines<'s> {
+    /// Where contents begin that may begin with a check of a task list item (GFM 5.3).
+    pub starts: &'s [usize],
+}
+
+/// At the start of a text.
+fn start_text<'s, T, A: Allocator>(tokenizer: &mut Tokenizer<'_, Inlines<'s>, T, A>) -> State
+    ensures { Does text_start tokenizer.old tokenizer.new result }
+{
+    if !tokenizer.machine.starts.contains(&tokenizer.point.index) {
+        return retry(Inline::TextBefore);
+    }
+    attempt_to(
+        tokenizer,
+        next(Inline::TextBefore),
+        next(Inline::TextBefore),
+        retry(Inline::GfmTaskListItemCheckStart),
+    )
+}
+
+/// Calls a state of texts or strings.
+fn call_whole<'s, T, A: Allocator>(
+    tokenizer: &mut Tokenizer<'_, Inlines<'s>, T, A>,
+    state: Inline,
+) -> State
+    ensures { Does (whole_body state) tokenizer.old tokenizer.new result }
+{
+    match state {
+        Inline::StringStart => string::start(tokenizer),
+        Inline::StringBefore => string::before(tokenizer),
+        Inline::StringBeforeData => string::before_data(tokenizer),
+        Inline::TextStart => start_text(tokenizer),
+        Inline::TextBefore => text::before(tokenizer),
+        Inline::TextBeforeHtml => text::before_html(tokenizer),
+        Inline::TextBeforeHardBreakEscape => text::before_hard_break_escape(tokenizer),
+        Inline::TextBeforeLabelStartLink => text::before_label_start_link(tokenizer),
+        Inline::TextBeforeData => text::before_data(tokenizer),
+        _ => State::Nok,
+    }
+}
+
+impl<'s, T: Tables> Machine<T> for Inlines<'s> {
+    ghost Seen = { Inlines };
+
+    ghost seen = { λ machine. machine };
+
+    ghost step = { λ x. step_by (bodies (T.reference_of x.tables) x) };
+
+    ghost valid = { λ x. program_valid sorts 64 (length x.bytes) };
+
+    ghost rank = { λ x. program_rank sorts 64 (length x.bytes) };
+
+    ghost resolved = { λ x. resolves_nothing };
+
+    ghost settled = { λ x. settles_whole };
+
+    #[tactic(auto, using(crate::specs::InlineLaws::inline_open), unfolding(crate::specs::Inlines::bodies))]
+    fn call<'a, A: Allocator>(tokenizer: &mut Tokenizer<'a, Self, T, A>, name: Name) -> State {
+        let Name::Inline(state) = name else {
+            return State::Nok;
+        };
+        match group_of(state) {
+            Group::Leaves => inline_states_leaves::call(tokenizer, state),
+            Group::Html => inline_states_html::call(tokenizer, state),
+            Group::Labels => inline_states_labels::call(tokenizer, state),
+            Group::Ends => inline_states_ends::call(tokenizer, state),
+            Group::Gfm => inline_states_gfm::call(tokenizer, state),
+            Group::Whole => call_whole(tokenizer, state),
+        }
+    }
+
+    #[tactic(auto)]
+    fn resolve<'a, A: Allocator + Clone>(
+        tokenizer: &mut Tokenizer<'a, Self, T, A>,
+        _name: resolve::Name,
+    ) -> Result<Option<Subresult<A>>, Message> {
+        Ok(None)
+    }
+
+    ghost lawful = { λ x. inline_lawful (T.reference_of x.tables) x };
+
+    ghost resolving = { λ x. inline_resolves (T.reference_of x.tables) x };
+}

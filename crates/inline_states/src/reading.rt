@@ -1,0 +1,54 @@
+//! The events of a text, or of a string.
+ghost use Rattle.std.specs.Prelude.{IfOk, IfErr};
+ghost use Rattle.markdown_options.specs.Messages.{IsOutOfMemory};
+ghost use Rattle.markdown_engine.specs.Context.{context};
+ghost use Rattle.markdown_engine.specs.Order.{AreInOrder, IsBalanced};
+ghost use Rattle.inline_states.specs.Reading.{AreStringEvents, AreTextEvents};
+
+use crate::inlines::Inlines;
+use markdown_engine::event::Event;
+use markdown_engine::place::START;
+use markdown_engine::state::{Inline, Name, State};
+use markdown_engine::tokenizer::Tokenizer;
+use markdown_engine::{Message, ParseState};
+use markdown_options::Tables;
+use std::alloc::Allocator;
+
+/// The events of a text; `starts` says where contents begin that may begin with a check.
+#[tactic(auto, using(crate::specs::InlineLaws::text_begins))]
+pub fn read_text<T: Tables, A: Allocator + Clone>(
+    alloc: A,
+    parse_state: &ParseState<'_, T, A>,
+    starts: &[usize],
+) -> Result<Vec<Event, A>, Message>
+    ensures reads { IfOk result (λ events. AreTextEvents (T.reference_of parse_state.now.tables.now) (context parse_state.now) starts.entry events.items) }
+    ensures balanced { IfOk result (λ events. IsBalanced events.items) }
+    ensures order { IfOk result (λ events. AreInOrder events.items) }
+    ensures memory { IfErr result (λ message. IsOutOfMemory message) }
+{
+    let machine = Inlines { starts };
+    let mut tokenizer = Tokenizer::new(alloc, START, parse_state, machine)?;
+    match tokenizer.whole(State::Next(Name::Inline(Inline::TextStart))) {
+        State::Error(message) => Err(*message),
+        _ => Ok(tokenizer.events),
+    }
+}
+
+/// The events of a string.
+#[tactic(auto, using(crate::specs::InlineLaws::string_begins))]
+pub fn read_string<T: Tables, A: Allocator + Clone>(
+    alloc: A,
+    parse_state: &ParseState<'_, T, A>,
+) -> Result<Vec<Event, A>, Message>
+    ensures reads { IfOk result (λ events. AreStringEvents (T.reference_of parse_state.now.tables.now) (context parse_state.now) events.items) }
+    ensures balanced { IfOk result (λ events. IsBalanced events.items) }
+    ensures order { IfOk result (λ events. AreInOrder events.items) }
+    ensures memory { IfErr result (λ message. IsOutOfMemory message) }
+{
+    let machine = Inlines { starts: &[] };
+    let mut tokenizer = Tokenizer::new(alloc, START, parse_state, machine)?;
+    match tokenizer.whole(State::Next(Name::Inline(Inline::StringStart))) {
+        State::Error(message) => Err(*message),
+        _ => Ok(tokenizer.events),
+    }
+}

@@ -1,0 +1,68 @@
+//! Events as texts: a sign and a name, and the index.
+use inline_states::reading::{read_string, read_text};
+use markdown_engine::event::{Event, Kind};
+use markdown_engine::{ParseOptions, ParseState};
+use markdown_tables::Builtin;
+use std::test::Fail;
+
+/// Events as a text.
+fn show(rt: &HostRuntime, events: &[Event]) -> Result<String, Fail> {
+    let mut out = String::new(rt.alloc());
+    for event in events {
+        let sign = if event.kind == Kind::Enter { '+' } else { '-' };
+        let name = event.name;
+        let index = event.point().index;
+        out.push_str(&format!(in rt.alloc(); "{sign}{name:?}{index} ")?)?;
+    }
+    Ok(out)
+}
+
+/// The events of a text as a text; `starts` says where a check of a task list item may be.
+pub fn text_events(
+    rt: &HostRuntime,
+    options: &ParseOptions,
+    starts: &[usize],
+    bytes: &[u8],
+) -> Result<String, Fail> {
+    let text = ParseState::new(rt.alloc(), bytes, options, &Builtin)?;
+    show(rt, &read_text(rt.alloc(), &text, starts)?)
+}
+
+/// The events of a text as a text, where a label and one of a footnote are defined.
+pub fn labelled_events<'t>(
+    rt: &HostRuntime,
+    options: &'t ParseOptions,
+    label: &str,
+    footnote: &str,
+    bytes: &'t [u8],
+) -> Result<String, Fail> {
+    let mut text = ParseState::new(rt.alloc(), bytes, options, &Builtin)?;
+    text.definitions.push(String::from_str(rt.alloc(), label)?)?;
+    text.gfm_footnote_definitions
+        .push(String::from_str(rt.alloc(), footnote)?)?;
+    show(rt, &read_text(rt.alloc(), &text, &[])?)
+}
+
+/// The events of a string as a text.
+pub fn string_events(rt: &HostRuntime, bytes: &[u8]) -> Result<String, Fail> {
+    let options = ParseOptions::default();
+    let text = ParseState::new(rt.alloc(), bytes, &options, &Builtin)?;
+    show(rt, &read_string(rt.alloc(), &text)?)
+}
+
+/// Whether the events of a text by CommonMark are these.
+pub fn is_text(rt: &HostRuntime, bytes: &[u8], wanted: &str) -> Result<bool, Fail> {
+    let out = text_events(rt, &ParseOptions::default(), &[], bytes)?;
+    Ok(out.as_str() == wanted)
+}
+
+/// Whether the events of a text by GFM are these.
+pub fn is_gfm(
+    rt: &HostRuntime,
+    starts: &[usize],
+    bytes: &[u8],
+    wanted: &str,
+) -> Result<bool, Fail> {
+    let out = text_events(rt, &ParseOptions::gfm(), starts, bytes)?;
+    Ok(out.as_str() == wanted)
+}

@@ -1,0 +1,88 @@
+//! Events of texts by GFM.
+use crate::display::is_gfm;
+use std::test::Fail;
+
+#[test]
+fn footnote_starts(rt: HostRuntime) -> Result<(), Fail> {
+    assert!(rt;
+        is_gfm(
+            &rt,
+            &[],
+            b"[^a",
+            "+GfmFootnoteCallLabel0 +LabelMarker0 -LabelMarker1 +GfmFootnoteCallMarker1 \
+             -GfmFootnoteCallMarker2 -GfmFootnoteCallLabel2 +Data2 -Data3 ",
+        )?
+    );
+    assert!(rt;
+        is_gfm(
+            &rt,
+            &[],
+            b"![^",
+            "+Data0 -Data1 +GfmFootnoteCallLabel1 +LabelMarker1 -LabelMarker2 +GfmFootnoteCallMarker2 \
+             -GfmFootnoteCallMarker3 -GfmFootnoteCallLabel3 ",
+        )?
+    );
+    Ok(())
+}
+
+#[test]
+fn checks(rt: HostRuntime) -> Result<(), Fail> {
+    assert!(rt;
+        is_gfm(
+            &rt,
+            &[0],
+            b"[x] a",
+            "+GfmTaskListItemCheck0 +GfmTaskListItemMarker0 -GfmTaskListItemMarker1 \
+             +GfmTaskListItemValueChecked1 -GfmTaskListItemValueChecked2 +GfmTaskListItemMarker2 \
+             -GfmTaskListItemMarker3 -GfmTaskListItemCheck3 +Data3 -Data5 ",
+        )?
+    );
+    assert!(rt;
+        is_gfm(
+            &rt,
+            &[0],
+            b"[ ]\na",
+            "+GfmTaskListItemCheck0 +GfmTaskListItemMarker0 -GfmTaskListItemMarker1 \
+             +GfmTaskListItemValueUnchecked1 -GfmTaskListItemValueUnchecked2 +GfmTaskListItemMarker2 \
+             -GfmTaskListItemMarker3 -GfmTaskListItemCheck3 +LineEnding3 -LineEnding4 +Data4 -Data5 ",
+        )?
+    );
+    assert!(rt;
+        is_gfm(
+            &rt,
+            &[0],
+            b"[ ] ",
+            "+LabelLink0 +LabelMarker0 -LabelMarker1 -LabelLink1 +Data1 -Data2 +Data2 -Data4 ",
+        )?
+    );
+    assert!(rt;
+        is_gfm(
+            &rt,
+            &[0],
+            b"[x]a",
+            "+LabelLink0 +LabelMarker0 -LabelMarker1 -LabelLink1 +Data1 -Data2 +Data2 -Data4 ",
+        )?
+    );
+    assert!(rt;
+        is_gfm(
+            &rt,
+            &[],
+            b"[x] a",
+            "+LabelLink0 +LabelMarker0 -LabelMarker1 -LabelLink1 +Data1 -Data2 +Data2 -Data5 ",
+        )?
+    );
+    Ok(())
+}
+
+#[test]
+fn strikes(rt: HostRuntime) -> Result<(), Fail> {
+    assert!(rt;
+        is_gfm(
+            &rt,
+            &[],
+            b"~~a",
+            "+AttentionSequence0 -AttentionSequence2 +Data2 -Data3 ",
+        )?
+    );
+    Ok(())
+}

@@ -1,0 +1,11 @@
+//! Tests: the events of texts and strings.
+#![tactic(auto)]
+
+#[cfg(test)]
+mod display;
+#[cfg(test)]
+mod events;
+#[cfg(test)]
+mod gfm;
+#[cfg(test)]
+mod links;
