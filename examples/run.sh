@@ -20,6 +20,11 @@ check() {
 }
 
 converts() { "$@" < "$page/stdin" | cmp - "$page/stdout"; }
+EXTENSIONS='---
+t: 1
+---
+~~a~~ $b$'
+extends() { printf '%s' "$EXTENSIONS" | "$@" --strikethrough --math --frontmatter | grep -qx '<p><del>a</del> <code class="language-math math-inline">b</code></p>'; }
 refuses() { ! printf 'a\377' | "$@" > "$scratch/out" 2>&1 && ! [ "$(head -c 1 "$scratch/out")" = '<' ]; }
 compile() { ${CC:-cc} -std=c11 -O2 -Wall -Wextra -I"$scratch/include" -L"$scratch/lib" "$@" -l:libmarkdown.a; }
 
@@ -38,10 +43,12 @@ fi
 if command -v rustc > /dev/null; then
     check "Rust" rustc --edition 2021 -O -L "$scratch/lib" -o "$scratch/rust" "$here/rust/convert.rs"
     check "Rust: a page" converts "$scratch/rust"
+    check "Rust: extensions" extends "$scratch/rust"
     check "Rust: no UTF-8" refuses "$scratch/rust"
 fi
 if command -v python3 > /dev/null; then
     check "Python: a page" converts python3 "$here/python/convert.py" "$scratch/lib/libmarkdown.so"
+    check "Python: extensions" extends python3 "$here/python/convert.py" "$scratch/lib/libmarkdown.so"
     check "Python: no UTF-8" refuses python3 "$here/python/convert.py" "$scratch/lib/libmarkdown.so"
 fi
 echo "$passed passed, $failed failed"

@@ -18,8 +18,14 @@ extern "C" {
 enum {
     /* HTML of the text is printed as it is, and links may have any protocol: for texts of authors who are trusted. */
     MARKDOWN_DANGEROUS = 1,
-    /* Every construct is off: paragraphs alone. */
-    MARKDOWN_PLAIN = 2
+    /* Every construct is off: paragraphs alone. It wins over the flags below. */
+    MARKDOWN_PLAIN = 2,
+    /* ~~a~~ and ~a~ are struck through. */
+    MARKDOWN_STRIKETHROUGH = 4,
+    /* $a$ and $$a$$ are math, and so is a block between lines of $$. */
+    MARKDOWN_MATH = 8,
+    /* Metadata at the front of a text, between lines of --- or of +++, is skipped. */
+    MARKDOWN_FRONTMATTER = 16
 };
 
 /* What a call answers. */

@@ -1,13 +1,19 @@
 #!/usr/bin/env python3
 """Reads Markdown from standard input, and writes its HTML to standard output.
 
-    convert.py LIBRARY [--dangerous | --plain]
+    convert.py LIBRARY [--dangerous] [--plain] [--strikethrough] [--math] [--frontmatter]
 """
 import sys
 
 import markdown_c
 
-FLAGS = {"--dangerous": markdown_c.DANGEROUS, "--plain": markdown_c.PLAIN}
+FLAGS = {
+    "--dangerous": markdown_c.DANGEROUS,
+    "--plain": markdown_c.PLAIN,
+    "--strikethrough": markdown_c.STRIKETHROUGH,
+    "--math": markdown_c.MATH,
+    "--frontmatter": markdown_c.FRONTMATTER,
+}
 
 library = markdown_c.load(sys.argv[1])
 flags = sum(FLAGS[word] for word in sys.argv[2:])

@@ -7,11 +7,17 @@ use std::error::Error;
 use std::io::{self, Read, Write};
 
 fn main() -> Result<(), Box<dyn Error>> {
-    let flags = match std::env::args().nth(1).as_deref() {
-        Some("--dangerous") => Flags::Dangerous,
-        Some("--plain") => Flags::Plain,
-        _ => Flags::Safe,
-    };
+    let mut flags = Flags::default();
+    for word in std::env::args().skip(1) {
+        match word.as_str() {
+            "--dangerous" => flags.dangerous = true,
+            "--plain" => flags.plain = true,
+            "--strikethrough" => flags.strikethrough = true,
+            "--math" => flags.math = true,
+            "--frontmatter" => flags.frontmatter = true,
+            _ => return Err(format!("an unknown word: {word}").into()),
+        }
+    }
     let mut text = String::new();
     io::stdin().read_to_string(&mut text)?;
     io::stdout().write_all(to_html(&text, flags)?.as_bytes())?;

@@ -11,6 +11,9 @@ mod calls {
     pub const SIZE: u32 = 4;
     pub const DANGEROUS: u32 = 1;
     pub const PLAIN: u32 = 2;
+    pub const STRIKETHROUGH: u32 = 4;
+    pub const MATH: u32 = 8;
+    pub const FRONTMATTER: u32 = 16;
 
     #[link(name = "markdown", kind = "static")]
     extern "C" {
@@ -25,16 +28,34 @@ mod calls {
     }
 }
 
-/// How a text is read and printed.
+/// How a text is read and printed; by default as CommonMark, and safely.
 #[derive(Clone, Copy, Debug, Default)]
-pub enum Flags {
-    /// CommonMark, safely.
-    #[default]
-    Safe,
+pub struct Flags {
     /// HTML of the text is printed as it is, and links may have any protocol.
-    Dangerous,
-    /// Every construct is off.
-    Plain,
+    pub dangerous: bool,
+    /// Every construct is off, those of the fields below too.
+    pub plain: bool,
+    /// `~~a~~` is struck through.
+    pub strikethrough: bool,
+    /// `$a$` is math, and so is a block between lines of `$$`.
+    pub math: bool,
+    /// Metadata at the front of a text is skipped.
+    pub frontmatter: bool,
+}
+
+impl Flags {
+    fn sum(self) -> u32 {
+        [
+            (self.dangerous, calls::DANGEROUS),
+            (self.plain, calls::PLAIN),
+            (self.strikethrough, calls::STRIKETHROUGH),
+            (self.math, calls::MATH),
+            (self.frontmatter, calls::FRONTMATTER),
+        ]
+        .into_iter()
+        .filter_map(|(asked, flag)| asked.then_some(flag))
+        .sum()
+    }
 }
 
 /// Why there is no page.
@@ -57,11 +78,6 @@ impl std::error::Error for Fault {}
 
 /// The HTML of a text.
 pub fn to_html(text: &str, flags: Flags) -> Result<String, Fault> {
-    let flags = match flags {
-        Flags::Safe => 0,
-        Flags::Dangerous => calls::DANGEROUS,
-        Flags::Plain => calls::PLAIN,
-    };
     let mut page = vec![0; text.len() + text.len() / 4 + 64];
     loop {
         let mut length = 0;
@@ -70,7 +86,7 @@ pub fn to_html(text: &str, flags: Flags) -> Result<String, Fault> {
             calls::markdown_convert(
                 text.as_ptr(),
                 text.len(),
-                flags,
+                flags.sum(),
                 page.as_mut_ptr(),
                 page.len(),
                 &mut length,

@@ -14,7 +14,7 @@ use Rattle.definition_text.specs.Content.{content_of, content_text}
 use Rattle.definition_inline.specs.Definition.{definition, definition_at}
 use Rattle.definition_block.specs.Definitions.{Cut, cut_into, cut_most, cut, defined, lines_before}
 use Rattle.block_rows.specs.ParagraphLines.{AreLines}
-use Rattle.block_rows.specs.Rows.{Single, definition_on, definition_shown, row_shown, block_rows, piece_line, piece_lines}
+use Rattle.block_rows.specs.Rows.{Single, definition_on, definition_value, row_value, block_rows, piece_line, piece_lines}
 use Rattle.block_rows.proofs.DefinitionLines.{definition_cuts}
 use Rattle.definition_inline.proofs.LinkRenaming.{renamed_definition, definition_renamed, code_byte-renames}
 use Rattle.block_definitions.specs.declared.front.DefinitionEnd.{DefinitionEnd}
@@ -98,7 +98,7 @@ first_lines (suc (suc n)) (line ∷ next ∷ others) h some = (h.0, h.1, h.2, fi
 
 -- the row of a definition
 pub row_of_definition : (content : List ℕ) (ls : List BlockLine) (end : DefinitionEnd) → AreLines ls → (h : EndsAt content ls end)
-    → block_rows (Definition h.read.label h.read.destination h.read.title) ≡ row_shown (row.Definition end.lines) ls ∷ []
+    → block_rows (Definition h.read.label h.read.destination h.read.title) ≡ row_value (row.Definition end.lines) ls ∷ []
 row_of_definition content ls end clean h =
     let count = lines_before h.read.rest ls in
     let cuts = definition_cuts ls h.read clean h.found in
@@ -106,8 +106,8 @@ row_of_definition content ls end clean h =
     let own_clean = first_lines count ls clean cuts.some in
     let read : definition_on own ≡ Some (renamed_definition code_byte (definition h.read.label h.read.destination h.read.title [])) =
     ap definition_at (content_is own own_clean) ∙ definition_renamed code_byte code_byte-renames (content_of (own_lines own)) ∙ ap (option_map (renamed_definition code_byte)) cuts.again in
-    ap (λ o. Single (definition_shown o) ∷ []) (sym read)
-    ∙ ap (λ n. row_shown (row.Definition n) ls ∷ []) (sym h.count)
+    ap (λ o. Single (definition_value o) ∷ []) (sym read)
+    ∙ ap (λ n. row_value (row.Definition n) ls ∷ []) (sym h.count)
 
 pub one_more : {A : Type 0} (p q : Parser A) (content : List ℕ) (around : List Level) (kids : Blocks) (ls : List BlockLine) (k : Cutting p content around kids ls) (end : DefinitionEnd)
     (h : EndsAt content k.left end) → HasRead q (spine around (join (join kids k.definitions) (defined h.read (take end.lines k.left))) (Text (drop end.lines k.left)))

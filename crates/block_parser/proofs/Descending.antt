@@ -15,7 +15,7 @@ use Rattle.definition_block.specs.CodeFenced.{Fence}
 use Rattle.definition_inline.specs.Definition.{Definition as LinkDefinition}
 use Rattle.definition_text.specs.BlockLines.{BlockLine, last_ending_or}
 use Rattle.definition_block.specs.Tree.{Block, Paragraph, Heading, Break, IndentedCode, FencedCode, Html, Definition, Holds, Items, Ending, Blank, Blocks, Nil, Cons, join, all_endings, front, trailing, Text, Indented, Fenced, OpenHtml, Opening, Leaf, Inside, Tree, beside_in, grow, goes_on, new, began_blank, is_nothing, is_one_blank}
-use Rattle.block_rows.specs.Rows.{definition_on, definition_shown, BlockRow, Single, rows_of}
+use Rattle.block_rows.specs.Rows.{definition_on, definition_value, BlockRow, Single, rows_of}
 use Rattle.block_parser.specs.Spine.{Level, level, Spine, spine, spine_at, spine_of, spine_after, containers_of}
 use Rattle.block_parser.specs.Waits.{is_one_blank_row}
 use Rattle.block_parser.specs.Shows.{InText, InIndented, InFenced, InHtml, state_of, lone, is_nil, Written}
@@ -147,7 +147,7 @@ and-swap false true = refl
 and-swap false false = refl
 
 -- a definition is no ending
-not-blank : (o : Option LinkDefinition) (rows : List BlockRow) → is_blank_rows (Single (definition_shown o) ∷ rows) ≡ false
+not-blank : (o : Option LinkDefinition) (rows : List BlockRow) → is_blank_rows (Single (definition_value o) ∷ rows) ≡ false
 not-blank None rows = refl
 not-blank (Some d) rows = refl
 
@@ -197,7 +197,7 @@ began_is rows waiting bare pool containers around kids inner_kids c (Leaf leaf) 
     ap (λ x. x && is_nothing (Leaf leaf) && (bare && is_one_blank_row waiting)) last
     ∙ and-swap (is_nothing (Leaf leaf)) (bare && is_one_blank_row waiting)
     ∙ ap (λ x. x && is_nothing (Leaf leaf))
-    (ap (λ x. x && is_one_blank_row waiting) h.is_bare ∙ ap (λ x. is_nil (front inner_kids) && x) (one-row waiting ∙ ap is_blank_rows h.waiting_shown) ∙ sym (blank-rows inner_kids))
+    (ap (λ x. x && is_one_blank_row waiting) h.is_bare ∙ ap (λ x. is_nil (front inner_kids) && x) (one-row waiting ∙ ap is_blank_rows h.waiting_stand) ∙ sym (blank-rows inner_kids))
 began_is rows waiting bare pool containers around kids inner_kids c (Inside inner_c others inner) left h opened =
     let more = length-around (level inner_c inner_kids ∷ (level c kids ∷ around)) others inner in
     let deeper : (length around + 1 == length containers) ≡ false =

@@ -7,7 +7,7 @@ use Rattle.definition_block.specs.declared.container.Container.{Container}
 use Rattle.definition_block.specs.declared.container.Container.TheVariants.{Quote, Item}
 use Rattle.block_rows.specs.declared.row.Row.{Row}
 use Rattle.definition_block.specs.Tree.{Block, Paragraph, Heading, Break, IndentedCode, FencedCode, Html, Definition, Holds, Items, Ending, Blank, Blocks, Nil, Cons, join, one, is_ending, all_endings, front, trailing, without_last, last_of, holds}
-use Rattle.block_rows.specs.Rows.{BlockRow, Single, Exit, entered, block_rows, rows_of}
+use Rattle.block_rows.specs.Rows.{BlockRow, Single, Exit, start_row, block_rows, rows_of}
 use Rattle.block_parser.specs.Waits.{inside, outside}
 use Rattle.block_parser.specs.Shows.{lone}
 use Rattle.block_parser.proofs.Trees.{choose_if, join-assoc, trailing-all, front-more, front-block, trailing-more, trailing-block}
@@ -126,14 +126,14 @@ trailing-holds before kids c =
 
 -- the endings that wait are those that stand in it and those after it
 pub inside-rows : (c : Container) (kids : Blocks) (waiting : List Row) → map lone waiting ≡ rows_of (trailing kids)
-    → block_rows (holding c kids) ≡ entered c ∷ ((rows_of (front kids) ++ map lone (inside c waiting)) ++ Exit ∷ [])
+    → block_rows (holding c kids) ≡ start_row c ∷ ((rows_of (front kids) ++ map lone (inside c waiting)) ++ Exit ∷ [])
 inside-rows Quote kids waiting h =
     let n = length waiting - 1 in
     let count : length (rows_of (trailing kids)) - 1 ≡ n = ap (λ (x : List BlockRow). length x - 1) (sym h) ∙ ap (λ m. m - 1) (length-map waiting lone) in
-    ap (λ x. entered Quote ∷ (x ++ Exit ∷ []))
+    ap (λ x. start_row Quote ∷ (x ++ Exit ∷ []))
     (without-front kids
     ∙ ap (λ x. rows_of (front kids) ++ x) ((endings-last (trailing kids) (trailing-all kids)).0 ∙ ap (λ m. take m (rows_of (trailing kids))) count ∙ ap (take n) (sym h) ∙ take-map lone n waiting))
-inside-rows (Item item) kids waiting h = ap (λ x. entered (Item item) ∷ (x ++ Exit ∷ [])) (sym (append-nil (rows_of (front kids))))
+inside-rows (Item item) kids waiting h = ap (λ x. start_row (Item item) ∷ (x ++ Exit ∷ [])) (sym (append-nil (rows_of (front kids))))
 
 pub outside-rows : (c : Container) (kids : Blocks) (waiting : List Row) → map lone waiting ≡ rows_of (trailing kids)
     → map lone (outside c waiting) ≡ rows_of (left_over c kids)

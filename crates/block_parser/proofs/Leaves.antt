@@ -15,7 +15,7 @@ use Rattle.block_rows.specs.declared.row.Piece.{Piece}
 use Rattle.definition_text.specs.BlockLines.{BlockLine, last_ending, last_ending_or, own_lines}
 use Rattle.definition_block.specs.Tree.{Block, IndentedCode, Ending, Blank, Blocks, Nil, join, one, ended, holds, OpenLeaf, Text, Indented, Leaf, is_nothing, close_leaf, is_some_line, blanks, is_ending, front}
 use Rattle.block_rows.proofs.Pieces.{lines_from}
-use Rattle.block_rows.specs.Rows.{whole_line, Single, entered, block_rows, row_shown, rows_of, shown, shown_as, lines_taken, all_taken, piece_line, piece_lines}
+use Rattle.block_rows.specs.Rows.{whole_line, Single, start_row, block_rows, row_value, rows_of, rows_value, value_with, row_size, rows_size, piece_line, piece_lines}
 use Rattle.block_parser.specs.declared.parser.Parser.{Parser}
 use Rattle.block_parser.specs.Spine.{Level, level, spine, rows_around}
 use Rattle.block_parser.specs.Waits.{enter_row, inside, outside}
@@ -33,7 +33,7 @@ last_ending_or-more e (a ∷ ls) l = last_ending_or-more a.ending ls l
 
 -- ---- parsers
 
-pub enough_lines : {A : Type 0} (p : Parser A) → all_taken p.rows.rows.items ≤ length (piece_lines p.pieces.items)
+pub enough_lines : {A : Type 0} (p : Parser A) → rows_size p.rows.rows.items ≤ length (piece_lines p.pieces.items)
 enough_lines p = omega (arith, length-map p.pieces.items piece_line, p.counted, p.enough, p.pieces.ok.0)
 
 -- one more piece
@@ -46,15 +46,15 @@ pub written_as : (rows rows2 waiting waiting2 : List Row) (bare bare2 : Bool) (p
     → rows2 ≡ rows → waiting2 ≡ waiting → bare2 ≡ bare → pool2 ≡ pool → left2 ≡ left
     → Written rows waiting bare pool around kids left → Written rows2 waiting2 bare2 pool2 around kids left2
 written_as rows rows2 waiting waiting2 bare bare2 pool pool2 around kids left left2 r w b p l h = record {
-  rows_shown = ap (λ x. shown x pool2) r ∙ ap (shown rows) p ∙ h.rows_shown ∙ ap (shown_as (rows_around around ++ rows_of (front kids))) (sym l);
-  waiting_shown = ap (map lone) w ∙ h.waiting_shown;
+  rows_stand = ap (λ x. rows_value x pool2) r ∙ ap (rows_value rows) p ∙ h.rows_stand ∙ ap (value_with (rows_around around ++ rows_of (front kids))) (sym l);
+  waiting_stand = ap (map lone) w ∙ h.waiting_stand;
   is_bare = b ∙ h.is_bare;
 }
 
 -- ---- the open leaf has one more line
 
 pub shows_line : (rows waiting : List Row) (bare : Bool) (containers : List Container) (pool pool2 : List BlockLine) (state state2 : LeafState) (around : List Level) (kids : Blocks) (leaf leaf2 : OpenLeaf) (l : BlockLine)
-    → all_taken rows ≤ length pool → pool2 ≡ pool ++ l ∷ [] → leaf_lines leaf2 ≡ leaf_lines leaf ++ l ∷ [] → state2 ≡ state_of leaf2
+    → rows_size rows ≤ length pool → pool2 ≡ pool ++ l ∷ [] → leaf_lines leaf2 ≡ leaf_lines leaf ++ l ∷ [] → state2 ≡ state_of leaf2
     → Shows rows waiting bare containers pool state (spine around kids leaf) → Shows rows waiting bare containers pool2 state2 (spine around kids leaf2)
 shows_line rows waiting bare containers pool pool2 state state2 around kids leaf leaf2 l le more longer same h = record {
   written = written_as rows rows waiting waiting bare bare (pool ++ l ∷ []) pool2 around kids (leaf_lines leaf ++ l ∷ []) (leaf_lines leaf2) refl refl refl more longer
@@ -66,21 +66,21 @@ shows_line rows waiting bare containers pool pool2 state state2 around kids leaf
 -- ---- a block, and the ending of its last line
 
 pub written_ended : (rows waiting : List Row) (bare : Bool) (pool : List BlockLine) (around : List Level) (kids : Blocks) (left : List BlockLine)
-    → Written rows waiting bare pool around kids left → (r : Row) (b : Block) (ending : Option LineEnding) → all_taken waiting ≡ 0 → block_rows b ≡ row_shown r left ∷ [] → is_ending b ≡ false
-    → (rows2 waiting2 waiting3 : List Row) (bare2 : Bool) (left2 : List BlockLine) → rows2 ≡ (rows ++ waiting) ++ r ∷ [] → waiting2 ≡ [] → waiting3 ≡ waiting2 ++ row.Ending ending ∷ [] → bare2 ≡ false → left2 ≡ drop (lines_taken r) left
+    → Written rows waiting bare pool around kids left → (r : Row) (b : Block) (ending : Option LineEnding) → rows_size waiting ≡ 0 → block_rows b ≡ row_value r left ∷ [] → is_ending b ≡ false
+    → (rows2 waiting2 waiting3 : List Row) (bare2 : Bool) (left2 : List BlockLine) → rows2 ≡ (rows ++ waiting) ++ r ∷ [] → waiting2 ≡ [] → waiting3 ≡ waiting2 ++ row.Ending ending ∷ [] → bare2 ≡ false → left2 ≡ drop (row_size r) left
     → Written rows2 waiting3 bare2 pool around (join kids (ended b ending)) left2
 written_ended rows waiting bare pool around kids left h r b ending none is other rows2 waiting2 waiting3 bare2 left2 rows_are none_wait waits is_bare left_are =
-    let k = with_ending ((rows ++ waiting) ++ r ∷ []) [] false pool around (join kids (one b)) (drop (lines_taken r) left)
+    let k = with_ending ((rows ++ waiting) ++ r ∷ []) [] false pool around (join kids (one b)) (drop (row_size r) left)
     (with_block rows waiting bare pool around kids left h r b none is other) (row.Ending ending) (Ending ending) refl refl in
     subst (λ (bs : Blocks). Written rows2 waiting3 bare2 pool around bs left2) (join-assoc kids (one b) (one (Ending ending)))
-    (written_as ((rows ++ waiting) ++ r ∷ []) rows2 (row.Ending ending ∷ []) waiting3 false bare2 pool pool around (join (join kids (one b)) (one (Ending ending))) (drop (lines_taken r) left) left2
+    (written_as ((rows ++ waiting) ++ r ∷ []) rows2 (row.Ending ending ∷ []) waiting3 false bare2 pool pool around (join (join kids (one b)) (one (Ending ending))) (drop (row_size r) left) left2
     rows_are (waits ∙ ap (λ x. x ++ row.Ending ending ∷ []) none_wait) is_bare refl left_are k)
 
 -- ---- the open leaf takes all lines that are left
 
 pub all_left : (rows waiting : List Row) (bare : Bool) (pool : List BlockLine) (around : List Level) (kids : Blocks) (left : List BlockLine)
-    → Written rows waiting bare pool around kids left → all_taken rows ≤ length pool → all_taken rows + length left ≡ length pool
-all_left rows waiting bare pool around kids left h le = left_count rows pool _ h.rows_shown le
+    → Written rows waiting bare pool around kids left → rows_size rows ≤ length pool → rows_size rows + length left ≡ length pool
+all_left rows waiting bare pool around kids left h le = left_count rows pool _ h.rows_stand le
 
 -- ---- whether a paragraph is open
 
@@ -129,19 +129,19 @@ blanks_more waiting0 waiting waiting2 pieces start i d le lt so_far pushed =
 
 -- indented code is closed: its lines, its ending, and the endings of the blank lines after it
 pub written_indented : (on : Constructs) (rows waiting : List Row) (bare : Bool) (pieces : List Piece) (around : List Level) (kids : Blocks) (ls pending : List BlockLine)
-    → Written rows waiting bare (piece_lines pieces) around kids (ls ++ pending) → all_taken rows ≤ length (piece_lines pieces) → all_taken waiting ≡ 0
-    → (count n : ℕ) (ending : Option LineEnding) → count ≡ length ls → ending ≡ last_ending ls → n ≡ all_taken rows + count
+    → Written rows waiting bare (piece_lines pieces) around kids (ls ++ pending) → rows_size rows ≤ length (piece_lines pieces) → rows_size waiting ≡ 0
+    → (count n : ℕ) (ending : Option LineEnding) → count ≡ length ls → ending ≡ last_ending ls → n ≡ rows_size rows + count
     → (rows2 waiting2 waiting3 waiting4 : List Row) (bare2 : Bool) → rows2 ≡ (rows ++ waiting) ++ row.IndentedCode count ∷ [] → waiting2 ≡ [] → waiting3 ≡ waiting2 ++ row.Ending ending ∷ []
-    → waiting4 ≡ waiting3 ++ map blank_row (drop n pieces) → bare2 ≡ false → all_taken rows2 ≡ n
+    → waiting4 ≡ waiting3 ++ map blank_row (drop n pieces) → bare2 ≡ false → rows_size rows2 ≡ n
     → Written rows2 waiting4 bare2 (piece_lines (take n pieces)) around (join kids (close_leaf on (Indented ls pending))) []
 written_indented on rows waiting bare pieces around kids ls pending h le none count n ending all last n_is rows2 waiting2 waiting3 waiting4 bare2 rows_are none_wait waits blank is_bare taken =
     let pool = piece_lines pieces in
-    let c = left_count rows pool _ h.rows_shown le in
+    let c = left_count rows pool _ h.rows_stand le in
     let code = IndentedCode (own_lines ls) in
     let front_lines : take count (ls ++ pending) ≡ ls = take-append-le count ls pending (omega (arith, all)) ∙ take_all count ls (omega (arith, all)) in
     let rest_lines : drop count (ls ++ pending) ≡ pending = drop-append-le count ls pending (omega (arith, all)) ∙ ap (λ x. x ++ pending) (drop_all count ls (omega (arith, all))) in
     let left_over : piece_lines (drop n pieces) ≡ pending =
-    sym (drop-map piece_line n pieces) ∙ ap (λ k. drop k pool) n_is ∙ sym (drop-drop count (all_taken rows) pool) ∙ ap (drop count) (sym (left_shown rows pool _ h.rows_shown)) ∙ rest_lines in
+    sym (drop-map piece_line n pieces) ∙ ap (λ k. drop k pool) n_is ∙ sym (drop-drop count (rows_size rows) pool) ∙ ap (drop count) (sym (left_shown rows pool _ h.rows_stand)) ∙ rest_lines in
     let ended_code = written_ended rows waiting bare pool around kids (ls ++ pending) h (row.IndentedCode count) code ending none
     (ap (λ x. Single (IndentedCode (own_lines x)) ∷ []) (sym front_lines)) refl rows2 waiting2 waiting3 bare2 pending rows_are none_wait waits is_bare (sym rest_lines) in
     let with_all = with_blanks rows2 waiting3 bare2 pool around (join kids (ended code ending)) pending (drop n pieces) ended_code in
@@ -149,44 +149,44 @@ written_indented on rows waiting bare pieces around kids ls pending h le none co
     join-assoc kids (ended code ending) (blanks (piece_lines (drop n pieces)))
     ∙ ap (λ e. join kids (join (ended code e) (blanks (piece_lines (drop n pieces))))) last
     ∙ ap (λ x. join kids (join (ended code (last_ending ls)) (blanks x))) left_over in
-    let fits : all_taken rows2 ≤ length pool = omega (arith, taken, n_is, all, c, length-append ls pending) in
+    let fits : rows_size rows2 ≤ length pool = omega (arith, taken, n_is, all, c, length-append ls pending) in
     subst (λ (bs : Blocks). Written rows2 waiting4 bare2 (piece_lines (take n pieces)) around bs []) children
-    (written_as rows2 rows2 (waiting3 ++ map blank_row (drop n pieces)) waiting4 bare2 bare2 (take (all_taken rows2) pool) (piece_lines (take n pieces)) around (join (join kids (ended code ending)) (blanks (piece_lines (drop n pieces)))) [] []
+    (written_as rows2 rows2 (waiting3 ++ map blank_row (drop n pieces)) waiting4 bare2 bare2 (take (rows_size rows2) pool) (piece_lines (take n pieces)) around (join (join kids (ended code ending)) (blanks (piece_lines (drop n pieces)))) [] []
     refl blank refl (sym (take-map piece_line n pieces) ∙ ap (λ k. take k pool) (sym taken)) refl
     (without_lines rows2 (waiting3 ++ map blank_row (drop n pieces)) bare2 pool around (join (join kids (ended code ending)) (blanks (piece_lines (drop n pieces)))) pending with_all fits))
 
 -- ---- a line alone, and a container
 
 pub longer : (rows waiting : List Row) (bare : Bool) (pool : List BlockLine) (around : List Level) (kids : Blocks) (left : List BlockLine)
-    → Written rows waiting bare pool around kids left → (l : BlockLine) → all_taken rows ≤ length pool → Written rows waiting bare (pool ++ l ∷ []) around kids (left ++ l ∷ [])
+    → Written rows waiting bare pool around kids left → (l : BlockLine) → rows_size rows ≤ length pool → Written rows waiting bare (pool ++ l ∷ []) around kids (left ++ l ∷ [])
 longer rows waiting bare pool around kids left h l le = with_line rows waiting bare pool around kids left h l le
 
-enter_shown : (c : Container) (left : List BlockLine) → row_shown (enter_row c) left ≡ entered c
+enter_shown : (c : Container) (left : List BlockLine) → row_value (enter_row c) left ≡ start_row c
 enter_shown Quote left = refl
 enter_shown (Item item) left = refl
 
-enter_taken : (c : Container) → lines_taken (enter_row c) ≡ 0
+enter_taken : (c : Container) → row_size (enter_row c) ≡ 0
 enter_taken Quote = refl
 enter_taken (Item item) = refl
 
 pub entered_as : (rows waiting : List Row) (bare : Bool) (pool : List BlockLine) (around : List Level) (kids : Blocks) (left : List BlockLine)
-    → Written rows waiting bare pool around kids left → (c : Container) → all_taken waiting ≡ 0
+    → Written rows waiting bare pool around kids left → (c : Container) → rows_size waiting ≡ 0
     → (rows2 waiting2 : List Row) (bare2 : Bool) → rows2 ≡ (rows ++ waiting) ++ enter_row c ∷ [] → waiting2 ≡ [] → bare2 ≡ true
     → Written rows2 waiting2 bare2 pool (level c kids ∷ around) Nil left
 entered_as rows waiting bare pool around kids left h c none rows2 waiting2 bare2 r w b =
     written_as ((rows ++ waiting) ++ enter_row c ∷ []) rows2 [] waiting2 true bare2 pool pool (level c kids ∷ around) Nil left left r w b refl refl
     (with_enter rows waiting bare pool around kids left h (enter_row c) c none (enter_shown c left) (enter_taken c))
 
-none-inside : (n : ℕ) (waiting : List Row) → all_taken waiting ≡ 0 → all_taken (take n waiting) ≡ 0
+none-inside : (n : ℕ) (waiting : List Row) → rows_size waiting ≡ 0 → rows_size (take n waiting) ≡ 0
 none-inside n waiting none =
-    omega (arith, none, ap all_taken (take-append-drop n waiting), sum_by-append lines_taken (take n waiting) (drop n waiting))
+    omega (arith, none, ap rows_size (take-append-drop n waiting), sum_by-append row_size (take n waiting) (drop n waiting))
 
-pub inside_none : (c : Container) (waiting : List Row) → all_taken waiting ≡ 0 → all_taken (inside c waiting) ≡ 0
+pub inside_none : (c : Container) (waiting : List Row) → rows_size waiting ≡ 0 → rows_size (inside c waiting) ≡ 0
 inside_none Quote waiting none = none-inside (length waiting - 1) waiting none
 inside_none (Item item) waiting none = refl
 
 pub exited_as : (rows waiting : List Row) (bare : Bool) (pool : List BlockLine) (around : List Level) (l : Level) (kids : Blocks) (left : List BlockLine)
-    → Written rows waiting bare pool (l ∷ around) kids left → all_taken waiting ≡ 0
+    → Written rows waiting bare pool (l ∷ around) kids left → rows_size waiting ≡ 0
     → (rows2 waiting2 : List Row) (bare2 : Bool) (c : Container) → c ≡ l.container → rows2 ≡ (rows ++ inside c waiting) ++ row.Exit ∷ [] → waiting2 ≡ outside c waiting → bare2 ≡ false
     → Written rows2 waiting2 bare2 pool around (join l.before (holds l.container kids)) left
 exited_as rows waiting bare pool around l kids left h none rows2 waiting2 bare2 c is r w b =
@@ -207,8 +207,8 @@ blank_as rows waiting bare pool around kids h ending rows2 waiting2 bare2 r w b 
 
 -- the lines that are left are the last ones
 pub lines_left : (rows waiting : List Row) (bare : Bool) (pool : List BlockLine) (around : List Level) (kids : Blocks) (left : List BlockLine)
-    → Written rows waiting bare pool around kids left → left ≡ drop (all_taken rows) pool
-lines_left rows waiting bare pool around kids left h = left_shown rows pool _ h.rows_shown
+    → Written rows waiting bare pool around kids left → left ≡ drop (rows_size rows) pool
+lines_left rows waiting bare pool around kids left h = left_shown rows pool _ h.rows_stand
 
 pub lines_of : {A : Type 0} (p : Parser A) (around : List Level) (kids : Blocks) (leaf : OpenLeaf) → HasRead p (spine around kids leaf)
     → leaf_lines leaf ≡ drop p.lines_in_rows (piece_lines p.pieces.items)
@@ -232,11 +232,11 @@ lines_first p around kids leaf h pieces same count n is =
 
 -- another line in their place
 pub whole_written : (rows waiting : List Row) (bare : Bool) (pool : List BlockLine) (around : List Level) (kids : Blocks) (left : List BlockLine)
-    → Written rows waiting bare pool around kids left → (l : BlockLine) → all_taken rows ≤ length pool
-    → Written rows waiting bare (take (all_taken rows) pool ++ l ∷ []) around kids (l ∷ [])
+    → Written rows waiting bare pool around kids left → (l : BlockLine) → rows_size rows ≤ length pool
+    → Written rows waiting bare (take (rows_size rows) pool ++ l ∷ []) around kids (l ∷ [])
 whole_written rows waiting bare pool around kids left h l le =
-    let front = take (all_taken rows) pool in
-    with_line rows waiting bare front around kids [] (without_lines rows waiting bare pool around kids left h le) l (omega (arith, length-take (all_taken rows) pool))
+    let front = take (rows_size rows) pool in
+    with_line rows waiting bare front around kids [] (without_lines rows waiting bare pool around kids left h le) l (omega (arith, length-take (rows_size rows) pool))
 
 -- one more line of pieces is a whole line
 pub whole_more : (pieces : List Piece) (i : ℕ) (d : Piece) (all : List BlockLine) (l : TextLine) (before after : List TextLine) → i < length pieces

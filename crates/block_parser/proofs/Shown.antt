@@ -11,93 +11,93 @@ use Rattle.definition_text.specs.Columns.{bytes_of}
 use Rattle.definition_text.specs.BlockLines.{BlockLine, own_lines}
 use Rattle.definition_block.specs.Tree.{Paragraph, Heading, IndentedCode, FencedCode, Html}
 use Rattle.block_parser.specs.Shows.{lone}
-use Rattle.block_rows.specs.Rows.{whole_lines, definition_on, definition_shown, BlockRow, Single, Shown, shown, shown_as, show_row, row_shown, lines_taken, all_taken, piece_line, piece_lines}
+use Rattle.block_rows.specs.Rows.{whole_lines, definition_on, definition_value, BlockRow, Single, RowsValue, rows_value, value_with, show_row, row_value, row_size, rows_size, piece_line, piece_lines}
 
 -- ---- more lines beside the rows
 
-abbrev pub with_left : Shown → List BlockLine → Shown
-with_left s more = shown_as s.rows (s.left ++ more)
+abbrev pub with_left : RowsValue → List BlockLine → RowsValue
+with_left s more = value_with s.rows (s.left ++ more)
 
-row_longer : (r : Row) (out : List BlockRow) (ls more : List BlockLine) → lines_taken r ≤ length ls
-    → show_row (shown_as out (ls ++ more)) r ≡ with_left (show_row (shown_as out ls) r) more
+row_longer : (r : Row) (out : List BlockRow) (ls more : List BlockLine) → row_size r ≤ length ls
+    → show_row (value_with out (ls ++ more)) r ≡ with_left (show_row (value_with out ls) r) more
 row_longer (row.Paragraph n) out ls more le =
-    ap (λ front. shown_as (out ++ Single (Paragraph (own_lines front)) ∷ []) (drop n (ls ++ more))) (take-append-le n ls more le)
-    ∙ ap (shown_as (out ++ Single (Paragraph (own_lines (take n ls))) ∷ [])) (drop-append-le n ls more le)
+    ap (λ front. value_with (out ++ Single (Paragraph (own_lines front)) ∷ []) (drop n (ls ++ more))) (take-append-le n ls more le)
+    ∙ ap (value_with (out ++ Single (Paragraph (own_lines (take n ls))) ∷ [])) (drop-append-le n ls more le)
 row_longer (row.Heading rank) out ls more le =
-    ap (λ front. shown_as (out ++ Single (Heading rank (own_lines front)) ∷ []) (drop 1 (ls ++ more))) (take-append-le 1 ls more le)
-    ∙ ap (shown_as (out ++ Single (Heading rank (own_lines (take 1 ls))) ∷ [])) (drop-append-le 1 ls more le)
+    ap (λ front. value_with (out ++ Single (Heading rank (own_lines front)) ∷ []) (drop 1 (ls ++ more))) (take-append-le 1 ls more le)
+    ∙ ap (value_with (out ++ Single (Heading rank (own_lines (take 1 ls))) ∷ [])) (drop-append-le 1 ls more le)
 row_longer row.Break out ls more le = refl
 row_longer (row.IndentedCode n) out ls more le =
-    ap (λ front. shown_as (out ++ Single (IndentedCode (own_lines front)) ∷ []) (drop n (ls ++ more))) (take-append-le n ls more le)
-    ∙ ap (shown_as (out ++ Single (IndentedCode (own_lines (take n ls))) ∷ [])) (drop-append-le n ls more le)
+    ap (λ front. value_with (out ++ Single (IndentedCode (own_lines front)) ∷ []) (drop n (ls ++ more))) (take-append-le n ls more le)
+    ∙ ap (value_with (out ++ Single (IndentedCode (own_lines (take n ls))) ∷ [])) (drop-append-le n ls more le)
 row_longer (row.FencedCode n) out [] more le = absurd (omega arith)
 row_longer (row.FencedCode n) out (l ∷ ls) more le =
-    ap (λ front. shown_as (out ++ Single (FencedCode l.codes true front) ∷ []) (drop (1 + n) ((l ∷ ls) ++ more))) (take-append-le n ls more (omega arith))
-    ∙ ap (shown_as (out ++ Single (FencedCode l.codes true (take n ls)) ∷ [])) (drop-append-le (1 + n) (l ∷ ls) more le)
+    ap (λ front. value_with (out ++ Single (FencedCode l.codes true front) ∷ []) (drop (1 + n) ((l ∷ ls) ++ more))) (take-append-le n ls more (omega arith))
+    ∙ ap (value_with (out ++ Single (FencedCode l.codes true (take n ls)) ∷ [])) (drop-append-le (1 + n) (l ∷ ls) more le)
 row_longer (row.UnclosedCode n) out [] more le = absurd (omega arith)
 row_longer (row.UnclosedCode n) out (l ∷ ls) more le =
-    ap (λ front. shown_as (out ++ Single (FencedCode l.codes false front) ∷ []) (drop (1 + n) ((l ∷ ls) ++ more))) (take-append-le n ls more (omega arith))
-    ∙ ap (shown_as (out ++ Single (FencedCode l.codes false (take n ls)) ∷ [])) (drop-append-le (1 + n) (l ∷ ls) more le)
+    ap (λ front. value_with (out ++ Single (FencedCode l.codes false front) ∷ []) (drop (1 + n) ((l ∷ ls) ++ more))) (take-append-le n ls more (omega arith))
+    ∙ ap (value_with (out ++ Single (FencedCode l.codes false (take n ls)) ∷ [])) (drop-append-le (1 + n) (l ∷ ls) more le)
 row_longer (row.WholeParagraph n) out [] more le = absurd (omega arith)
 row_longer (row.WholeParagraph n) out (l ∷ ls) more le =
-    ap (shown_as (out ++ Single (Paragraph (own_lines (whole_lines n (bytes_of l.codes)))) ∷ [])) (drop-append-le 1 (l ∷ ls) more le)
+    ap (value_with (out ++ Single (Paragraph (own_lines (whole_lines n (bytes_of l.codes)))) ∷ [])) (drop-append-le 1 (l ∷ ls) more le)
 row_longer (row.SetextHeading rank n) out ls more le =
-    ap (λ front. shown_as (out ++ Single (Heading rank (own_lines front)) ∷ []) (drop n (ls ++ more))) (take-append-le n ls more le)
-    ∙ ap (shown_as (out ++ Single (Heading rank (own_lines (take n ls))) ∷ [])) (drop-append-le n ls more le)
+    ap (λ front. value_with (out ++ Single (Heading rank (own_lines front)) ∷ []) (drop n (ls ++ more))) (take-append-le n ls more le)
+    ∙ ap (value_with (out ++ Single (Heading rank (own_lines (take n ls))) ∷ [])) (drop-append-le n ls more le)
 row_longer (row.Html n) out ls more le =
-    ap (λ front. shown_as (out ++ Single (Html (own_lines front)) ∷ []) (drop n (ls ++ more))) (take-append-le n ls more le)
-    ∙ ap (shown_as (out ++ Single (Html (own_lines (take n ls))) ∷ [])) (drop-append-le n ls more le)
+    ap (λ front. value_with (out ++ Single (Html (own_lines front)) ∷ []) (drop n (ls ++ more))) (take-append-le n ls more le)
+    ∙ ap (value_with (out ++ Single (Html (own_lines (take n ls))) ∷ [])) (drop-append-le n ls more le)
 row_longer (row.Definition n) out ls more le =
-    ap (λ front. shown_as (out ++ Single (definition_shown (definition_on front)) ∷ []) (drop n (ls ++ more))) (take-append-le n ls more le)
-    ∙ ap (shown_as (out ++ Single (definition_shown (definition_on (take n ls))) ∷ [])) (drop-append-le n ls more le)
+    ap (λ front. value_with (out ++ Single (definition_value (definition_on front)) ∷ []) (drop n (ls ++ more))) (take-append-le n ls more le)
+    ∙ ap (value_with (out ++ Single (definition_value (definition_on (take n ls))) ∷ [])) (drop-append-le n ls more le)
 row_longer row.EnterQuote out ls more le = refl
 row_longer (row.EnterItem marker number) out ls more le = refl
 row_longer row.Exit out ls more le = refl
 row_longer (row.Ending e) out ls more le = refl
 row_longer (row.Blank e) out ls more le = refl
 
-pub shown_longer : (rows : List Row) (out : List BlockRow) (ls more : List BlockLine) → all_taken rows ≤ length ls
-    → fold show_row (shown_as out (ls ++ more)) rows ≡ with_left (fold show_row (shown_as out ls) rows) more
+pub shown_longer : (rows : List Row) (out : List BlockRow) (ls more : List BlockLine) → rows_size rows ≤ length ls
+    → fold show_row (value_with out (ls ++ more)) rows ≡ with_left (fold show_row (value_with out ls) rows) more
 shown_longer [] out ls more le = refl
 shown_longer (r ∷ rs) out ls more le =
-    let e = sum_by-cons lines_taken r rs in
-    let first = show_row (shown_as out ls) r in
+    let e = sum_by-cons row_size r rs in
+    let first = show_row (value_with out ls) r in
     ap (λ s. fold show_row s rs) (row_longer r out ls more (omega arith))
-    ∙ shown_longer rs first.rows first.left more (omega (arith, e, length-drop (lines_taken r) ls))
+    ∙ shown_longer rs first.rows first.left more (omega (arith, e, length-drop (row_size r) ls))
 
 -- the lines that the rows leave
-pub left_is : (rows : List Row) (out : List BlockRow) (ls : List BlockLine) → (fold show_row (shown_as out ls) rows).left ≡ drop (all_taken rows) ls
+pub left_is : (rows : List Row) (out : List BlockRow) (ls : List BlockLine) → (fold show_row (value_with out ls) rows).left ≡ drop (rows_size rows) ls
 left_is [] out ls = refl
 left_is (r ∷ rs) out ls =
-    let first = show_row (shown_as out ls) r in
-    left_is rs first.rows first.left ∙ drop-drop (all_taken rs) (lines_taken r) ls ∙ ap (λ n. drop n ls) (sym (sum_by-cons lines_taken r rs))
+    let first = show_row (value_with out ls) r in
+    left_is rs first.rows first.left ∙ drop-drop (rows_size rs) (row_size r) ls ∙ ap (λ n. drop n ls) (sym (sum_by-cons row_size r rs))
 
-pub left_shown : (rows : List Row) (pool : List BlockLine) (s : Shown) → shown rows pool ≡ s → s.left ≡ drop (all_taken rows) pool
-left_shown rows pool s h = ap (λ (x : Shown). x.left) (sym h) ∙ left_is rows [] pool
+pub left_shown : (rows : List Row) (pool : List BlockLine) (s : RowsValue) → rows_value rows pool ≡ s → s.left ≡ drop (rows_size rows) pool
+left_shown rows pool s h = ap (λ (x : RowsValue). x.left) (sym h) ∙ left_is rows [] pool
 
-pub left_count : (rows : List Row) (pool : List BlockLine) (s : Shown) → shown rows pool ≡ s → all_taken rows ≤ length pool
-    → all_taken rows + length s.left ≡ length pool
-left_count rows pool s h le = omega (arith, ap length (left_shown rows pool s h), length-drop (all_taken rows) pool)
+pub left_count : (rows : List Row) (pool : List BlockLine) (s : RowsValue) → rows_value rows pool ≡ s → rows_size rows ≤ length pool
+    → rows_size rows + length s.left ≡ length pool
+left_count rows pool s h le = omega (arith, ap length (left_shown rows pool s h), length-drop (rows_size rows) pool)
 
-pub pool_more : (rows : List Row) (pool : List BlockLine) (s : Shown) (l : BlockLine) → all_taken rows ≤ length pool → shown rows pool ≡ s
-    → shown rows (pool ++ l ∷ []) ≡ with_left s (l ∷ [])
+pub pool_more : (rows : List Row) (pool : List BlockLine) (s : RowsValue) (l : BlockLine) → rows_size rows ≤ length pool → rows_value rows pool ≡ s
+    → rows_value rows (pool ++ l ∷ []) ≡ with_left s (l ∷ [])
 pool_more rows pool s l le h = shown_longer rows [] pool (l ∷ []) le ∙ ap (λ x. with_left x (l ∷ [])) h
 
 -- ---- more rows
 
-pub one_row_shown : (rows : List Row) (pool : List BlockLine) (r : Row) (s : Shown) → shown rows pool ≡ s → shown (rows ++ r ∷ []) pool ≡ show_row s r
-one_row_shown rows pool r s h = fold_push show_row (shown_as [] pool) rows r ∙ ap (λ x. show_row x r) h
+pub one_row_shown : (rows : List Row) (pool : List BlockLine) (r : Row) (s : RowsValue) → rows_value rows pool ≡ s → rows_value (rows ++ r ∷ []) pool ≡ show_row s r
+one_row_shown rows pool r s h = fold_push show_row (value_with [] pool) rows r ∙ ap (λ x. show_row x r) h
 
 -- a row that takes no lines shows the same whatever is left
-none_taken : (r : Row) (left : List BlockLine) → lines_taken r ≡ 0 → row_shown r left ≡ lone r
+none_taken : (r : Row) (left : List BlockLine) → row_size r ≡ 0 → row_value r left ≡ lone r
 none_taken (row.Paragraph n) left h = ap (λ (k : ℕ). Single (Paragraph (own_lines (take k left)))) h ∙ sym (ap (λ (k : ℕ). Single (Paragraph (own_lines (take k [])))) h)
 none_taken (row.Heading rank) left h = absurd (omega (arith, h))
 none_taken (row.WholeParagraph n) left h = absurd (omega (arith, h))
 none_taken (row.SetextHeading rank n) left h = ap (λ (k : ℕ). Single (Heading rank (own_lines (take k left)))) h ∙ sym (ap (λ (k : ℕ). Single (Heading rank (own_lines (take k [])))) h)
 none_taken (row.Html n) left h = ap (λ (k : ℕ). Single (Html (own_lines (take k left)))) h ∙ sym (ap (λ (k : ℕ). Single (Html (own_lines (take k [])))) h)
 none_taken (row.Definition n) left h =
-    ap (λ (k : ℕ). Single (definition_shown (definition_on (take k left)))) h
-    ∙ sym (ap (λ (k : ℕ). Single (definition_shown (definition_on (take k [])))) h)
+    ap (λ (k : ℕ). Single (definition_value (definition_on (take k left)))) h
+    ∙ sym (ap (λ (k : ℕ). Single (definition_value (definition_on (take k [])))) h)
 none_taken row.Break left h = refl
 none_taken (row.IndentedCode n) left h = ap (λ (k : ℕ). Single (IndentedCode (own_lines (take k left)))) h ∙ sym (ap (λ (k : ℕ). Single (IndentedCode (own_lines (take k [])))) h)
 none_taken (row.FencedCode n) left h = absurd (omega (arith, h))
@@ -109,33 +109,33 @@ none_taken (row.Ending e) left h = refl
 none_taken (row.Blank e) left h = refl
 
 -- rows that take no lines
-pub lone_shown : (rows : List Row) (s : Shown) → all_taken rows ≡ 0 → fold show_row s rows ≡ shown_as (s.rows ++ map lone rows) s.left
-lone_shown [] s h = ap (λ out. shown_as out s.left) (sym (append-nil s.rows))
+pub lone_shown : (rows : List Row) (s : RowsValue) → rows_size rows ≡ 0 → fold show_row s rows ≡ value_with (s.rows ++ map lone rows) s.left
+lone_shown [] s h = ap (λ out. value_with out s.left) (sym (append-nil s.rows))
 lone_shown (r ∷ rs) s h =
-    let parts = sum_by-cons lines_taken r rs in
-    let first : lines_taken r ≡ 0 = omega (arith, parts, h) in
-    let others : all_taken rs ≡ 0 = omega (arith, parts, h) in
+    let parts = sum_by-cons row_size r rs in
+    let first : row_size r ≡ 0 = omega (arith, parts, h) in
+    let others : rows_size rs ≡ 0 = omega (arith, parts, h) in
     lone_shown rs (show_row s r) others
-    ∙ ap (λ x. shown_as ((s.rows ++ x ∷ []) ++ map lone rs) (drop (lines_taken r) s.left)) (none_taken r s.left first)
-    ∙ ap (λ k. shown_as ((s.rows ++ lone r ∷ []) ++ map lone rs) (drop k s.left)) first
-    ∙ ap (λ out. shown_as out s.left) (append_assoc s.rows (lone r ∷ []) (map lone rs))
+    ∙ ap (λ x. value_with ((s.rows ++ x ∷ []) ++ map lone rs) (drop (row_size r) s.left)) (none_taken r s.left first)
+    ∙ ap (λ k. value_with ((s.rows ++ lone r ∷ []) ++ map lone rs) (drop k s.left)) first
+    ∙ ap (λ out. value_with out s.left) (append_assoc s.rows (lone r ∷ []) (map lone rs))
 
-pub more_lone : (rows more : List Row) (pool : List BlockLine) (s : Shown) → shown rows pool ≡ s → all_taken more ≡ 0 → shown (rows ++ more) pool ≡ shown_as (s.rows ++ map lone more) s.left
-more_lone rows more pool s h none = fold-append show_row (shown_as [] pool) rows more ∙ ap (λ x. fold show_row x more) h ∙ lone_shown more s none
+pub more_lone : (rows more : List Row) (pool : List BlockLine) (s : RowsValue) → rows_value rows pool ≡ s → rows_size more ≡ 0 → rows_value (rows ++ more) pool ≡ value_with (s.rows ++ map lone more) s.left
+more_lone rows more pool s h none = fold-append show_row (value_with [] pool) rows more ∙ ap (λ x. fold show_row x more) h ∙ lone_shown more s none
 
 -- the lines that no row takes are cut off
-pub cut_shown : (rows : List Row) (pool : List BlockLine) (s : Shown) → all_taken rows ≤ length pool → shown rows pool ≡ s
-    → shown rows (take (all_taken rows) pool) ≡ shown_as s.rows []
+pub cut_shown : (rows : List Row) (pool : List BlockLine) (s : RowsValue) → rows_size rows ≤ length pool → rows_value rows pool ≡ s
+    → rows_value rows (take (rows_size rows) pool) ≡ value_with s.rows []
 cut_shown rows pool s le h =
-    let n = all_taken rows in
+    let n = rows_size rows in
     let front = take n pool in
     let enough : n ≤ length front = omega (arith, length-take n pool) in
     let whole_pool : front ++ drop n pool ≡ pool = take-append-drop n pool in
     let longer = shown_longer rows [] front (drop n pool) enough in
-    let same : (shown rows front).rows ≡ s.rows =
-    ap (λ (x : Shown). x.rows) (sym longer ∙ ap (shown rows) whole_pool ∙ h) in
-    let none : (shown rows front).left ≡ [] = left_is rows [] front ∙ drop_all n front (omega (arith, length-take n pool)) in
-    ap (λ out. shown_as out (shown rows front).left) same ∙ ap (shown_as s.rows) none
+    let same : (rows_value rows front).rows ≡ s.rows =
+    ap (λ (x : RowsValue). x.rows) (sym longer ∙ ap (rows_value rows) whole_pool ∙ h) in
+    let none : (rows_value rows front).left ≡ [] = left_is rows [] front ∙ drop_all n front (omega (arith, length-take n pool)) in
+    ap (λ out. value_with out (rows_value rows front).left) same ∙ ap (value_with s.rows) none
 
 -- one more piece
 pub piece_pushed : (old : List Piece) (p : Piece) (new : List Piece) (l : BlockLine) → new ≡ old ++ p ∷ [] → piece_line p ≡ l → piece_lines new ≡ piece_lines old ++ l ∷ []

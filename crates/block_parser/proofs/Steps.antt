@@ -8,6 +8,9 @@ use Rattle.definition_text.specs.Columns.{Rest, is_blank}
 use Rattle.definition_text.specs.Indents.{outdented}
 use Rattle.definition_block.specs.CodeIndented.{starts_code_indented}
 use Rattle.definition_block.specs.CodeFenced.{Fence, fence_start, is_fence_end, fence_line}
+use Rattle.definition_block.specs.MathFlow.{math_start}
+use Rattle.std.specs.Option.{option_or}
+use Rattle.block_parser.specs.Fences.{opening_fence}
 use Rattle.definition_block.specs.HtmlFlow.{html_start, ends_before_blank}
 use Rattle.definition_block.specs.HeadingAtx.{Atx, heading_atx}
 use Rattle.definition_block.specs.HeadingSetext.{underline}
@@ -61,6 +64,11 @@ module _ (on : Constructs) (e : Beside) (r : Rest) (kind : ℕ) (ls : List Block
 
 -- ---- a line that the open leaf doesn't take
 
+-- a fence, or else another
+either_fence : (ending : Option LineEnding) (o p : Option Fence) (other : Option Tree) → or_fence ending o (or_fence ending p other) ≡ or_fence ending (option_or o p) other
+either_fence ending None p other = refl
+either_fence ending (Some f) p other = refl
+
 module _ (on : Constructs) (away : Opening) (r : Rest) (e : Beside) where
   abbrev rest_of_leaves : Option Tree → Tree
   rest_of_leaves o = begun on o away (taken (turns on away r e.ending) (break_or_text on away r e))
@@ -78,13 +86,15 @@ module _ (on : Constructs) (away : Opening) (r : Rest) (e : Beside) where
 
     module _ (k : (starts_code_indented on r && not (has_text away)) ≡ false) where
       -- no indented code begins
-      other_leaf : leaf_line on away r e ≡ rest_of_leaves (or_fence e.ending (fence_start on r) (html_or_heading (html_start on (has_text away) r)))
-      other_leaf = cond-false (is_blank r) _ _ h ∙ ap rest_of_leaves (cond-false (starts_code_indented on r && not (has_text away)) _ _ k)
+      other_leaf : leaf_line on away r e ≡ rest_of_leaves (or_fence e.ending (opening_fence on r) (html_or_heading (html_start on (has_text away) r)))
+      other_leaf =
+          cond-false (is_blank r) _ _ h
+          ∙ ap rest_of_leaves (cond-false (starts_code_indented on r && not (has_text away)) _ _ k ∙ either_fence e.ending (fence_start on r) (math_start on r) _)
 
-      pub fenced_leaf : (f : Fence) → fence_start on r ≡ Some f → leaf_line on away r e ≡ after on away (tree Nil (Leaf (Fenced f e.ending [])))
+      pub fenced_leaf : (f : Fence) → opening_fence on r ≡ Some f → leaf_line on away r e ≡ after on away (tree Nil (Leaf (Fenced f e.ending [])))
       fenced_leaf f fence = other_leaf ∙ ap (λ o. rest_of_leaves (or_fence e.ending o (html_or_heading (html_start on (has_text away) r)))) fence
 
-      module _ (fence : fence_start on r ≡ None) where
+      module _ (fence : opening_fence on r ≡ None) where
         -- and no fenced code
         html_leaves : leaf_line on away r e ≡ rest_of_leaves (html_or_heading (html_start on (has_text away) r))
         html_leaves = other_leaf ∙ ap (λ o. rest_of_leaves (or_fence e.ending o (html_or_heading (html_start on (has_text away) r)))) fence

@@ -4,3 +4,5 @@ pub mod Shows
 pub mod Leaves
 pub mod View
 pub mod HeadingSetext
+pub mod Fences
+pub mod Frontmatter

@@ -6,7 +6,7 @@ use Rattle.block_rows.specs.declared.row.Row.{Row}
 use Rattle.definition_block.specs.CodeFenced.{Fence}
 use Rattle.definition_text.specs.BlockLines.{BlockLine, spaced_line, last_ending, last_ending_or}
 use Rattle.definition_block.specs.Tree.{Blocks, Nil, Cons, front, trailing, OpenLeaf, Text, Indented, Fenced, OpenHtml}
-use Rattle.block_rows.specs.Rows.{BlockRow, rows_of, row_shown, shown, shown_as}
+use Rattle.block_rows.specs.Rows.{BlockRow, rows_of, row_value, rows_value, value_with}
 use Rattle.block_parser.specs.Spine.{Level, Spine, rows_around, containers_of}
 
 -- what is kept of an open leaf beside its lines
@@ -31,7 +31,7 @@ leaf_lines (OpenHtml kind ls) = ls
 
 -- a row that takes no lines
 abbrev pub lone : Row → BlockRow
-lone r = row_shown r []
+lone r = row_value r []
 
 abbrev pub is_nil : Blocks → Bool
 is_nil Nil = true
@@ -39,8 +39,8 @@ is_nil (Cons b bs) = false
 
 -- the rows stand for what was read but for the endings at the end, which wait, and leave these lines
 pub record Written (rows waiting : List Row) (bare : Bool) (pool : List BlockLine) (around : List Level) (kids : Blocks) (left : List BlockLine) : Type 0 where
-  pub rows_shown : shown rows pool ≡ shown_as (rows_around around ++ rows_of (front kids)) left
-  pub waiting_shown : map lone waiting ≡ rows_of (trailing kids)
+  pub rows_stand : rows_value rows pool ≡ value_with (rows_around around ++ rows_of (front kids)) left
+  pub waiting_stand : map lone waiting ≡ rows_of (trailing kids)
   pub is_bare : bare ≡ is_nil (front kids)
 
 -- and the lines are those of the open leaf

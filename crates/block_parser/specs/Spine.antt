@@ -2,7 +2,7 @@
 use Rattle.std.specs.Prelude.{List, [], ◌∷◌, ◌++◌}
 use Rattle.definition_block.specs.declared.container.Container.{Container}
 use Rattle.definition_block.specs.Tree.{Blocks, join, holds, OpenLeaf, Opening, Leaf, Inside, Tree}
-use Rattle.block_rows.specs.Rows.{BlockRow, entered, rows_of}
+use Rattle.block_rows.specs.Rows.{BlockRow, start_row, rows_of}
 
 -- a container that is open, and the children of its parent before it
 pub record Level : Type 0 where
@@ -35,7 +35,7 @@ spine_after around kids more = spine_at around (join kids more.done) more.now
 -- the rows up to the start of the innermost container
 abbrev pub rows_around : List Level → List BlockRow
 rows_around [] = []
-rows_around (l ∷ ls) = (rows_around ls ++ rows_of l.before) ++ entered l.container ∷ []
+rows_around (l ∷ ls) = (rows_around ls ++ rows_of l.before) ++ start_row l.container ∷ []
 
 -- the containers, the outermost first
 abbrev pub containers_of : List Level → List Container

@@ -1,14 +1,17 @@
-//! Fenced code (CommonMark 4.5).
+//! Fenced code (CommonMark 4.5), and math, which is fenced code of dollars.
 //!
 //!     fenced ::= fence line* end_of_fence?
 ghost use Rattle.std.specs.Prelude.{◌≡◌};
 ghost use Rattle.block_starts.specs.View.{rest_of};
+ghost use Rattle.block_starts.specs.CodeFenced.{fence_if};
+ghost use Rattle.block_parser.specs.Fences.{opening_fence as fence_here};
 
 use crate::leaf::OpenLeaf;
 use crate::parser::{Parser, piece};
 use block_rows::{Piece, Row};
 use block_starts::Cursor;
-use block_starts::code_fenced::{Fence, fence_line, is_fence_end};
+use block_starts::code_fenced::{Fence, fence_line, fence_start, is_fence_end};
+use block_starts::math_flow::math_start;
 use definition_text::{Beside, Kind};
 use markdown_options::{Constructs, LineEnding};
 use std::alloc::{AllocError, Allocator};
@@ -73,5 +76,15 @@ impl<'a, A: Allocator> Parser<'a, A> {
     {
         let count = self.pieces.len() - self.lines_in_rows - 1;
         self.end_leaf(Row::UnclosedCode(count), ending)
+    }
+}
+
+/// The fence of code or of math that opens here.
+pub(crate) fn opening_fence<'a>(on: &Constructs, rest: Cursor<'a>) -> Option<Fence<'a>>
+    ensures { fence_if result ≡ fence_here on.now (rest_of rest.entry) }
+{
+    match fence_start(on, rest) {
+        Some(fence) => Some(fence),
+        None => math_start(on, rest),
     }
 }

@@ -20,7 +20,7 @@ impl<'a, A: Allocator> Parser<'a, A> {
     ghost use Rattle.definition_block.specs.Definitions.{cut, cut_into};
     ghost use Rattle.block_rows.specs.ParagraphLines.{AreLines};
     ghost use Rattle.block_rows.specs.declared.row.Row.TheVariants as row_variant;
-    ghost use Rattle.block_rows.specs.Rows.{block_rows, row_shown};
+    ghost use Rattle.block_rows.specs.Rows.{block_rows, row_value};
     ghost use Rattle.block_parser.specs.Spine.{Level, Spine, spine};
     ghost use Rattle.block_parser.specs.View.{Becomes, HasRead};
 
@@ -57,7 +57,7 @@ impl<'a, A: Allocator> Parser<'a, A> {
     /// The first lines of the open paragraph, so many, are a definition.
     fn define(&mut self, count: usize) -> Result<(), AllocError>
         requires { self.old.lines_in_rows + count ≤ vec_len self.old.pieces }
-        ensures read { OnOk result ((ls : List BlockLine) (b : Block) → block_rows b ≡ row_shown (row_variant.Definition count) ls ∷ [] → is_ending b ≡ false →
+        ensures read { OnOk result ((ls : List BlockLine) (b : Block) → block_rows b ≡ row_value (row_variant.Definition count) ls ∷ [] → is_ending b ≡ false →
             Becomes self.old self.new (TextLeaf ls) (tree (ended b (last_ending (take count ls))) (OpenedLeaf (TextLeaf (drop count ls))))) }
         ensures containers { self.new.open ≡ self.old.open }
         ensures content { self.new.content ≡ self.old.content }

@@ -4,6 +4,7 @@
 mod code_fenced;
 mod code_indented;
 mod definition;
+mod frontmatter;
 mod heading_atx;
 mod heading_setext;
 mod html_flow;

@@ -1,17 +1,19 @@
 //! Blocks, line by line (CommonMark 4, 5 and appendix, phase 1).
 ghost use Rattle.std.specs.Prelude.{◌≡◌, ◌≤◌, ◌<◌, ◌+◌, false, ◌^◌, [], IfOk, length, vec_len};
-ghost use Rattle.definition_block.specs.Tree.{blocks, rest_line};
-ghost use Rattle.block_rows.specs.Rows.{all_taken, piece_line, piece_lines, rows_of, shown, shown_as};
+ghost use Rattle.definition_text.specs.Lines.{lines};
+ghost use Rattle.definition_block.specs.Tree.{blocks, children, rest_line};
+ghost use Rattle.block_rows.specs.Rows.{rows_size, piece_line, piece_lines, rows_of, rows_value, value_with};
 ghost use Rattle.block_starts.specs.View.{rest_of};
 ghost use Rattle.block_parser.specs.Leaves.{lines_needed};
 
+use crate::code_fenced::opening_fence;
 use crate::code_indented::begins_code;
+use crate::frontmatter::without_frontmatter;
 use crate::html_flow::html_start;
 use crate::leaf::OpenLeaf;
 use crate::rows::Rows;
 use block_rows::{Piece, Row};
 use block_starts::Cursor;
-use block_starts::code_fenced::fence_start;
 use block_starts::container::{continues, kind_after, starts};
 use block_starts::heading_atx::heading_atx;
 use block_starts::thematic_break::is_break;
@@ -44,7 +46,7 @@ pub(crate) struct Parser<'a, A: Allocator> {
     pub(crate) rest: &'a str,
     /// The text from the first line of the open paragraph on.
     pub(crate) paragraph: &'a str,
-    ghost counted: { lines_in_rows ≡ all_taken rows.rows.items },
+    ghost counted: { lines_in_rows ≡ rows_size rows.rows.items },
     ghost enough: { lines_in_rows + lines_needed leaf ≤ vec_len pieces },
     ghost rest_fits: { length rest.now < 2 ^ 61 },
     ghost paragraph_fits: { length paragraph.now < 2 ^ 61 },
@@ -57,10 +59,12 @@ impl<'a, A: Allocator> Parser<'a, A> {
     ghost use Rattle.std.specs.Prelude.{◌≡◌, ◌==◌, ◌&&◌, OnOk, IfOk, List, Option, false};
     ghost use Rattle.markdown_options.specs.declared.line_ending.LineEnding.{LineEnding};
     ghost use Rattle.definition_text.specs.Lines.{text_line};
-    ghost use Rattle.definition_block.specs.Tree.{Tree, Block, Blocks, tree, nothing, Nil, one, ended, step, new, close, close_leaf, is_ending, is_nothing, is_some_line, leaf_text, open_text, began_blank, OpenLeaf as OpenLeafOf};
+    ghost use Rattle.definition_block.specs.Tree.{Tree, Block, Blocks, tree, nothing, Nil, one, ended, step, new, close, close_leaf, is_ending};
+    ghost use Rattle.definition_block.specs.Tree.{is_nothing, is_some_line, leaf_text, open_text, began_blank, OpenLeaf as OpenLeafOf};
     ghost use Rattle.block_rows.specs.ParagraphLines.{AreLines};
-    ghost use Rattle.definition_block.specs.Tree.{Opening, leaf_line as line_of_leaf, has_text as is_text_open, Blank as BlankBlock, Leaf as OpenedLeaf, Inside, Text as TextLeaf};
-    ghost use Rattle.block_rows.specs.Rows.{block_rows, row_shown, lines_taken};
+    ghost use Rattle.definition_block.specs.Tree.{Opening, leaf_line as line_of_leaf, has_text as is_text_open};
+    ghost use Rattle.definition_block.specs.Tree.{Blank as BlankBlock, Leaf as OpenedLeaf, Inside, Text as TextLeaf};
+    ghost use Rattle.block_rows.specs.Rows.{block_rows, row_value, row_size};
     ghost use Rattle.block_parser.specs.Spine.{Level, Spine, level, spine, spine_at, spine_of, without_innermost};
     ghost use Rattle.block_parser.specs.Shows.{leaf_lines};
     ghost use Rattle.block_parser.specs.View.{Closes, HasRead, Adds, Grows, Descent, Entered};
@@ -232,7 +236,7 @@ impl<'a, A: Allocator> Parser<'a, A> {
             self.close_to(on, depth)?;
             return self.start_indented(rest, beside);
         }
-        if let Some(fence) = fence_start(on, rest) {
+        if let Some(fence) = opening_fence(on, rest) {
             self.close_to(on, depth)?;
             return self.start_fenced(fence, beside.ending);
         }
@@ -319,8 +323,8 @@ impl<'a, A: Allocator> Parser<'a, A> {
         row: Row,
         ending: Option<LineEnding>,
     ) -> Result<(), AllocError>
-        requires { self.old.lines_in_rows + lines_taken row ≡ vec_len self.old.pieces }
-        ensures read { OnOk result ((leaf : OpenLeafOf) (b : Block) → block_rows b ≡ row_shown row (leaf_lines leaf) ∷ [] → is_ending b ≡ false →
+        requires { self.old.lines_in_rows + row_size row ≡ vec_len self.old.pieces }
+        ensures read { OnOk result ((leaf : OpenLeafOf) (b : Block) → block_rows b ≡ row_value row (leaf_lines leaf) ∷ [] → is_ending b ≡ false →
             Closes self.old self.new leaf (ended b ending)) }
         ensures containers { self.new.open ≡ self.old.open }
     {
@@ -351,8 +355,24 @@ pub fn block_rows<'a, A: Allocator + Clone>(
     on: &Constructs,
 ) -> Result<BlockRows<'a, A>, AllocError>
     requires fits { length text.now < 2 ^ 61 }
-    ensures shown { IfOk result (λ r. shown r.rows.items (piece_lines r.pieces.items) ≡ shown_as (rows_of (blocks on.now before text.entry.now)) []) }
-    ensures enough { IfOk result (λ r. all_taken r.rows.items ≤ length r.pieces.items) }
+    ensures rows { IfOk result (λ r. rows_value r.rows.items (piece_lines r.pieces.items) ≡ value_with (rows_of (blocks on.now before text.entry.now)) []) }
+    ensures enough { IfOk result (λ r. rows_size r.rows.items ≤ length r.pieces.items) }
+{
+    let (before, text) = without_frontmatter(on, before, text);
+    child_rows(alloc, before, text, on)
+}
+
+/// The blocks of the lines of a text, after a character of a kind.
+fn child_rows<'a, A: Allocator + Clone>(
+    alloc: A,
+    before: Kind,
+    text: &'a str,
+    on: &Constructs,
+) -> Result<BlockRows<'a, A>, AllocError>
+    requires fits { length text.now < 2 ^ 61 }
+    ensures rows { IfOk result (λ r.
+        rows_value r.rows.items (piece_lines r.pieces.items) ≡ value_with (rows_of (children on.now before (lines text.entry.now))) []) }
+    ensures enough { IfOk result (λ r. rows_size r.rows.items ≤ length r.pieces.items) }
 {
     let rows = Rows::new(alloc.clone()?, alloc.clone()?);
     let mut parser = Parser {

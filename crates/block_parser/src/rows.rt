@@ -2,7 +2,7 @@
 ghost use Rattle.std.specs.Prelude.{◌≡◌, ◌+◌, ◌&&◌, ◌++◌, ◌∷◌, [], true, false, OnOk, OnErr, IfOk};
 ghost use Rattle.definition_block.specs.declared.container.Container.TheVariants as container_variant;
 ghost use Rattle.block_rows.specs.declared.row.Row.TheVariants as row_variant;
-ghost use Rattle.block_rows.specs.Rows.{all_taken, lines_taken};
+ghost use Rattle.block_rows.specs.Rows.{rows_size, row_size};
 ghost use Rattle.block_parser.specs.Waits.{inside, outside, is_one_blank_row, enter_row as row_of_start};
 
 use block_rows::Row;
@@ -18,7 +18,7 @@ pub(crate) struct Rows<A: Allocator> {
     waiting: Vec<Row, A>,
     /// Whether the innermost container has no child yet but endings.
     bare: bool,
-    ghost none: { all_taken waiting.items ≡ 0 },
+    ghost none: { rows_size waiting.items ≡ 0 },
 }
 
 impl<A: Allocator> Rows<A> {
@@ -39,8 +39,8 @@ impl<A: Allocator> Rows<A> {
         ensures rows { OnOk result (self.new.rows.items ≡ (self.old.rows.items ++ self.old.waiting.items) ++ row ∷ []) }
         ensures waiting { OnOk result (self.new.waiting.items ≡ []) }
         ensures bare { OnOk result (self.new.bare ≡ false) }
-        ensures counted { OnOk result (all_taken self.new.rows.items ≡ all_taken self.old.rows.items + lines_taken row) }
-        ensures kept { OnErr result (all_taken self.new.rows.items ≡ all_taken self.old.rows.items) }
+        ensures counted { OnOk result (rows_size self.new.rows.items ≡ rows_size self.old.rows.items + row_size row) }
+        ensures kept { OnErr result (rows_size self.new.rows.items ≡ rows_size self.old.rows.items) }
     {
         self.settle()?;
         self.rows.push(row)?;
@@ -73,7 +73,7 @@ impl<A: Allocator> Rows<A> {
         ensures rows { OnOk result (self.new.rows.items ≡ (self.old.rows.items ++ self.old.waiting.items) ++ row_of_start container ∷ []) }
         ensures waiting { OnOk result (self.new.waiting.items ≡ []) }
         ensures bare { OnOk result (self.new.bare ≡ true) }
-        ensures counted { all_taken self.new.rows.items ≡ all_taken self.old.rows.items }
+        ensures counted { rows_size self.new.rows.items ≡ rows_size self.old.rows.items }
     {
         self.settle()?;
         self.rows.push(enter_row(container))?;
@@ -86,7 +86,7 @@ impl<A: Allocator> Rows<A> {
         ensures rows { OnOk result (self.new.rows.items ≡ (self.old.rows.items ++ inside container self.old.waiting.items) ++ row_variant.Exit ∷ []) }
         ensures waiting { OnOk result (self.new.waiting.items ≡ outside container self.old.waiting.items) }
         ensures bare { OnOk result (self.new.bare ≡ false) }
-        ensures counted { all_taken self.new.rows.items ≡ all_taken self.old.rows.items }
+        ensures counted { rows_size self.new.rows.items ≡ rows_size self.old.rows.items }
     {
         match container {
             Container::Quote => self.exit_quote()?,
@@ -101,7 +101,7 @@ impl<A: Allocator> Rows<A> {
         ensures rows { OnOk result (self.new.rows.items ≡
             (self.old.rows.items ++ inside container_variant.Quote self.old.waiting.items) ++ row_variant.Exit ∷ []) }
         ensures waiting { OnOk result (self.new.waiting.items ≡ outside container_variant.Quote self.old.waiting.items) }
-        ensures counted { all_taken self.new.rows.items ≡ all_taken self.old.rows.items }
+        ensures counted { rows_size self.new.rows.items ≡ rows_size self.old.rows.items }
     {
         let last = self.waiting.pop();
         self.settle()?;
@@ -117,7 +117,7 @@ impl<A: Allocator> Rows<A> {
         ensures rows { OnOk result (self.new.rows.items ≡ self.old.rows.items ++ self.old.waiting.items) }
         ensures waiting { OnOk result (self.new.waiting.items ≡ []) }
         ensures bare { self.new.bare ≡ self.old.bare }
-        ensures counted { all_taken self.new.rows.items ≡ all_taken self.old.rows.items }
+        ensures counted { rows_size self.new.rows.items ≡ rows_size self.old.rows.items }
     {
         self.rows.append(&mut self.waiting)
     }
@@ -132,7 +132,7 @@ impl<A: Allocator> Rows<A> {
     /// All rows.
     pub(crate) fn finish(mut self) -> Result<Vec<Row, A>, AllocError>
         ensures rows { IfOk result (λ rows. rows.items ≡ self.rows.items ++ self.waiting.items) }
-        ensures counted { IfOk result (λ rows. all_taken rows.items ≡ all_taken self.rows.items) }
+        ensures counted { IfOk result (λ rows. rows_size rows.items ≡ rows_size self.rows.items) }
     {
         self.settle()?;
         let Rows { rows, .. } = self;

@@ -9,11 +9,11 @@ use Rattle.definition_block.specs.declared.container.Container.TheVariants.{Quot
 use Rattle.definition_text.specs.Columns.{code_byte}
 use Rattle.definition_block.specs.Blocks.{Block, Paragraph, Heading, Break, IndentedCode, FencedCode, Html, Definition, Holds, Items, Ending, Blank, Blocks, Nil, Cons}
 use Rattle.definition_block.specs.Definitions.{block_definitions, definitions}
-use Rattle.block_rows.specs.Rows.{Exit, entered, row_definitions, block_rows, rows_of}
+use Rattle.block_rows.specs.Rows.{Exit, start_row, row_definitions, block_rows, rows_of}
 use Rattle.definition_inline.proofs.LinkRenaming.{renamed_definition}
 
 -- where a container starts there is none
-none_entered : (c : Container) → row_definitions (entered c) ≡ []
+none_entered : (c : Container) → row_definitions (start_row c) ≡ []
 none_entered Quote = refl
 none_entered (Item item) = refl
 

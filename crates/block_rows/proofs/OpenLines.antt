@@ -20,6 +20,7 @@ use Rattle.definition_block.specs.ListItem.{Marker, is_digit, number_of, bullet,
 use Rattle.definition_block.specs.Containers.{continues, quote_or, starts}
 use Rattle.definition_block.specs.CodeIndented.{starts_code_indented}
 use Rattle.definition_block.specs.CodeFenced.{Fence, fence_start, is_fence_end}
+use Rattle.definition_block.specs.MathFlow.{math_start}
 use Rattle.definition_block.specs.HtmlFlow.{html_start, html_ends_here, ends_before_blank}
 use Rattle.definition_block.specs.HeadingAtx.{Atx, heading_atx}
 use Rattle.definition_block.specs.HeadingSetext.{underline}
@@ -262,7 +263,8 @@ module _ (on : Constructs) (e : LineEnding) (beside : Beside) where
       cond_both (starts_code_indented on rest && not paragraph) _ _ SomeOpenTo (λ _. tt)
       (λ _.
       open_or_fence (fence_start on rest) _
-      (open_or_html rest (html_start on paragraph rest) _ (open_or_heading (heading_atx on rest))))
+      (open_or_fence (math_start on rest) _
+      (open_or_html rest (html_start on paragraph rest) _ (open_or_heading (heading_atx on rest)))))
 
   open_heading : (rank : ℕ) (definitions : Blocks) (ls : List BlockLine) → SomeOpenTo (heading_of rank definitions ls beside.ending)
   open_heading rank definitions [] = tt

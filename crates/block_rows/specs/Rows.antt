@@ -22,9 +22,9 @@ pub data BlockRow : Type 0 where
   EnterItem : ℕ → Option ℕ → BlockRow
   Exit : BlockRow
 
-abbrev pub entered : Container → BlockRow
-entered Quote = EnterQuote
-entered (Item item) = EnterItem item.marker item.number
+abbrev pub start_row : Container → BlockRow
+start_row Quote = EnterQuote
+start_row (Item item) = EnterItem item.marker item.number
 
 -- a definition whose columns that are left of a tab are spaces
 abbrev pub spaced_definition : List ℕ → List ℕ → Option (List ℕ) → Block
@@ -40,7 +40,7 @@ abbrev mutual
   block_rows (FencedCode info closed ls) = Single (FencedCode info closed ls) ∷ []
   block_rows (Html ls) = Single (Html ls) ∷ []
   block_rows (Definition label destination title) = Single (spaced_definition label destination title) ∷ []
-  block_rows (Holds c kids) = entered c ∷ (rows_of kids ++ Exit ∷ [])
+  block_rows (Holds c kids) = start_row c ∷ (rows_of kids ++ Exit ∷ [])
   block_rows (Items items) = rows_of items
   block_rows (Ending ending) = Single (Ending ending) ∷ []
   block_rows (Blank ending) = Single (Blank ending) ∷ []
@@ -57,33 +57,33 @@ row_definitions (EnterItem marker number) = []
 row_definitions Exit = []
 
 -- rows, and the lines that they leave
-pub record Shown : Type 0 where
+pub record RowsValue : Type 0 where
   pub rows : List BlockRow
   pub left : List BlockLine
 
-abbrev pub shown_as : List BlockRow → List BlockLine → Shown
-shown_as rows left = record { rows = rows; left = left }
+abbrev pub value_with : List BlockRow → List BlockLine → RowsValue
+value_with rows left = record { rows = rows; left = left }
 
 -- how many lines a row takes: fenced code takes its info as one before its lines
-abbrev pub lines_taken : Row → ℕ
-lines_taken (row.Paragraph count) = count
-lines_taken (row.WholeParagraph count) = 1
-lines_taken (row.Heading rank) = 1
-lines_taken (row.SetextHeading rank count) = count
-lines_taken row.Break = 0
-lines_taken (row.IndentedCode count) = count
-lines_taken (row.FencedCode count) = 1 + count
-lines_taken (row.UnclosedCode count) = 1 + count
-lines_taken (row.Html count) = count
-lines_taken (row.Definition count) = count
-lines_taken row.EnterQuote = 0
-lines_taken (row.EnterItem marker number) = 0
-lines_taken row.Exit = 0
-lines_taken (row.Ending ending) = 0
-lines_taken (row.Blank ending) = 0
+abbrev pub row_size : Row → ℕ
+row_size (row.Paragraph count) = count
+row_size (row.WholeParagraph count) = 1
+row_size (row.Heading rank) = 1
+row_size (row.SetextHeading rank count) = count
+row_size row.Break = 0
+row_size (row.IndentedCode count) = count
+row_size (row.FencedCode count) = 1 + count
+row_size (row.UnclosedCode count) = 1 + count
+row_size (row.Html count) = count
+row_size (row.Definition count) = count
+row_size row.EnterQuote = 0
+row_size (row.EnterItem marker number) = 0
+row_size row.Exit = 0
+row_size (row.Ending ending) = 0
+row_size (row.Blank ending) = 0
 
-abbrev pub all_taken : List Row → ℕ
-all_taken rows = sum_by lines_taken rows
+abbrev pub rows_size : List Row → ℕ
+rows_size rows = sum_by row_size rows
 
 -- the codes of the first line
 abbrev pub first_codes : List BlockLine → List ℕ
@@ -101,33 +101,33 @@ whole_lines count text = map whole_line (take count (lines text))
 abbrev pub definition_on : List BlockLine → Option LinkDefinition
 definition_on ls = definition_at (content_codes (content_text ls))
 
-abbrev pub definition_shown : Option LinkDefinition → Block
-definition_shown None = Definition [] [] None
-definition_shown (Some d) = Definition d.label d.destination d.title
+abbrev pub definition_value : Option LinkDefinition → Block
+definition_value None = Definition [] [] None
+definition_value (Some d) = Definition d.label d.destination d.title
 
 -- what a row stands for: it takes its lines from the front of those that are left
-abbrev pub row_shown : Row → List BlockLine → BlockRow
-row_shown (row.Paragraph count) left = Single (Paragraph (own_lines (take count left)))
-row_shown (row.WholeParagraph count) left = Single (Paragraph (own_lines (whole_lines count (bytes_of (first_codes left)))))
-row_shown (row.Heading rank) left = Single (Heading rank (own_lines (take 1 left)))
-row_shown (row.SetextHeading rank count) left = Single (Heading rank (own_lines (take count left)))
-row_shown row.Break left = Single Break
-row_shown (row.IndentedCode count) left = Single (IndentedCode (own_lines (take count left)))
-row_shown (row.FencedCode count) left = Single (FencedCode (first_codes left) true (take count (drop 1 left)))
-row_shown (row.UnclosedCode count) left = Single (FencedCode (first_codes left) false (take count (drop 1 left)))
-row_shown (row.Html count) left = Single (Html (own_lines (take count left)))
-row_shown (row.Definition count) left = Single (definition_shown (definition_on (take count left)))
-row_shown row.EnterQuote left = EnterQuote
-row_shown (row.EnterItem marker number) left = EnterItem marker number
-row_shown row.Exit left = Exit
-row_shown (row.Ending ending) left = Single (Ending ending)
-row_shown (row.Blank ending) left = Single (Blank ending)
+abbrev pub row_value : Row → List BlockLine → BlockRow
+row_value (row.Paragraph count) left = Single (Paragraph (own_lines (take count left)))
+row_value (row.WholeParagraph count) left = Single (Paragraph (own_lines (whole_lines count (bytes_of (first_codes left)))))
+row_value (row.Heading rank) left = Single (Heading rank (own_lines (take 1 left)))
+row_value (row.SetextHeading rank count) left = Single (Heading rank (own_lines (take count left)))
+row_value row.Break left = Single Break
+row_value (row.IndentedCode count) left = Single (IndentedCode (own_lines (take count left)))
+row_value (row.FencedCode count) left = Single (FencedCode (first_codes left) true (take count (drop 1 left)))
+row_value (row.UnclosedCode count) left = Single (FencedCode (first_codes left) false (take count (drop 1 left)))
+row_value (row.Html count) left = Single (Html (own_lines (take count left)))
+row_value (row.Definition count) left = Single (definition_value (definition_on (take count left)))
+row_value row.EnterQuote left = EnterQuote
+row_value (row.EnterItem marker number) left = EnterItem marker number
+row_value row.Exit left = Exit
+row_value (row.Ending ending) left = Single (Ending ending)
+row_value (row.Blank ending) left = Single (Blank ending)
 
-abbrev pub show_row : Shown → Row → Shown
-show_row s r = shown_as (s.rows ++ row_shown r s.left ∷ []) (drop (lines_taken r) s.left)
+abbrev pub show_row : RowsValue → Row → RowsValue
+show_row s r = value_with (s.rows ++ row_value r s.left ∷ []) (drop (row_size r) s.left)
 
-abbrev pub shown : List Row → List BlockLine → Shown
-shown rows ls = fold show_row (shown_as [] ls) rows
+abbrev pub rows_value : List Row → List BlockLine → RowsValue
+rows_value rows ls = fold show_row (value_with [] ls) rows
 
 -- the line that a piece of the text stands for
 abbrev pub piece_line : Piece → BlockLine

@@ -1,6 +1,6 @@
 //! What the block parser hands to the printer.
 ghost use Rattle.std.specs.Prelude.{◌≡◌, ◌<◌, ◌^◌};
-ghost use Rattle.block_rows.specs.Rows.{lines_taken};
+ghost use Rattle.block_rows.specs.Rows.{row_size};
 
 use definition_text::beside::Kind;
 use markdown_options::LineEnding;
@@ -60,9 +60,9 @@ pub enum Row {
 
 impl Row {
     /// How many lines a row takes from the list beside the rows.
-    pub fn lines_taken(self) -> usize
-        requires { lines_taken self < 2 ^ 64 }
-        ensures { result ≡ lines_taken self }
+    pub fn size(self) -> usize
+        requires { row_size self < 2 ^ 64 }
+        ensures { result ≡ row_size self }
     {
         match self {
             Row::Paragraph(count)

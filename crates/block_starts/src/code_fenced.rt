@@ -2,30 +2,31 @@
 //!
 //!     start ::= small_indent ('`'{3,} no_backtick* | '~'{3,} any*)
 //!     end   ::= small_indent the_same_byte{as_many,} white*
-ghost use Rattle.std.specs.Prelude.{◌≡◌, not, ◌==◌, take};
-ghost use Rattle.std.specs.List.{list_all, position_or_len};
+ghost use Rattle.std.specs.Prelude.{◌≡◌, take};
+ghost use Rattle.std.specs.List.{position_or_len};
 ghost use Rattle.definition_text.specs.Columns.{is_white};
-ghost use Rattle.definition_block.specs.CodeFenced.{fence_start as fence_at, fence_of as fence_in, fence_by as fence_made_of, is_fence_end as is_end_of_fence, fence_line as line_of_fence, first_word as first_word_of};
+ghost use Rattle.definition_block.specs.CodeFenced.{fence_start as fence_at, fence_of as fence_in, fence_by as fence_made_of};
+ghost use Rattle.definition_block.specs.CodeFenced.{is_fence_end as is_end_of_fence, fence_line as line_of_fence, first_word as first_word_of};
 ghost use Rattle.block_starts.specs.View.{rest_of};
 ghost use Rattle.block_starts.specs.CodeFenced.{fence_view, fence_if};
 
-use crate::cursor::{Cursor, is_space_or_tab};
+use crate::cursor::Cursor;
 use crate::indent::is_small;
-use crate::run::{is_run, split_run};
 use markdown_options::Constructs;
 use markdown_options::constants::CODE_FENCED_SEQUENCE_SIZE_MIN;
+use text_bytes::{is_run, is_space_or_tab, lacks, split_run};
 use text_lines::trim;
 
 /// An opening fence.
 #[derive(Clone, Copy, Debug, PartialEq, Eq)]
 pub struct Fence<'a> {
-    /// A backtick or a tilde.
+    /// A backtick, a tilde or, where it is math, a dollar.
     pub byte: u8,
     /// How many of it there are.
     pub run: usize,
     /// The columns before it.
     pub indent: usize,
-    /// The first word after it.
+    /// The first word after it, or what stands for math.
     pub info: &'a str,
 }
 
@@ -45,7 +46,7 @@ fn fence_of(columns: usize, text: &str) -> Option<Fence<'_>>
     ensures { fence_if result ≡ fence_in columns text.now }
 {
     let (backticks, after) = split_run(b'`', text);
-    if backticks >= CODE_FENCED_SEQUENCE_SIZE_MIN && has_no_backtick(after.as_bytes()) {
+    if backticks >= CODE_FENCED_SEQUENCE_SIZE_MIN && lacks(b'`', after.as_bytes()) {
         return Some(fence_by(b'`', backticks, columns, after));
     }
     let (tildes, after) = split_run(b'~', text);
@@ -53,12 +54,6 @@ fn fence_of(columns: usize, text: &str) -> Option<Fence<'_>>
         return None;
     }
     Some(fence_by(b'~', tildes, columns, after))
-}
-
-fn has_no_backtick(bytes: &[u8]) -> bool
-    ensures { result ≡ list_all (λ b. not (b == 96)) bytes.now }
-{
-    bytes.iter().all(|b| *b != b'`')
 }
 
 fn fence_by(byte: u8, run: usize, columns: usize, after: &str) -> Fence<'_>

@@ -12,6 +12,7 @@ ghost use Rattle.block_starts.specs.Widths.{width};
 ghost use Rattle.block_starts.specs.ThematicBreak.{BreaksWithin};
 
 use crate::thematic_break::break_tail;
+use text_bytes::is_space_or_tab;
 
 /// The rest of a line.
 #[derive(Clone, Copy)]
@@ -241,11 +242,4 @@ fn width(column: usize, byte: u8) -> usize
     ensures few { result ≤ 4 }
 {
     if byte == b'\t' { 4 - column % 4 } else { 1 }
-}
-
-/// Whether a byte is a space or a tab.
-pub(crate) fn is_space_or_tab(byte: u8) -> bool
-    ensures { result ≡ is_white byte }
-{
-    byte == b' ' || byte == b'\t'
 }

@@ -2,15 +2,16 @@
 //!
 //!     heading ::= small_indent '#'{1,6} (white+ content)? (white+ '#'+)? white*
 ghost use Rattle.std.specs.Prelude.{◌≡◌};
-ghost use Rattle.definition_block.specs.HeadingAtx.{heading_atx as heading_at, atx_of as atx_in, begins_apart as begins_apart_at, ends_apart as ends_apart_at, without_run as without_run_at, without_closing as without_closing_at};
+ghost use Rattle.definition_block.specs.HeadingAtx.{heading_atx as heading_at, atx_of as atx_in, begins_apart as begins_apart_at};
+ghost use Rattle.definition_block.specs.HeadingAtx.{ends_apart as ends_apart_at, without_run as without_run_at, without_closing as without_closing_at};
 ghost use Rattle.block_starts.specs.View.{rest_of};
 ghost use Rattle.block_starts.specs.HeadingAtx.{atx_if};
 
-use crate::cursor::{Cursor, is_space_or_tab};
+use crate::cursor::Cursor;
 use crate::indent::is_small;
-use crate::run::split_run;
 use markdown_options::Constructs;
 use markdown_options::constants::HEADING_ATX_OPENING_FENCE_SIZE_MAX;
+use text_bytes::{is_space_or_tab, split_run};
 use text_lines::trim;
 
 /// A heading on one line.

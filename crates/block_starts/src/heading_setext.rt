@@ -7,8 +7,8 @@ ghost use Rattle.block_starts.specs.View.{rest_of};
 
 use crate::cursor::Cursor;
 use crate::indent::is_small;
-use crate::run::is_run;
 use markdown_options::Constructs;
+use text_bytes::is_run;
 
 /// The rank of a heading that this line would underline.
 pub fn underline(on: &Constructs, rest: Cursor<'_>) -> Option<u8>

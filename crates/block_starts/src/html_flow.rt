@@ -1,15 +1,20 @@
 //! Where HTML blocks start and end (CommonMark 4.6). A line is given by its bytes after the spaces
 //! and tabs ahead.
-ghost use Rattle.std.specs.Prelude.{◌≡◌};
-ghost use Rattle.definition_text.specs.Bytes.{begins_with_letter, without_slash, somewhere};
-ghost use Rattle.definition_block.specs.HtmlFlow.{element_name, after_element_name, ends_name, starts_raw, starts_declaration, begins_with_block_name, starts_basic, stands_alone, starts_complete, html_kind, begins_with_raw_end, html_ends};
+ghost use Rattle.std.specs.Prelude.{◌≡◌, codes};
+ghost use Rattle.definition_text.specs.Bytes.{begins_with, somewhere};
+ghost use Rattle.definition_block.specs.HtmlFlow.{element_name, after_element_name, ends_name, starts_raw, starts_declaration, begins_with_block_name};
+ghost use Rattle.definition_block.specs.HtmlFlow.{starts_basic, stands_alone, starts_complete, html_kind, begins_with_raw_end, html_ends};
 ghost use Rattle.definition_block.specs.HtmlNames.{is_raw_name, is_block_name};
 ghost use Rattle.inline_tags.specs.Views.{rest_of};
 ghost use Rattle.block_starts.specs.HtmlFlow.{number_of, kind_number};
 
 use inline_tags::tags::{closing_tag, open_tag, tag_name};
-use markdown_options::constants::{HTML_BLOCK_NAMES, HTML_RAW_NAMES};
-use text_bytes::{holds, is_blank, is_one_of, is_space_or_tab, without_slash};
+use markdown_options::constants::{
+    HTML_BLOCK_NAMES, HTML_CDATA_PREFIX, HTML_RAW_NAMES, HTML_RAW_SIZE_MAX,
+};
+use text_bytes::{
+    begins_with_letter, holds, is_blank, is_one_of, is_short_one_of, is_space_or_tab, without_slash,
+};
 
 /// The kinds of HTML blocks, in the order of CommonMark 4.6.
 #[derive(Clone, Copy, Debug, PartialEq, Eq)]
@@ -46,7 +51,7 @@ pub fn html_kind(line: &[u8], paragraph_open: bool) -> Option<HtmlKind>
         Some(HtmlKind::Instruction)
     } else if starts_declaration(line) {
         Some(HtmlKind::Declaration)
-    } else if line.starts_with(b"<![CDATA[") {
+    } else if starts_character_data(line) {
         Some(HtmlKind::CharacterData)
     } else if starts_basic(line) {
         Some(HtmlKind::Basic)
@@ -80,13 +85,11 @@ fn ends_name(bytes: &[u8]) -> bool
     }
 }
 
-fn begins_with_letter(bytes: &[u8]) -> bool
-    ensures { result ≡ begins_with_letter bytes.now }
+/// `<![CDATA[`.
+fn starts_character_data(line: &[u8]) -> bool
+    ensures { result ≡ begins_with (codes "<![CDATA[") line.now }
 {
-    match bytes {
-        [] => false,
-        [b, ..] => b.is_ascii_alphabetic(),
-    }
+    line.starts_with(b"<![") && line[3..].starts_with(&HTML_CDATA_PREFIX)
 }
 
 /// `<`, a raw name and what ends a name.
@@ -184,7 +187,7 @@ fn begins_with_raw_end(bytes: &[u8]) -> bool
 pub fn is_raw_name(name: &[u8]) -> bool
     ensures { result ≡ is_raw_name name.now }
 {
-    is_one_of(&HTML_RAW_NAMES, name)
+    is_short_one_of(&HTML_RAW_NAMES, HTML_RAW_SIZE_MAX, name)
 }
 
 /// Whether a name is one of those of kind 6, in whatever case.

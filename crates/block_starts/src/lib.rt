@@ -11,7 +11,7 @@ pub mod heading_setext;
 pub mod html_flow;
 pub mod indent;
 pub mod list_item;
-mod run;
+pub mod math_flow;
 pub mod thematic_break;
 
 pub use cursor::Cursor;

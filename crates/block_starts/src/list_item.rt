@@ -6,7 +6,10 @@
 //!     continues ::= column_of_space{size}, or a blank rest
 ghost use Rattle.std.specs.Prelude.{◌≡◌, ◌≤◌, ◌<◌, ◌^◌, ◌==◌, ◌||◌, length};
 ghost use Rattle.std.specs.List.{AllPass};
-ghost use Rattle.definition_block.specs.ListItem.{is_digit, number_of as number_of_digits, bullet as bullet_of, delimiter as delimiter_of, ordered as ordered_of, marker as marker_at, gap as gap_of, is_first as is_first_number, is_item as is_item_after, item as item_of, item_after as item_after_marker, item_start as item_starts, is_inside as is_inside_item, item_continues as item_goes_on};
+ghost use Rattle.definition_block.specs.ListItem.{is_digit, number_of as number_of_digits, bullet as bullet_of, delimiter as delimiter_of, marker as marker_at};
+ghost use Rattle.definition_block.specs.ListItem.{gap as gap_of, is_first as is_first_number};
+ghost use Rattle.definition_block.specs.ListItem.{is_item as is_item_after, item as item_of, item_start as item_starts};
+ghost use Rattle.definition_block.specs.ListItem.{is_inside as is_inside_item, item_continues as item_goes_on};
 ghost use Rattle.block_starts.specs.View.{rest_of, rest_if, started_if};
 ghost use Rattle.block_starts.specs.ListItem.{marker_view, marker_if};
 ghost use Rattle.definition_block.specs.Started.{started};
@@ -16,6 +19,7 @@ use crate::indent::is_small;
 use crate::thematic_break::is_break;
 use definition_block::{Container, Item};
 use markdown_options::Constructs;
+use markdown_options::constants::LIST_ITEM_VALUE_SIZE_MAX;
 
 /// A marker: its last byte, its number, its bytes, and the rest after it.
 #[derive(Clone, Copy)]
@@ -52,10 +56,12 @@ fn read_marker(rest: Cursor<'_>) -> Option<Marker<'_>>
     ensures { marker_if result ≡ marker_at (rest_of rest.entry) }
 {
     let (digits, after) = rest.split_digits();
-    match digits.len() {
-        0 => bullet(rest),
-        1..=9 => delimiter(number_of(digits), digits.len(), after),
-        _ => None,
+    if digits.is_empty() {
+        bullet(rest)
+    } else if digits.len() <= LIST_ITEM_VALUE_SIZE_MAX {
+        delimiter(number_of(digits), digits.len(), after)
+    } else {
+        None
     }
 }
 

@@ -5,14 +5,16 @@
 ghost use Rattle.std.specs.Prelude.{◌≡◌, ◌==◌, ◌&&◌, ◌||◌};
 ghost use Rattle.std.specs.List.{list_all, count_by};
 ghost use Rattle.definition_text.specs.Columns.{is_white};
-ghost use Rattle.definition_block.specs.ThematicBreak.{is_break as is_break_line, is_break_text as is_break_of, is_break_by as is_break_made_of, is_break_marker as is_marker};
+ghost use Rattle.definition_block.specs.ThematicBreak.{is_break as is_break_line, is_break_text as is_break_of};
+ghost use Rattle.definition_block.specs.ThematicBreak.{is_break_by as is_break_made_of, is_break_marker as is_marker};
 ghost use Rattle.block_starts.specs.View.{rest_of};
 ghost use Rattle.block_starts.specs.ThematicBreak.{BreaksWithin};
 
-use crate::cursor::{Cursor, is_space_or_tab};
+use crate::cursor::Cursor;
 use crate::indent::is_small;
 use markdown_options::Constructs;
 use markdown_options::constants::THEMATIC_BREAK_MARKER_COUNT_MIN;
+use text_bytes::is_space_or_tab;
 
 /// Whether the line is a break.
 pub fn is_break(on: &Constructs, rest: Cursor<'_>) -> bool

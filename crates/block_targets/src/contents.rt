@@ -2,7 +2,7 @@
 ghost use Rattle.std.specs.Prelude.{◌≡◌, ◌≤◌, ◌++◌, ◌∷◌, [], List, IfOk, OnOk, length};
 ghost use Rattle.definition_block.specs.Blocks.{Blocks};
 ghost use Rattle.definition_inline.specs.Definition.{Definition};
-ghost use Rattle.block_rows.specs.Rows.{all_taken, definition_on, lines_taken, piece_lines, row_definitions, row_shown, rows_of, shown};
+ghost use Rattle.block_rows.specs.Rows.{rows_size, definition_on, row_size, piece_lines, row_definitions, row_value, rows_of, rows_value};
 ghost use Rattle.definition_page.specs.Targets.{document_definitions};
 ghost use Rattle.block_targets.specs.Read.{HasContents, alone};
 
@@ -23,15 +23,15 @@ pub fn definition_contents<A: Allocator + Clone>(
     rows: &[Row],
     pieces: &[Piece<'_>],
 ) -> Result<DefinitionContents<A>, AllocError>
-    requires enough { all_taken rows.now ≤ length pieces.now }
-    ensures { (bs : Blocks) → (shown rows.now (piece_lines pieces.now)).rows ≡ rows_of bs →
+    requires enough { rows_size rows.now ≤ length pieces.now }
+    ensures { (bs : Blocks) → (rows_value rows.now (piece_lines pieces.now)).rows ≡ rows_of bs →
         IfOk result (λ contents. HasContents contents (document_definitions bs)) }
 {
     let mut contents = DefinitionContents::new(alloc)?;
-    let mut taken = 0;
+    let mut at = 0;
     for row in rows {
-        contents.row(*row, &pieces[taken..])?;
-        taken += row.lines_taken();
+        contents.row(*row, &pieces[at..])?;
+        at += row.size();
     }
     Ok(contents)
 }
@@ -48,9 +48,9 @@ impl<A: Allocator + Clone> DefinitionContents<A> {
 
     /// Reads a row. A definition takes its lines from the front of these.
     fn row(&mut self, row: Row, lines: &[Piece<'_>]) -> Result<(), AllocError>
-        requires enough { lines_taken row ≤ length lines.now }
+        requires enough { row_size row ≤ length lines.now }
         ensures read { (ds : List Definition) → HasContents self.old ds →
-            OnOk result (HasContents self.new (ds ++ row_definitions (row_shown row (piece_lines lines.now)))) }
+            OnOk result (HasContents self.new (ds ++ row_definitions (row_value row (piece_lines lines.now)))) }
     {
         match row {
             Row::Definition(count) => self.definition(&lines[..count]),

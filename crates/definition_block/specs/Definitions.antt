@@ -1,5 +1,5 @@
 -- Link reference definitions at the front of a paragraph (CommonMark 4.7).
-use Rattle.std.specs.Prelude.{ℕ, suc, zero, ◌+◌, ◌-◌, if◌then◌else◌, List, [], ◌∷◌, ◌++◌, Option, None, Some, take, drop, length, map}
+use Rattle.std.specs.Prelude.{ℕ, suc, zero, ◌+◌, ◌-◌, if◌then◌else◌, List, [], ◌∷◌, ◌++◌, Option, None, Some, take, drop, length}
 use Rattle.std.specs.List.{count_by}
 use Rattle.markdown_options.specs.declared.configuration.Constructs.{Constructs}
 use Rattle.definition_text.specs.BlockLines.{BlockLine, last_ending, own_lines}
@@ -63,7 +63,3 @@ abbrev mutual
   pub definitions : Blocks → List LinkDefinition
   definitions Nil = []
   definitions (Cons b bs) = block_definitions b ++ definitions bs
-
--- their labels
-abbrev pub labels : Blocks → List (List ℕ)
-labels bs = map (λ d. d.label) (definitions bs)

@@ -2,9 +2,9 @@
 use Rattle.std.specs.Prelude.{ℕ, Bool, true, false, not, if◌then◌else◌, ◌==◌, ◌&&◌, ◌||◌, leb, List, [], ◌∷◌, Option, None, Some, drop, codes}
 use Rattle.std.specs.List.{take_while, list_all}
 use Rattle.markdown_options.specs.declared.configuration.Constructs.{Constructs}
-use Rattle.definition_text.specs.Columns.{Rest, bare, bytes_of}
+use Rattle.definition_text.specs.Columns.{Rest, bare, bytes_of, is_white, is_blank}
 use Rattle.definition_text.specs.Indents.{small_indent}
-use Rattle.definition_text.specs.Bytes.{is_letter_or_digit, is_space_or_tab, begins_with, begins_with_letter, after_all, without_slash, somewhere, holds}
+use Rattle.definition_text.specs.Bytes.{is_letter_or_digit, begins_with, begins_with_letter, after_all, without_slash, somewhere, holds}
 use Rattle.definition_block.specs.HtmlNames.{is_raw_name, is_block_name}
 use Rattle.definition_inline.specs.HtmlTags.{tag_name, open_tag, closing_tag}
 
@@ -19,7 +19,7 @@ after_element_name bytes = after_all is_letter_or_digit bytes
 -- a space, a tab, `>` or the end of the line
 abbrev pub ends_name : List ℕ → Bool
 ends_name [] = true
-ends_name (b ∷ bs) = is_space_or_tab b || (b == 62)
+ends_name (b ∷ bs) = is_white b || (b == 62)
 
 -- kind 1: `<`, one of the raw names, and what ends a name
 abbrev pub starts_raw : List ℕ → Bool
@@ -44,7 +44,7 @@ starts_basic line = begins_with (codes "<") line && begins_with_block_name (with
 -- there is a tag, and only spaces and tabs follow it
 abbrev pub stands_alone : Option (List ℕ) → Bool
 stands_alone None = false
-stands_alone (Some rest) = list_all is_space_or_tab rest
+stands_alone (Some rest) = is_blank rest
 
 -- kind 7: an open tag whose name isn't raw, or a closing tag, with only spaces and tabs after it
 abbrev pub starts_complete : List ℕ → Bool

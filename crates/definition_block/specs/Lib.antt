@@ -5,6 +5,8 @@ pub mod ListItem
 pub mod Containers
 pub mod CodeIndented
 pub mod CodeFenced
+pub mod MathFlow
+pub mod Frontmatter
 pub mod HeadingAtx
 pub mod HeadingSetext
 pub mod Blocks

@@ -17,6 +17,8 @@ use Rattle.definition_block.specs.BlockQuote.{after_byte}
 use Rattle.definition_block.specs.Containers.{continues, starts}
 use Rattle.definition_block.specs.CodeIndented.{starts_code_indented}
 use Rattle.definition_block.specs.CodeFenced.{Fence, fence_start, is_fence_end, fence_line}
+use Rattle.definition_block.specs.MathFlow.{math_start}
+use Rattle.definition_block.specs.Frontmatter.{after_frontmatter}
 use Rattle.definition_block.specs.HtmlFlow.{html_start, html_ends_here, ends_before_blank}
 use Rattle.definition_block.specs.HeadingAtx.{Atx, heading_atx}
 use Rattle.definition_block.specs.HeadingSetext.{underline}
@@ -192,11 +194,14 @@ abbrev pub or_html : Rest → Beside → Option ℕ → Option Tree → Option T
 or_html rest beside None other = other
 or_html rest beside (Some kind) other = Some (html_with kind [] rest beside)
 
--- the leaf that a rest begins, other than a paragraph or a break: indented code, which can't interrupt a paragraph, fenced code, an HTML block, or an ATX heading, in this order
+-- the leaf that a rest begins, other than a paragraph or a break: indented code, which can't interrupt a paragraph, fenced code, math, an HTML block, or an ATX heading, in this order
 abbrev pub begins : Constructs → Bool → Rest → Beside → Option Tree
 begins on paragraph rest beside =
     if starts_code_indented on rest && not paragraph then Some (tree Nil (Leaf (Indented (rest_line (outdented 4 rest) beside ∷ []) [])))
-    else or_fence beside.ending (fence_start on rest) (or_html rest beside (html_start on paragraph rest) (or_heading beside.ending (heading_atx on rest)))
+    else or_fence beside.ending (fence_start on rest)
+    (or_fence beside.ending (math_start on rest)
+    (or_html rest beside (html_start on paragraph rest)
+    (or_heading beside.ending (heading_atx on rest))))
 
 -- what a line leaves where something new starts on it, after what it isn't in is closed
 abbrev pub after : Constructs → Opening → Tree → Tree
@@ -322,6 +327,15 @@ steps on before t (line ∷ others) = steps on Whitespace (step on before t line
 abbrev pub closed : Constructs → Tree → Blocks
 closed on t = join t.done (close on t.now)
 
+-- the children of a document of these lines, the first after a character of this kind
+abbrev pub children : Constructs → Kind → List TextLine → Blocks
+children on before ls = closed on (steps on before empty_tree ls)
+
+-- the children of the document, where the lines after its frontmatter are given if it has one
+abbrev pub children_after : Constructs → Kind → List TextLine → Option (List TextLine) → Blocks
+children_after on before ls None = children on before ls
+children_after on before ls (Some others) = children on Whitespace others
+
 -- the children of the document, of a text without a byte order mark, after a character of this kind
 abbrev pub blocks : Constructs → Kind → List ℕ → Blocks
-blocks on before text = closed on (steps on before empty_tree (lines text))
+blocks on before text = children_after on before (lines text) (after_frontmatter on (lines text))

@@ -17,7 +17,8 @@ use Rattle.definition_inline.specs.HtmlTags.{followed_by, is_tag_space, tag_spac
 use Rattle.definition_inline.specs.Inline.{Reference, Escape, Autolink, EscapedBreak, LineEnd, Leaf, leaf, or_else}
 use Rattle.definition_inline.specs.CharacterEscape.{escape_at}
 use Rattle.definition_inline.specs.CharacterReference.{CharacterReference, before_semicolon, terminated, numbered, named, number_reference, reference_after, reference_form, reference_text, reference_leaf, reference_of, reference_at}
-use Rattle.definition_inline.specs.CodeText.{run_of, code_leaf, code_text_at}
+use Rattle.definition_inline.specs.CodeText.{run_of, raw_leaf, raw_at, code_text_at}
+use Rattle.definition_inline.specs.MathText.{may_open_math, math_text_at}
 use Rattle.definition_inline.specs.Autolink.{is_scheme_byte, is_uri_byte, begins_with_scheme, after_uri, uri_end, is_email_byte, is_domain_byte, domain_end, email_end, closed_autolink, autolink_after, autolink_at}
 use Rattle.definition_inline.specs.HtmlText.{html_byte, after_first, comment_rest, comment, instruction, declaration, cdata, html_end, html_leaf, html_text_at}
 use Rattle.definition_inline.specs.HardBreak.{ends_here, line_end_at, escaped_break_at, line_spaces_at}
@@ -138,7 +139,7 @@ fit_line_spaces on content =
       within = prefix_len-le-length is_white content;
     })
 
--- ---- code spans
+-- ---- code spans and math
 
 -- a run of exactly n that was found
 record IsRunOf (marker n most : ℕ) (rest : List ℕ) : Type 0 where
@@ -156,23 +157,23 @@ run_of_found marker n inside (c ∷ cs) =
     later None p = tt
     later (Some rest) p = record { size = p.size; within = omega (arith, p.within) }
 
-fit_code_found : (content rest : List ℕ) (n : ℕ) (found : Option (List ℕ)) → 0 < n → length rest + n ≡ length content → WhereSome (IsRunOf 96 n (length rest)) found
-    → Fits (length content) (code_leaf n content (up_to rest found))
-fit_code_found content rest n None some size p = record { some = some; within = omega arith }
-fit_code_found content rest n (Some closing) some size p =
-    let room : n ≤ length closing = omega (arith, prefix_len-le-length (λ b. b == 96) closing, p.size) in
+fit_raw_found : (marker : ℕ) (content rest : List ℕ) (n : ℕ) (found : Option (List ℕ)) → 0 < n → length rest + n ≡ length content
+    → WhereSome (IsRunOf marker n (length rest)) found → Fits (length content) (raw_leaf marker n content (up_to rest found))
+fit_raw_found marker content rest n None some size p = record { some = some; within = omega arith }
+fit_raw_found marker content rest n (Some closing) some size p =
+    let room : n ≤ length closing = omega (arith, prefix_len-le-length (λ b. b == marker) closing, p.size) in
     let inner : length (before rest closing) ≤ length rest - length closing = omega (arith, length-take (length rest - length closing) rest) in
     record { some = omega arith; within = omega (arith, p.within) }
 
-fit_code : (on : Constructs) (content : List ℕ) → MayFit (length content) (code_text_at on content)
-fit_code on content =
-    let n = run 96 content in
-    let rest = after_run 96 content in
-    fit_if (length content) (on.code_text && not (n == 0)) (code_leaf n content (up_to rest (run_of 96 n false rest)))
+fit_raw : (marker : ℕ) (may_open : Bool) (content : List ℕ) → MayFit (length content) (raw_at marker may_open content)
+fit_raw marker may_open content =
+    let n = run marker content in
+    let rest = after_run marker content in
+    fit_if (length content) (may_open && not (n == 0)) (raw_leaf marker n content (up_to rest (run_of marker n false rest)))
     (λ e.
-    let some : 0 < n = positive n (and_parts on.code_text (not (n == 0)) e).1 in
-    let size : length rest + n ≡ length content = omega (arith, length-drop n content, prefix_len-le-length (λ b. b == 96) content) in
-    fit_code_found content rest n (run_of 96 n false rest) some size (run_of_found 96 n false rest))
+    let some : 0 < n = positive n (and_parts may_open (not (n == 0)) e).1 in
+    let size : length rest + n ≡ length content = omega (arith, length-drop n content, prefix_len-le-length (λ b. b == marker) content) in
+    fit_raw_found marker content rest n (run_of marker n false rest) some size (run_of_found marker n false rest))
   where
     positive : (n : ℕ) → not (n == 0) ≡ true → 0 < n
     positive zero e = absurd (true≢false (sym e))
@@ -390,13 +391,15 @@ fit_html on content =
 fit_leaf : (context : InlineContext) (content : List ℕ) → MayFit (length content) (leaf_at context content)
 fit_leaf context content =
     let most = length content in
-    fit_or most (escape_at context.on content) _ (fit_escape context.on content)
-    (fit_or most (escaped_break_at context.on content) _ (fit_break context.on content)
-    (fit_or most (reference_at context.on context.names content) _ (fit_reference context.on context.names content)
-    (fit_or most (code_text_at context.on content) _ (fit_code context.on content)
-    (fit_or most (autolink_at context.on content) _ (fit_autolink context.on content)
-    (fit_or most (html_text_at context.on content) _ (fit_html context.on content)
-    (fit_or most (line_end_at content) (line_spaces_at context.on content) (fit_line_end content) (fit_line_spaces context.on content)))))))
+    let math = may_open_math context.options (run 36 content) in
+    fit_or most (escape_at context.options.constructs content) _ (fit_escape context.options.constructs content)
+    (fit_or most (escaped_break_at context.options.constructs content) _ (fit_break context.options.constructs content)
+    (fit_or most (reference_at context.options.constructs context.names content) _ (fit_reference context.options.constructs context.names content)
+    (fit_or most (code_text_at context.options.constructs content) _ (fit_raw 96 context.options.constructs.code_text content)
+    (fit_or most (math_text_at context.options content) _ (fit_raw 36 math content)
+    (fit_or most (autolink_at context.options.constructs content) _ (fit_autolink context.options.constructs content)
+    (fit_or most (html_text_at context.options.constructs content) _ (fit_html context.options.constructs content)
+    (fit_or most (line_end_at content) (line_spaces_at context.options.constructs content) (fit_line_end content) (fit_line_spaces context.options.constructs content))))))))
 
 -- a construct takes a code at least, and none past the end of the content
 pub leaf_fits : (context : InlineContext) (content : List ℕ) (l : Leaf) → leaf_at context content ≡ Some l → Fits (length content) l

@@ -7,3 +7,4 @@ pub mod DefinitionAlone
 pub mod NearestOpener
 pub mod ClosingRuns
 pub mod InlineSizes
+pub mod LabelPairs

@@ -32,34 +32,34 @@ scan_step context r next c cs more is =
 -- a construct that holds no other
 pub step_leaf : (context : InlineContext) (r : Reading) (c : InlineCode) (cs : List InlineCode) (found : Leaf)
     → leaf_at context (codes_of (c ∷ cs)) ≡ Some found → step context r c cs ≡ Next (found.size - 1) (read_tokens (map Item found.parts) r)
-step_leaf context r c cs found is = ap (leaf_step context c.code (codes_of (c ∷ cs)) r (run_at context.on (c ∷ cs))) is
+step_leaf context r c cs found is = ap (leaf_step context c.code (codes_of (c ∷ cs)) r (run_at context.options (c ∷ cs))) is
 
 -- a run
 pub step_run : (context : InlineContext) (r : Reading) (c : InlineCode) (cs : List InlineCode) (run : Run)
-    → leaf_at context (codes_of (c ∷ cs)) ≡ None → run_at context.on (c ∷ cs) ≡ Some run
+    → leaf_at context (codes_of (c ∷ cs)) ≡ None → run_at context.options (c ∷ cs) ≡ Some run
     → step context r c cs ≡ Next (run.left - 1) (read_tokens (Delimiters run ∷ []) r)
 step_run context r c cs run none is =
     let content = codes_of (c ∷ cs) in
-    ap (leaf_step context c.code content r (run_at context.on (c ∷ cs))) none ∙ ap (run_step context c.code content r) is
+    ap (leaf_step context c.code content r (run_at context.options (c ∷ cs))) none ∙ ap (run_step context c.code content r) is
 
 -- a label start
 pub step_start : (context : InlineContext) (r : Reading) (c : InlineCode) (cs : List InlineCode) (start : LabelStart)
-    → leaf_at context (codes_of (c ∷ cs)) ≡ None → run_at context.on (c ∷ cs) ≡ None → label_start_at context.on (codes_of (c ∷ cs)) ≡ Some start
+    → leaf_at context (codes_of (c ∷ cs)) ≡ None → run_at context.options (c ∷ cs) ≡ None → label_start_at context.options.constructs (codes_of (c ∷ cs)) ≡ Some start
     → step context r c cs
     ≡ Next (start_more start)
     (reading (text [] false) (record { start = start; from = drop (1 + start_more start) (codes_of (c ∷ cs)); outer = r.now } ∷ r.open_labels))
 step_start context r c cs start none no_run is =
     let content = codes_of (c ∷ cs) in
-    ap (leaf_step context c.code content r (run_at context.on (c ∷ cs))) none ∙ ap (run_step context c.code content r) no_run
+    ap (leaf_step context c.code content r (run_at context.options (c ∷ cs))) none ∙ ap (run_step context c.code content r) no_run
     ∙ ap (label_step context c.code content r) is
 
 -- a place at which none of these starts
 pub step_last : (context : InlineContext) (r : Reading) (c : InlineCode) (cs : List InlineCode)
-    → leaf_at context (codes_of (c ∷ cs)) ≡ None → run_at context.on (c ∷ cs) ≡ None → label_start_at context.on (codes_of (c ∷ cs)) ≡ None
+    → leaf_at context (codes_of (c ∷ cs)) ≡ None → run_at context.options (c ∷ cs) ≡ None → label_start_at context.options.constructs (codes_of (c ∷ cs)) ≡ None
     → step context r c cs ≡ last_step context c.code (codes_of (c ∷ cs)) r
 step_last context r c cs none no_run no_start =
     let content = codes_of (c ∷ cs) in
-    ap (leaf_step context c.code content r (run_at context.on (c ∷ cs))) none ∙ ap (run_step context c.code content r) no_run
+    ap (leaf_step context c.code content r (run_at context.options (c ∷ cs))) none ∙ ap (run_step context c.code content r) no_run
     ∙ ap (label_step context c.code content r) no_start
 
 -- ---- strings

@@ -1,10 +1,11 @@
--- Runs of `*` and `_`, which may open and close emphasis (CommonMark 6.2).
+-- Runs of `*`, `_` and `~`, which may open and close spans (CommonMark 6.2 and GFM 6.5).
 use Rattle.std.specs.Prelude.{ℕ, ◌-◌, Bool, true, false, not, if◌then◌else◌, ◌==◌, ◌&&◌, ◌||◌, List, [], ◌∷◌, Option, None, Some, slice_index_or}
 use Rattle.std.specs.List.{prefix_len}
-use Rattle.markdown_options.specs.declared.configuration.Constructs.{Constructs}
+use Rattle.markdown_options.specs.declared.configuration.ParseOptions.{ParseOptions}
 use Rattle.definition_text.specs.declared.beside.Kind.{Kind}
 use Rattle.definition_text.specs.declared.beside.Kind.TheVariants.{Whitespace, Punctuation, Other}
 use Rattle.definition_text.specs.InlineCode.{InlineCode}
+use Rattle.definition_inline.specs.GfmStrikethrough.{is_tilde, has_span_size}
 
 -- a run of one byte: the byte, how many of it are left, and whether it may open and close (CommonMark 6.2)
 pub record Run : Type 0 where
@@ -42,23 +43,29 @@ opens marker before after =
 abbrev pub closes : ℕ → Kind → Kind → Bool
 closes marker before after = opens marker after before
 
--- a byte whose runs may form spans: `*` or `_` (CommonMark 6.2)
-abbrev pub is_marker : Constructs → ℕ → Bool
-is_marker on code = on.attention && ((code == 42) || (code == 95))
+-- a byte whose runs may form spans: `*` or `_` (CommonMark 6.2), or `~` (GFM 6.5)
+abbrev pub is_marker : ParseOptions → ℕ → Bool
+is_marker options code =
+    (options.constructs.attention && ((code == 42) || (code == 95))) || (options.constructs.gfm_strikethrough && is_tilde code)
 
 -- a run of so many of this byte between these kinds
-abbrev pub run_between : ℕ → ℕ → Kind → Kind → Run
-run_between marker size before after =
-    record { marker = marker; left = size; may_open = opens marker before after; may_close = closes marker before after }
+abbrev pub run_between : ParseOptions → ℕ → ℕ → Kind → Kind → Run
+run_between options marker size before after =
+    record {
+      marker = marker;
+      left = size;
+      may_open = has_span_size options marker size && opens marker before after;
+      may_close = has_span_size options marker size && closes marker before after;
+    }
 
 -- how many of the byte that comes first stand ahead
 abbrev pub run_size : ℕ → List InlineCode → ℕ
 run_size marker content = prefix_len (λ (c : InlineCode). c.code == marker) content
 
 -- the run that a content begins with (CommonMark 6.2)
-abbrev pub run_at : Constructs → List InlineCode → Option Run
-run_at on [] = None
-run_at on (c ∷ cs) =
+abbrev pub run_at : ParseOptions → List InlineCode → Option Run
+run_at options [] = None
+run_at options (c ∷ cs) =
     let size = run_size c.code (c ∷ cs) in
     let last = slice_index_or (c ∷ cs) (size - 1) c in
-    if is_marker on c.code then Some (run_between c.code size c.before last.after) else None
+    if is_marker options c.code then Some (run_between options c.code size c.before last.after) else None

@@ -1,11 +1,11 @@
--- Code spans (CommonMark 6.1): a run of n backticks, a text, and the next run of exactly n.
+-- Code spans (CommonMark 6.1): a run of n backticks, a text, and the next run of exactly n. Math is the same with dollars.
 use Rattle.std.specs.Prelude.{ℕ, ◌+◌, ◌-◌, Bool, false, if◌then◌else◌, not, ◌==◌, ◌&&◌, ◌||◌, List, [], ◌∷◌, Option, None, Some, map, take, drop, length, slice_index}
 use Rattle.std.specs.List.{list_any}
 use Rattle.markdown_options.specs.declared.configuration.Constructs.{Constructs}
 use Rattle.definition_text.specs.Columns.{is_tab_column}
 use Rattle.definition_text.specs.Runs.{run, after_run}
 use Rattle.definition_text.specs.Content.{is_eol, Part, up_to}
-use Rattle.definition_inline.specs.Inline.{Leaf, leaf, Data, Code}
+use Rattle.definition_inline.specs.Inline.{Inline, Leaf, leaf, Data, Code, Math}
 
 -- the rest from the first run of exactly n of a byte on; whether that byte stands before is given (CommonMark 6.1)
 abbrev pub run_of : ℕ → ℕ → Bool → List ℕ → Option (List ℕ)
@@ -29,14 +29,22 @@ unpadded text = if is_padded text then take (length text - 2) (drop 1 text) else
 abbrev pub code_text : List ℕ → List ℕ
 code_text text = unpadded (map code_space text)
 
--- a code span of n backticks, where its end is found; otherwise these backticks are text (CommonMark 6.1)
-abbrev pub code_leaf : ℕ → List ℕ → Option Part → Leaf
-code_leaf n content None = leaf (map Data (take n content)) n
-code_leaf n content (Some found) = leaf (Code (code_text found.text) ∷ []) (n + length found.text + n)
+-- what runs of this byte hold: math between dollars, otherwise code (CommonMark 6.1)
+abbrev pub raw_part : ℕ → List ℕ → Inline
+raw_part marker text = if marker == 36 then Math (code_text text) else Code (code_text text)
+
+-- the span between a run of n of this byte and its end, where that is found; otherwise these bytes are text (CommonMark 6.1)
+abbrev pub raw_leaf : ℕ → ℕ → List ℕ → Option Part → Leaf
+raw_leaf marker n content None = leaf (map Data (take n content)) n
+raw_leaf marker n content (Some found) = leaf (raw_part marker found.text ∷ []) (n + length found.text + n)
+
+-- a run of this byte, where it may open a span: it ends at the next run of exactly as many (CommonMark 6.1)
+abbrev pub raw_at : ℕ → Bool → List ℕ → Option Leaf
+raw_at marker may_open content =
+    let n = run marker content in
+    let rest = after_run marker content in
+    if may_open && not (n == 0) then Some (raw_leaf marker n content (up_to rest (run_of marker n false rest))) else None
 
 -- a run of backticks, which may open a code span (CommonMark 6.1)
 abbrev pub code_text_at : Constructs → List ℕ → Option Leaf
-code_text_at on content =
-    let n = run 96 content in
-    let rest = after_run 96 content in
-    if on.code_text && not (n == 0) then Some (code_leaf n content (up_to rest (run_of 96 n false rest))) else None
+code_text_at on content = raw_at 96 on.code_text content

@@ -1,7 +1,8 @@
 -- The tags of HTML (CommonMark 6.6). The code 10 stands for a line ending. A part of a tag is given by what follows it, where bytes begin with such a part.
 use Rattle.std.specs.Prelude.{ℕ, suc, zero, Bool, false, not, if◌then◌else◌, ◌==◌, ◌&&◌, ◌||◌, List, [], ◌∷◌, Option, None, Some, drop, length, codes}
 use Rattle.std.specs.List.{take_while}
-use Rattle.definition_text.specs.Bytes.{is_letter, is_letter_or_digit, is_space_or_tab, begins_with, after_all, without_slash}
+use Rattle.definition_text.specs.Columns.{is_white}
+use Rattle.definition_text.specs.Bytes.{is_letter, is_letter_or_digit, begins_with, after_all, without_slash}
 
 -- a part, if there is one, and another after it
 abbrev pub followed_by : Option (List ℕ) → (List ℕ → Option (List ℕ)) → Option (List ℕ)
@@ -10,7 +11,7 @@ followed_by (Some rest) part = part rest
 
 -- white space in a tag: spaces, tabs and a line ending
 abbrev pub is_tag_space : ℕ → Bool
-is_tag_space b = is_space_or_tab b || (b == 10)
+is_tag_space b = is_white b || (b == 10)
 
 -- what follows optional white space
 abbrev pub tag_space : List ℕ → List ℕ

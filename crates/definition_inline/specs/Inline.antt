@@ -14,13 +14,14 @@ pub record Linked : Type 0 where
 abbrev pub linked : List ℕ → Option (List ℕ) → Linked
 linked destination title = record { destination = destination; title = title }
 
--- A part of a text: a byte; a byte after the backslash that escapes it; the text that a character reference stands for; the text of a code span; an autolink to an email address or not, with what stands between its brackets; raw HTML by its codes; a hard line break by a backslash; one by spaces; the code of a line ending; emphasis; strong emphasis; a link; an image with its description.
+-- A part of a text: a byte; a byte after the backslash that escapes it; the text that a character reference stands for; the text of a code span; that of math; an autolink to an email address or not, with what stands between its brackets; raw HTML by its codes; a hard line break by a backslash; one by spaces; the code of a line ending; emphasis; strong emphasis; strikethrough; a link; an image with its description.
 mutual
   pub data Inline : Type 0 where
     Data : ℕ → Inline
     Escape : ℕ → Inline
     Character : List ℕ → Inline
     Code : List ℕ → Inline
+    Math : List ℕ → Inline
     Autolink : Bool → List ℕ → Inline
     Html : List ℕ → Inline
     EscapedBreak : Inline
@@ -28,6 +29,7 @@ mutual
     LineEnd : ℕ → Inline
     Emphasis : Inlines → Inline
     Strong : Inlines → Inline
+    Strikethrough : Inlines → Inline
     Link : Target → Inlines → Inline
     Image : Target → Inlines → Inline
 

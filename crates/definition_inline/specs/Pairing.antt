@@ -2,6 +2,7 @@
 use Rattle.std.specs.Prelude.{ℕ, zero, suc, ◌+◌, ◌-◌, ◌%◌, Bool, true, false, not, if◌then◌else◌, ◌==◌, ◌&&◌, ◌||◌, nat_le, List, [], ◌∷◌, ◌++◌, length, take, slice_index_or}
 use Rattle.std.specs.List.{suffix_len, fold}
 use Rattle.definition_inline.specs.Attention.{Run}
+use Rattle.definition_inline.specs.GfmStrikethrough.{are_fitting}
 
 -- a run that is open, with its place among the runs of its container
 pub record Placed : Type 0 where
@@ -22,14 +23,14 @@ abbrev pub is_ruled_out_by_three : Run → Run → Bool
 is_ruled_out_by_three opener closer =
     (opener.may_close || closer.may_open) && (not (closer.left % 3 == 0) && ((opener.left + closer.left) % 3 == 0))
 
--- two runs that may form a pair: of one byte, something left of both, and not ruled out (CommonMark 6.2)
+-- two runs that may form a pair: of one byte, something left of both, and not ruled out (CommonMark 6.2); tildes of equal sizes (GFM 6.5)
 abbrev pub may_pair : Run → Run → Bool
 may_pair opener closer =
-    (opener.marker == closer.marker)
+    ((opener.marker == closer.marker) && are_fitting opener.marker opener.left closer.left)
     && ((opener.may_open && nat_le 1 opener.left)
     && ((closer.may_close && nat_le 1 closer.left) && not (is_ruled_out_by_three opener closer)))
 
--- a pair takes two bytes of each where both have two left: it is strong emphasis (CommonMark 6.2)
+-- a pair takes two bytes of each where both have two left: of `*` and `_` it is strong emphasis (CommonMark 6.2)
 abbrev pub bytes_of_pair : Run → Run → ℕ
 bytes_of_pair opener closer = if nat_le 2 opener.left && nat_le 2 closer.left then 2 else 1
 

@@ -2,6 +2,7 @@
 use Rattle.std.specs.Prelude.{ℕ, zero, suc, ◌+◌, ◌-◌, Bool, true, false, not, if◌then◌else◌, ◌==◌, ◌&&◌, ◌||◌, List, [], ◌∷◌, ◌++◌, Option, None, Some, codes, map, drop}
 use Rattle.std.specs.List.{fold, prefix_len}
 use Rattle.markdown_options.specs.declared.configuration.Constructs.{Constructs}
+use Rattle.markdown_options.specs.declared.configuration.ParseOptions.{ParseOptions}
 use Rattle.definition_text.specs.Columns.{is_white}
 use Rattle.definition_text.specs.Bytes.{begins_with}
 use Rattle.definition_text.specs.Content.{before}
@@ -10,6 +11,7 @@ use Rattle.definition_inline.specs.Inline.{Target, Inline, Data, Link, Image, In
 use Rattle.definition_inline.specs.CharacterEscape.{escape_at}
 use Rattle.definition_inline.specs.CharacterReference.{reference_at}
 use Rattle.definition_inline.specs.CodeText.{code_text_at}
+use Rattle.definition_inline.specs.MathText.{math_text_at}
 use Rattle.definition_inline.specs.Autolink.{autolink_at}
 use Rattle.definition_inline.specs.HtmlText.{html_text_at}
 use Rattle.definition_inline.specs.HardBreak.{escaped_break_at, line_end_at, line_spaces_at}
@@ -17,9 +19,9 @@ use Rattle.definition_inline.specs.LabelEnd.{Ended, label_end_at}
 use Rattle.definition_inline.specs.Attention.{Run, run_at}
 use Rattle.definition_inline.specs.Spans.{Token, Item, Delimiters, emphasized}
 
--- what a content is read by: the constructs that are on, the texts of named characters, and whether a label is defined in the document
+-- what a content is read by: the options, the texts of named characters, and whether a label is defined in the document
 pub record InlineContext : Type 0 where
-  pub on : Constructs
+  pub options : ParseOptions
   pub names : List ℕ → Option (List ℕ)
   pub is_defined : List ℕ → Bool
 
@@ -28,14 +30,15 @@ pub record InlineContext : Type 0 where
 -- the construct that a content begins with, if it holds no other; two of them begin with one byte only where the first of them goes first: an escape and a break, an autolink and HTML
 abbrev pub leaf_at : InlineContext → List ℕ → Option Leaf
 leaf_at context content =
-    or_else (escape_at context.on content)
-    (or_else (escaped_break_at context.on content)
-    (or_else (reference_at context.on context.names content)
-    (or_else (code_text_at context.on content)
-    (or_else (autolink_at context.on content)
-    (or_else (html_text_at context.on content)
+    or_else (escape_at context.options.constructs content)
+    (or_else (escaped_break_at context.options.constructs content)
+    (or_else (reference_at context.options.constructs context.names content)
+    (or_else (code_text_at context.options.constructs content)
+    (or_else (math_text_at context.options content)
+    (or_else (autolink_at context.options.constructs content)
+    (or_else (html_text_at context.options.constructs content)
     (or_else (line_end_at content)
-    (line_spaces_at context.on content)))))))
+    (line_spaces_at context.options.constructs content))))))))
 
 -- ---- labels
 
@@ -149,7 +152,7 @@ label_end_step context content inner (label ∷ others) = ended_step label other
 -- a place at which nothing starts: a `]`, or a byte of text
 abbrev pub last_step : InlineContext → ℕ → List ℕ → Reading → Step
 last_step context code content r =
-    if context.on.label_end && (code == 93) then label_end_step context content r.now r.open_labels else data_step code r
+    if context.options.constructs.label_end && (code == 93) then label_end_step context content r.now r.open_labels else data_step code r
 
 -- a label start, or another place
 abbrev pub label_step : InlineContext → ℕ → List ℕ → Reading → Option LabelStart → Step
@@ -160,7 +163,7 @@ label_step context code content r (Some start) =
 
 -- a run, or another place
 abbrev pub run_step : InlineContext → ℕ → List ℕ → Reading → Option Run → Step
-run_step context code content r None = label_step context code content r (label_start_at context.on content)
+run_step context code content r None = label_step context code content r (label_start_at context.options.constructs content)
 run_step context code content r (Some run) = Next (run.left - 1) (read_tokens (Delimiters run ∷ []) r)
 
 -- a construct that holds no other, or another place
@@ -172,7 +175,7 @@ leaf_step context code content r run (Some found) = Next (found.size - 1) (read_
 abbrev pub step : InlineContext → Reading → InlineCode → List InlineCode → Step
 step context r c cs =
     let content = codes_of (c ∷ cs) in
-    leaf_step context c.code content r (run_at context.on (c ∷ cs)) (leaf_at context content)
+    leaf_step context c.code content r (run_at context.options (c ∷ cs)) (leaf_at context content)
 
 -- ---- the whole
 

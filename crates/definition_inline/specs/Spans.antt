@@ -1,8 +1,9 @@
--- Emphasis and strong emphasis: what stands between the runs that go together (CommonMark 6.2).
+-- Emphasis, strong emphasis and strikethrough: what stands between the runs that go together (CommonMark 6.2 and GFM 6.5).
 use Rattle.std.specs.Prelude.{ℕ, ◌+◌, ◌-◌, if◌then◌else◌, ◌==◌, List, [], ◌∷◌, ◌++◌, map, reverse, replicate}
 use Rattle.std.specs.List.{filter, fold, sum_by}
-use Rattle.definition_inline.specs.Inline.{Inline, Data, Emphasis, Strong, Inlines, Nil, followed_by}
+use Rattle.definition_inline.specs.Inline.{Inline, Data, Emphasis, Strong, Strikethrough, Inlines, Nil, followed_by}
 use Rattle.definition_inline.specs.Attention.{Run}
+use Rattle.definition_inline.specs.GfmStrikethrough.{is_tilde}
 use Rattle.definition_inline.specs.Pairing.{Pair, pairs}
 
 -- a part of a container: one that is read whole, or a run
@@ -24,10 +25,11 @@ runs_of (t ∷ ts) = token_run t ++ runs_of ts
 pub data Span : Type 0 where
   IsEmphasis : Span
   IsStrong : Span
+  IsStrikethrough : Span
 
--- what a pair of runs of this byte stands for: emphasis, or strong emphasis where two bytes are taken (CommonMark 6.2)
+-- what a pair of runs of this byte stands for: strikethrough (GFM 6.5), emphasis, or strong emphasis where two bytes are taken (CommonMark 6.2)
 abbrev pub span_of : ℕ → Pair → Span
-span_of marker pair = if pair.taken == 2 then IsStrong else IsEmphasis
+span_of marker pair = if is_tilde marker then IsStrikethrough else (if pair.taken == 2 then IsStrong else IsEmphasis)
 
 -- tokens where each run is told apart: a part, the start of a span, or the end of the innermost one
 pub data SpanRow : Type 0 where
@@ -71,6 +73,7 @@ nest now around = record { now = now; around = around }
 abbrev pub spanned : Span → Inlines → Inline
 spanned IsEmphasis kids = Emphasis kids
 spanned IsStrong kids = Strong kids
+spanned IsStrikethrough kids = Strikethrough kids
 
 -- the innermost span ends
 abbrev pub leave : Inlines → List OpenSpan → Nest

@@ -9,5 +9,5 @@ use Rattle.definition_page.specs.Pieces.{layout}
 
 abbrev pub html : TextTables → List ℕ → Options → List ℕ
 html tables text options =
-    let page = read tables options.parse.constructs text in
+    let page = read tables options.parse text in
     layout (default_ending options (without_mark text)) (pieces tables options page)

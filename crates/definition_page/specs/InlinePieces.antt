@@ -6,7 +6,7 @@ use Rattle.markdown_options.specs.declared.configuration.CompileOptions.{Compile
 use Rattle.definition_text.specs.Columns.{bytes_of, bare}
 use Rattle.definition_text.specs.Content.{is_eol}
 use Rattle.definition_text.specs.Encode.{plain}
-use Rattle.definition_inline.specs.Inline.{Target, Resource, Reference, Linked, linked, Inline, Data, Escape, Character, Code, Autolink, Html, EscapedBreak, TrailingBreak, LineEnd, Emphasis, Strong, Link, Image, Inlines, Nil, Cons}
+use Rattle.definition_inline.specs.Inline.{Target, Resource, Reference, Linked, linked, Inline, Data, Escape, Character, Code, Math, Autolink, Html, EscapedBreak, TrailingBreak, LineEnd, Emphasis, Strong, Strikethrough, Link, Image, Inlines, Nil, Cons}
 use Rattle.definition_inline.specs.Strings.{string_text}
 use Rattle.definition_page.specs.GfmTagfilter.{filtered}
 use Rattle.definition_page.specs.Urls.{percent, sanitized, permitted, href_protocols, src_protocols}
@@ -104,6 +104,10 @@ abbrev pub address : Bool → List ℕ → List ℕ
 address true text = codes "mailto:" ++ text
 address false text = text
 
+-- the tag of math in a text
+abbrev pub math_tag : Tag
+math_tag = tag (codes "code") (attribute (codes "class") (codes "language-math math-inline") ∷ [])
+
 -- ---- the description of an image: what its parts say, without tags (CommonMark 6.4)
 
 abbrev mutual
@@ -112,6 +116,7 @@ abbrev mutual
   part_says options (Escape b) = Words (b ∷ []) ∷ []
   part_says options (Character text) = Words text ∷ []
   part_says options (Code text) = Words text ∷ []
+  part_says options (Math text) = Words text ∷ []
   part_says options (Autolink is_email text) = Words text ∷ []
   part_says options (Html html) = html_says options html
   part_says options EscapedBreak = []
@@ -119,6 +124,7 @@ abbrev mutual
   part_says options (LineEnd code) = EndOfLine code ∷ []
   part_says options (Emphasis kids) = description options kids
   part_says options (Strong kids) = description options kids
+  part_says options (Strikethrough kids) = description options kids
   part_says options (Link target kids) = description options kids
   part_says options (Image target kids) = description options kids
 
@@ -139,6 +145,7 @@ abbrev mutual
   part_pieces m (Escape b) = Says (Words (b ∷ [])) ∷ []
   part_pieces m (Character text) = Says (Words text) ∷ []
   part_pieces m (Code text) = element (bare_tag (codes "code")) (Says (Words text) ∷ [])
+  part_pieces m (Math text) = element math_tag (Says (Words text) ∷ [])
   part_pieces m (Autolink is_email text) =
       element (tag (codes "a") (attribute (codes "href") (link_url m.compile (address is_email text)) ∷ [])) (Says (Words text) ∷ [])
   part_pieces m (Html html) = map Says (html_says m.compile html)
@@ -147,6 +154,7 @@ abbrev mutual
   part_pieces m (LineEnd code) = Says (EndOfLine code) ∷ []
   part_pieces m (Emphasis kids) = element (bare_tag (codes "em")) (inline_pieces m kids)
   part_pieces m (Strong kids) = element (bare_tag (codes "strong")) (inline_pieces m kids)
+  part_pieces m (Strikethrough kids) = element (bare_tag (codes "del")) (inline_pieces m kids)
   part_pieces m (Link target kids) = element (link_tag m (leads_to m.definition target)) (inline_pieces m kids)
   part_pieces m (Image target kids) = Void (image_tag m (leads_to m.definition target) (description m.compile kids)) ∷ []
 

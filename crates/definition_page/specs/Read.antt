@@ -1,6 +1,6 @@
 -- From the lines of a text to a page (CommonMark appendix).
 use Rattle.std.specs.Prelude.{ℕ, Bool, true, false, if◌then◌else◌, not, ◌&&◌, ◌||◌, List, [], ◌∷◌, Option, None, Some}
-use Rattle.markdown_options.specs.declared.configuration.Constructs.{Constructs}
+use Rattle.markdown_options.specs.declared.configuration.ParseOptions.{ParseOptions}
 use Rattle.definition_text.specs.declared.beside.Kind.{Kind}
 use Rattle.definition_text.specs.declared.beside.Kind.TheVariants.{Whitespace}
 use Rattle.definition_text.specs.BlockLines.{BlockLine, own_lines}
@@ -20,21 +20,21 @@ use Rattle.definition_page.specs.Page as page
 use Rattle.definition_page.specs.Page.{Page, cons_ending, cons_blank}
 use Rattle.definition_inline.specs.Definition as link
 
--- what a text is read by: the constructs that are on, the tables, and which labels are defined
+-- what a text is read by: the options, the tables, and which labels are defined
 pub record Reading : Type 0 where
-  pub on : Constructs
+  pub options : ParseOptions
   pub tables : TextTables
   pub is_defined : List ℕ → Bool
 
 -- the inline structure of a paragraph or a heading, which ends where a line does (CommonMark 4.8)
 abbrev pub read_text : Reading → List BlockLine → Inlines
 read_text r ls =
-    inlines (record { on = r.on; names = r.tables.names; is_defined = r.is_defined }) (inline_content r.tables.is_punctuation Whitespace ls)
+    inlines (record { options = r.options; names = r.tables.names; is_defined = r.is_defined }) (inline_content r.tables.is_punctuation Whitespace ls)
 
 -- the text of an info string, if there is one (CommonMark 4.5)
 abbrev pub info_text : Reading → List ℕ → Option (List ℕ)
 info_text r [] = None
-info_text r (b ∷ bs) = Some (string_text r.on r.tables.names (b ∷ bs))
+info_text r (b ∷ bs) = Some (string_text r.options.constructs r.tables.names (b ∷ bs))
 
 -- Fenced code that isn't closed ends with its container or the text. In a container the ending of its last line stands outside; at the top it is one of its content, and is said there alone (CommonMark 4.5).
 abbrev pub code_lines : Bool → Bool → List BlockLine → List BlockLine
@@ -89,19 +89,19 @@ ends_blank before tree.Nil = before
 ends_blank before (tree.Cons b bs) = ends_blank (is_blank_ending b) bs
 
 -- the page of these children of a document, which have these definitions
-abbrev pub page_with : TextTables → Constructs → List link.Definition → tree.Blocks → Page
-page_with tables on definitions bs =
-    let r : Reading = record { on = on; tables = tables; is_defined = is_label_of definitions } in
+abbrev pub page_with : TextTables → ParseOptions → List link.Definition → tree.Blocks → Page
+page_with tables options definitions bs =
+    let r : Reading = record { options = options; tables = tables; is_defined = is_label_of definitions } in
     record { blocks = read_blocks r true (grouped bs); definitions = definitions; ends_blank = ends_blank false bs }
 
 -- the page of the children of a document: items are grouped to lists, and contents read by all of its definitions
-abbrev pub page_of : TextTables → Constructs → tree.Blocks → Page
-page_of tables on bs = page_with tables on (document_definitions bs) bs
+abbrev pub page_of : TextTables → ParseOptions → tree.Blocks → Page
+page_of tables options bs = page_with tables options (document_definitions bs) bs
 
 -- the page of a text without a byte order mark, after a character of this kind: its lines are folded to blocks
-abbrev pub read_after : Kind → TextTables → Constructs → List ℕ → Page
-read_after before tables on text = page_of tables on (blocks on before text)
+abbrev pub read_after : Kind → TextTables → ParseOptions → List ℕ → Page
+read_after before tables options text = page_of tables options (blocks options.constructs before text)
 
 -- the page of a text
-abbrev pub read : TextTables → Constructs → List ℕ → Page
-read tables on text = read_after (kind_before_text text) tables on (without_mark text)
+abbrev pub read : TextTables → ParseOptions → List ℕ → Page
+read tables options text = read_after (kind_before_text text) tables options (without_mark text)

@@ -1,5 +1,5 @@
 -- The lines of a text: what each holds, and what ends it (CommonMark 2.1).
-use Rattle.std.specs.Prelude.{ℕ, Bool, false, if◌then◌else◌, ◌==◌, ◌&&◌, ◌||◌, List, [], ◌∷◌, ◌++◌, Option, None, Some, drop}
+use Rattle.std.specs.Prelude.{ℕ, Bool, false, if◌then◌else◌, ◌==◌, ◌&&◌, ◌||◌, List, [], ◌∷◌, Option, None, Some, drop}
 use Rattle.markdown_options.specs.declared.line_ending.LineEnding.{LineEnding}
 use Rattle.markdown_options.specs.declared.line_ending.LineEnding.TheVariants.{CarriageReturnLineFeed, CarriageReturn, LineFeed}
 use Rattle.markdown_options.specs.LineEndings.{ending_bytes}
@@ -41,10 +41,6 @@ ends_line b = (b == 10) || (b == 13)
 abbrev pub ending_text : Option LineEnding → List ℕ
 ending_text None = []
 ending_text (Some e) = ending_bytes e
-
--- the bytes of a line with its ending
-abbrev pub line_bytes : TextLine → List ℕ
-line_bytes line = line.content ++ ending_text line.ending
 
 -- the bytes EF BB BF at the start of a text are a byte order mark
 abbrev pub has_mark : List ℕ → Bool

@@ -1,5 +1,5 @@
 -- Texts with underlined headings, link reference definitions and HTML blocks, and their HTML, which the definition computes.
-use Rattle.std.specs.Prelude.{◌≡◌, true, [], ◌∷◌, ◌++◌, codes, replicate}
+use Rattle.std.specs.Prelude.{◌≡◌, ℕ, true, List, [], ◌∷◌, ◌++◌, codes, map, replicate}
 use Rattle.std.proofs.Common.{refl}
 use Rattle.markdown_options.specs.declared.configuration.Options.{Options}
 use Rattle.markdown_options.specs.Defaults.{no_constructs, default_parse_options, default_compile_options, default_options}
@@ -7,7 +7,8 @@ use Rattle.definition_block.specs.HtmlNames.{raw_names, block_names}
 use Rattle.definition_page.specs.GfmTagfilter.{filtered_names}
 use Rattle.definition_text.specs.declared.beside.Kind.TheVariants.{Whitespace}
 use Rattle.definition_block.specs.Tree.{blocks}
-use Rattle.definition_block.specs.Definitions.{labels}
+use Rattle.definition_block.specs.Blocks.{Blocks}
+use Rattle.definition_block.specs.Definitions.{definitions}
 use Rattle.definition_page.specs.Html.{html}
 use Rattle.examples_block.proofs.SmallTables.{small}
 
@@ -427,6 +428,8 @@ too_long_label : html small (codes "[" ++ replicate 1000 97 ++ codes "]: b") on 
 too_long_label = refl
 
 -- labels, as they are written
+abbrev labels : Blocks → List (List ℕ)
+labels bs = map (λ d. d.label) (definitions bs)
 
 labels_0 : labels (blocks on.parse.constructs Whitespace (codes "[a]: b" ++ (10 ∷ []) ++ codes "> [A]: c" ++ (10 ∷ []) ++ (10 ∷ []) ++ codes "- [a]: d" ++ (10 ∷ []) ++ codes "  1. [e]: f" ++ (10 ∷ []) ++ (10 ∷ []) ++ codes "[a]" ++ (10 ∷ []))) ≡ (codes "a") ∷ (codes "A") ∷ (codes "a") ∷ (codes "e") ∷ []
 labels_0 = refl

@@ -1,3 +1,5 @@
 mod SmallTables
 mod Containers
 mod Leaves
+mod MathFlow
+mod Frontmatter

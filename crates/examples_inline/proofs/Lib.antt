@@ -2,7 +2,9 @@ mod Computing
 mod CharacterEscape
 mod CharacterReference
 mod CodeText
+mod MathText
 mod Attention
+mod GfmStrikethrough
 mod LabelStartLink
 mod LabelStartImage
 mod Autolink

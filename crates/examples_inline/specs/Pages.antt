@@ -4,7 +4,7 @@ use Rattle.std.specs.Str.{bytes_eq}
 use Rattle.std.specs.Char.{is_ascii_punctuation}
 use Rattle.markdown_options.specs.declared.line_ending.LineEnding.TheVariants.{LineFeed}
 use Rattle.markdown_options.specs.declared.configuration.Options.{Options}
-use Rattle.markdown_options.specs.Defaults.{default_compile_options, default_options}
+use Rattle.markdown_options.specs.Defaults.{default_constructs, default_parse_options, default_compile_options, default_options}
 use Rattle.definition_text.specs.declared.beside.Kind.{Kind}
 use Rattle.definition_text.specs.declared.beside.Kind.TheVariants.{Whitespace}
 use Rattle.definition_text.specs.BlockLines.{BlockLine, block_line}
@@ -68,6 +68,24 @@ filtered = record default_options {
   compile = record default_compile_options {
     allow_dangerous_html = true;
     gfm_tagfilter = true;
+  };
+}
+
+-- default options with math, of single dollars or not
+abbrev pub with_math : Bool → Options
+with_math single_dollar = record default_options {
+  parse = record default_parse_options {
+    constructs = record default_constructs { math_text = true };
+    math_text_single_dollar = single_dollar;
+  };
+}
+
+-- default options with strikethrough, of single tildes or not
+abbrev pub with_strikethrough : Bool → Options
+with_strikethrough single_tilde = record default_options {
+  parse = record default_parse_options {
+    constructs = record default_constructs { gfm_strikethrough = true };
+    gfm_strikethrough_single_tilde = single_tilde;
   };
 }
 

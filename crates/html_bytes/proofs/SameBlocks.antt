@@ -180,7 +180,7 @@ module _ (default : List ℕ) (options : Options) (tables : TextTables) (ds : Li
   d = document options tables ds
 
   abbrev pub r : Reading
-  r = record { on = options.parse.constructs; tables = tables; is_defined = is_label_of ds }
+  r = record { options = options.parse; tables = tables; is_defined = is_label_of ds }
 
   abbrev pub m : Meaning
   m = piece_meaning options.parse.constructs options.compile tables.names (linked_by ds)

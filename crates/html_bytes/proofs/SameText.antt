@@ -8,7 +8,7 @@ use Rattle.markdown_options.specs.declared.configuration.Constructs.{Constructs}
 use Rattle.markdown_options.specs.declared.configuration.CompileOptions.{CompileOptions}
 use Rattle.definition_text.specs.Columns.{bytes_of, bare}
 use Rattle.definition_text.specs.Encode.{encode, encoded_byte, plain}
-use Rattle.definition_inline.specs.Inline.{Target, Linked, Inline, Data, Escape, Character, Code, Autolink, Html, EscapedBreak, TrailingBreak, LineEnd, Emphasis, Strong, Link, Image, Inlines, Nil, Cons}
+use Rattle.definition_inline.specs.Inline.{Target, Linked, Inline, Data, Escape, Character, Code, Math, Autolink, Html, EscapedBreak, TrailingBreak, LineEnd, Emphasis, Strong, Strikethrough, Link, Image, Inlines, Nil, Cons}
 use Rattle.definition_inline.specs.Strings.{string_text, eol_bytes}
 use Rattle.definition_page.specs.Urls.{percent, sanitized, permitted, href_protocols, src_protocols}
 use Rattle.definition_page.specs.GfmTagfilter.{filtered}
@@ -153,6 +153,7 @@ mutual
   part_said options (Escape b) = append-nil (encode (b ∷ [])) ∙ append-nil (encoded_byte b)
   part_said options (Character text) = append-nil (encode text)
   part_said options (Code text) = append-nil (encode text)
+  part_said options (Math text) = append-nil (encode text)
   part_said options (Autolink is_email text) = append-nil (encode text)
   part_said options (Html html) = html_said options html
   part_said options EscapedBreak = refl
@@ -160,6 +161,7 @@ mutual
   part_said options (LineEnd code) = append-nil (eol_bytes code)
   part_said options (Emphasis kids) = described options kids
   part_said options (Strong kids) = described options kids
+  part_said options (Strikethrough kids) = described options kids
   part_said options (Link target kids) = described options kids
   part_said options (Image target kids) = described options kids
 
@@ -181,6 +183,8 @@ mutual
   part_printed on options names definition default (Character text) out = refl
   part_printed on options names definition default (Code text) out =
       element_printed default out (bare_tag (codes "code")) (Says (Words text) ∷ []) (encode text) (λ o. refl)
+  part_printed on options names definition default (Math text) out =
+      element_printed default out page.math_tag (Says (Words text) ∷ []) (encode text) (λ o. refl)
   part_printed on options names definition default (Autolink is_email text) out =
       let m = piece_meaning on options names definition in
       let url = address is_email text in
@@ -196,6 +200,9 @@ mutual
       (text_printed on options names definition default kids)
   part_printed on options names definition default (Strong kids) out =
       element_printed default out (bare_tag (codes "strong")) (inline_pieces (piece_meaning on options names definition) kids) (inline_html (inline_meaning on options names definition) kids)
+      (text_printed on options names definition default kids)
+  part_printed on options names definition default (Strikethrough kids) out =
+      element_printed default out (bare_tag (codes "del")) (inline_pieces (piece_meaning on options names definition) kids) (inline_html (inline_meaning on options names definition) kids)
       (text_printed on options names definition default kids)
   part_printed on options names definition default (Link target kids) out =
       let m = piece_meaning on options names definition in

@@ -23,7 +23,7 @@ document options tables definitions = record { options = options; tables = table
 
 -- what inline structure is read by
 abbrev pub context_of : Document → InlineContext
-context_of d = record { on = d.options.parse.constructs; names = d.tables.names; is_defined = is_label_of d.definitions }
+context_of d = record { options = d.options.parse; names = d.tables.names; is_defined = is_label_of d.definitions }
 
 -- and what it is printed by
 abbrev pub meaning_of : Document → InlineMeaning

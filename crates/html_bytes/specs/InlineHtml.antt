@@ -7,7 +7,7 @@ use Rattle.definition_text.specs.Columns.{bytes_of, bare}
 use Rattle.definition_text.specs.Encode.{encode, encoded_byte, plain}
 use Rattle.definition_page.specs.InlinePieces.{HtmlLine, html_lines, leads_to, address}
 use Rattle.html_bytes.specs.RawHtml.{raw_html}
-use Rattle.definition_inline.specs.Inline.{Linked, Inline, Data, Escape, Character, Code, Autolink, Html, EscapedBreak, TrailingBreak, LineEnd, Emphasis, Strong, Link, Image, Inlines, Nil, Cons}
+use Rattle.definition_inline.specs.Inline.{Linked, Inline, Data, Escape, Character, Code, Math, Autolink, Html, EscapedBreak, TrailingBreak, LineEnd, Emphasis, Strong, Strikethrough, Link, Image, Inlines, Nil, Cons}
 use Rattle.definition_inline.specs.Strings.{string_text, eol_bytes}
 
 -- what is printed is given by: the options, the texts of named characters, what the definition of a label leads to, and how the URL of a link and of an image is printed as a value of its attribute
@@ -58,6 +58,7 @@ abbrev mutual
   part_description options (Escape b) = encoded_byte b
   part_description options (Character bytes) = encode bytes
   part_description options (Code bytes) = encode bytes
+  part_description options (Math bytes) = encode bytes
   part_description options (Autolink is_email bytes) = encode bytes
   part_description options (Html text) = html_text_bytes options text
   part_description options EscapedBreak = []
@@ -65,6 +66,7 @@ abbrev mutual
   part_description options (LineEnd code) = eol_bytes code
   part_description options (Emphasis kids) = description options kids
   part_description options (Strong kids) = description options kids
+  part_description options (Strikethrough kids) = description options kids
   part_description options (Link target kids) = description options kids
   part_description options (Image target kids) = description options kids
 
@@ -92,6 +94,7 @@ abbrev mutual
   part_html meaning (Escape b) = encoded_byte b
   part_html meaning (Character bytes) = encode bytes
   part_html meaning (Code bytes) = codes "<code>" ++ encode bytes ++ codes "</code>"
+  part_html meaning (Math bytes) = codes "<code class=\"language-math math-inline\">" ++ encode bytes ++ codes "</code>"
   part_html meaning (Autolink is_email bytes) =
       codes "<a href=\"" ++ meaning.link_url (address is_email bytes) ++ codes "\">" ++ encode bytes ++ codes "</a>"
   part_html meaning (Html text) = html_text_bytes meaning.compile text
@@ -100,6 +103,7 @@ abbrev mutual
   part_html meaning (LineEnd code) = eol_bytes code
   part_html meaning (Emphasis kids) = codes "<em>" ++ inline_html meaning kids ++ codes "</em>"
   part_html meaning (Strong kids) = codes "<strong>" ++ inline_html meaning kids ++ codes "</strong>"
+  part_html meaning (Strikethrough kids) = codes "<del>" ++ inline_html meaning kids ++ codes "</del>"
   part_html meaning (Link target kids) = link_tag meaning (leads_to meaning.definition target) ++ inline_html meaning kids ++ codes "</a>"
   part_html meaning (Image target kids) = image_tag meaning (leads_to meaning.definition target) (description meaning.compile kids)
 

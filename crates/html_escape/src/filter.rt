@@ -14,9 +14,9 @@ ghost use Rattle.html_escape.specs.Tools.{filtered_if};
 
 use crate::replaced::{Replacement, push_replaced};
 use markdown_options::Message;
-use markdown_options::constants::GFM_HTML_TAGFILTER_NAMES;
+use markdown_options::constants::{GFM_HTML_TAGFILTER_NAMES, GFM_HTML_TAGFILTER_SIZE_MAX};
 use std::alloc::{AllocError, Allocator};
-use text_bytes::{is_one_of, without_slash};
+use text_bytes::{is_short_one_of, without_slash};
 use text_search::ByteSet;
 
 /// NUL and `<`.
@@ -132,7 +132,7 @@ fn split_letters(bytes: &[u8]) -> (&[u8], &[u8])
 fn is_filtered_name(name: &[u8]) -> bool
     ensures { result ≡ is_one_of filtered_names name.now }
 {
-    is_one_of(&GFM_HTML_TAGFILTER_NAMES, name)
+    is_short_one_of(&GFM_HTML_TAGFILTER_NAMES, GFM_HTML_TAGFILTER_SIZE_MAX, name)
 }
 
 /// Whether bytes begin with what ends a filtered name.

@@ -3,7 +3,7 @@ use Rattle.std.proofs.Common.{◌≡◌, ℕ, Bool, true, false, cond, List, [],
 use Rattle.std.specs.List.{fold}
 use Rattle.std.proofs.lemmas.List.{append-nil}
 use Rattle.std.proofs.lemmas.List.Sums.{fold-append}
-use Rattle.definition_inline.specs.Inline.{Target, Linked, Inline, Data, Escape, Character, Code, Autolink, Html, EscapedBreak, TrailingBreak, LineEnd, Emphasis, Strong, Link, Image, Inlines, Nil, Cons}
+use Rattle.definition_inline.specs.Inline.{Target, Linked, Inline, Data, Escape, Character, Code, Math, Autolink, Html, EscapedBreak, TrailingBreak, LineEnd, Emphasis, Strong, Strikethrough, Link, Image, Inlines, Nil, Cons}
 use Rattle.definition_page.specs.InlinePieces.{leads_to}
 use Rattle.html_bytes.specs.InlineHtml.{InlineMeaning, title_attribute, link_tag, image_tag, description, inline_html, part_description, part_html}
 use Rattle.inline_rows.specs.InlineRows.{InlineRow, Leave, part_rows, inline_rows}
@@ -87,6 +87,7 @@ mutual
   part_rows_printed meaning (Escape b) out stack = refl
   part_rows_printed meaning (Character bytes) out stack = refl
   part_rows_printed meaning (Code bytes) out stack = refl
+  part_rows_printed meaning (Math bytes) out stack = refl
   part_rows_printed meaning (Autolink is_email bytes) out stack = refl
   part_rows_printed meaning (Html text) out stack = refl
   part_rows_printed meaning EscapedBreak out stack = refl
@@ -94,6 +95,7 @@ mutual
   part_rows_printed meaning (LineEnd code) out stack = refl
   part_rows_printed meaning (Emphasis kids) out stack = span_printed meaning (Emphasis kids) (codes "<em>") (codes "</em>") kids (rows_printed meaning kids) refl refl out stack
   part_rows_printed meaning (Strong kids) out stack = span_printed meaning (Strong kids) (codes "<strong>") (codes "</strong>") kids (rows_printed meaning kids) refl refl out stack
+  part_rows_printed meaning (Strikethrough kids) out stack = span_printed meaning (Strikethrough kids) (codes "<del>") (codes "</del>") kids (rows_printed meaning kids) refl refl out stack
   part_rows_printed meaning (Link target kids) out stack =
       span_printed meaning (Link target kids) (link_tag meaning (leads_to meaning.definition target)) (codes "</a>") kids (rows_printed meaning kids) refl
       (append_assoc (link_tag meaning (leads_to meaning.definition target)) (inline_html meaning kids) (codes "</a>")) out stack

@@ -1,7 +1,8 @@
--- The text of a code span, in bytes.
-use Rattle.std.specs.Prelude.{ℕ, Bool, not, ◌==◌, ◌&&◌, List, map}
-use Rattle.definition_inline.specs.CodeText.{code_space}
+-- The text of a code span, and math, in bytes.
+use Rattle.std.specs.Prelude.{ℕ, Bool, not, ◌==◌, ◌&&◌, List, ◌++◌, codes, map}
+use Rattle.definition_inline.specs.CodeText.{code_space, code_text}
 use Rattle.definition_text.specs.Content.{content_codes}
+use Rattle.definition_text.specs.Encode.{encode}
 
 -- a byte that begins no line ending
 abbrev pub is_in_line : ℕ → Bool
@@ -10,3 +11,7 @@ is_in_line b = not (b == 10) && not (b == 13)
 -- with a space for each line ending
 abbrev pub spaced : List ℕ → List ℕ
 spaced bytes = map code_space (content_codes bytes)
+
+-- math in a text, as it is printed
+abbrev pub math_html : List ℕ → List ℕ
+math_html bytes = codes "<code class=\"language-math math-inline\">" ++ encode (code_text (content_codes bytes)) ++ codes "</code>"

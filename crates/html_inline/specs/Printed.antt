@@ -4,7 +4,7 @@ use Rattle.std.specs.List.{flat_map}
 use Rattle.definition_inline.specs.Inline.{Inline, Linked}
 use Rattle.html_bytes.specs.InlineHtml.{InlineMeaning, url_of, title_attribute, link_tag, part_description, part_html}
 use Rattle.inline_rows.specs.InlineRows.{InlineRow, Part, EnterSpan, EnterLink, EnterImage, Leave}
-use Rattle.definition_inline.specs.Spans.{Span, IsEmphasis, IsStrong}
+use Rattle.definition_inline.specs.Spans.{Span, IsEmphasis, IsStrong, IsStrikethrough}
 
 -- what is open: what is printed where it ends, and whether it stands in the description of an image or is an image
 pub record Opened : Type 0 where
@@ -30,10 +30,12 @@ is_described (o ∷ others) = o.described
 abbrev pub span_start : Span → List ℕ
 span_start IsEmphasis = codes "<em>"
 span_start IsStrong = codes "<strong>"
+span_start IsStrikethrough = codes "<del>"
 
 abbrev pub span_end : Span → List ℕ
 span_end IsEmphasis = codes "</em>"
 span_end IsStrong = codes "</strong>"
+span_end IsStrikethrough = codes "</del>"
 
 -- the tag of an image before its description, and after it (CommonMark 6.4)
 abbrev pub image_start : InlineMeaning → Linked → List ℕ

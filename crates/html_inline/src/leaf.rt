@@ -9,6 +9,7 @@ use crate::character_reference::push_number;
 use crate::code_text::{push_code, push_code_span};
 use crate::form::Form;
 use crate::html_text::push_html_text;
+use crate::math_text::push_math;
 use crate::printing::Printing;
 use html_escape::push_encoded;
 use inline_leaves::LeafPart;
@@ -16,7 +17,7 @@ use markdown_options::{CompileOptions, Tables};
 use std::alloc::{AllocError, Allocator};
 
 /// Prints what a construct says in the description of an image (CommonMark 6.4). `room` is used
-/// for the text of a code span.
+/// for the text of a code span or of math.
 pub(crate) fn push_description<A: Allocator>(
     out: &mut String<A>,
     room: &mut String<A>,
@@ -30,7 +31,8 @@ pub(crate) fn push_description<A: Allocator>(
         LeafPart::Character(text) => push_encoded(out, text),
         LeafPart::Number { radix, digits } => push_number(out, Form::Encoded, radix, digits),
         LeafPart::Code(code) => push_code(out, room, code),
-        LeafPart::Backticks(text) => push_encoded(out, text),
+        LeafPart::Math(math) => push_code(out, room, math),
+        LeafPart::Unclosed(text) => push_encoded(out, text),
         LeafPart::Autolink { text, .. } => push_encoded(out, text),
         LeafPart::Html(html) => push_html_text(out, compile, html),
         LeafPart::LineEnd(ending) => out.push_str(ending.as_str()),
@@ -56,7 +58,8 @@ pub(crate) fn push_leaf<A: Allocator, T: Tables>(
         LeafPart::Character(text) => push_encoded(out, text),
         LeafPart::Number { radix, digits } => push_number(out, Form::Encoded, radix, digits),
         LeafPart::Code(code) => push_code_span(out, room, code),
-        LeafPart::Backticks(text) => push_encoded(out, text),
+        LeafPart::Math(math) => push_math(out, room, math),
+        LeafPart::Unclosed(text) => push_encoded(out, text),
         LeafPart::Autolink { email, text } => {
             push_autolink(out, room, printing.compile, email, text)
         }

@@ -8,6 +8,7 @@ pub mod form;
 pub mod html_text;
 pub mod label_end;
 pub mod leaf;
+pub mod math_text;
 pub mod printing;
 pub mod rows;
 mod stack;

@@ -24,7 +24,7 @@ pub struct Printing<'a, T> {
 pub struct Scratch<A: Allocator> {
     /// What is open, the innermost last.
     pub(crate) stack: Vec<OpenPart, A>,
-    /// A URL, a title or the text of a code span.
+    /// A URL, a title, or the text of a code span or of math.
     pub(crate) text: String<A>,
 }
 

@@ -230,6 +230,7 @@ fn span_start(span: Span) -> &'static str
     match span {
         Span::Emphasis => "<em>",
         Span::Strong => "<strong>",
+        Span::Strikethrough => "<del>",
     }
 }
 
@@ -240,5 +241,6 @@ fn span_end(span: Span) -> &'static str
     match span {
         Span::Emphasis => "</em>",
         Span::Strong => "</strong>",
+        Span::Strikethrough => "</del>",
     }
 }

@@ -11,7 +11,7 @@ use inline_runs::Span;
 /// What is open.
 #[derive(Clone, Copy)]
 pub(crate) enum OpenPart {
-    /// Emphasis or strong emphasis (CommonMark 6.2).
+    /// Emphasis, strong emphasis or strikethrough (CommonMark 6.2 and GFM 6.5).
     Span(Span),
     /// A link (CommonMark 6.3).
     Link,

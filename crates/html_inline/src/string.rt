@@ -141,7 +141,7 @@ fn push_part<A: Allocator>(
     match part {
         LeafPart::Escape(text) => push_formed(out, form, text),
         LeafPart::Character(text) => push_formed(out, form, text),
-        LeafPart::Backticks(text) => push_formed(out, form, text),
+        LeafPart::Unclosed(text) => push_formed(out, form, text),
         LeafPart::Number { radix, digits } => push_number(out, form, radix, digits),
         LeafPart::LineEnd(ending) => push_formed(out, form, ending.as_str()),
         _ => Ok(()),

@@ -4,16 +4,16 @@ use Rattle.std.proofs.lemmas.List.{take_all}
 use Rattle.std.proofs.lemmas.List.Sums.{fold_push}
 use Rattle.block_rows.specs.declared.row.Row.{Row}
 use Rattle.definition_text.specs.BlockLines.{BlockLine}
-use Rattle.block_rows.specs.Rows.{Shown, BlockRow, row_shown, shown}
+use Rattle.block_rows.specs.Rows.{RowsValue, BlockRow, row_value, rows_value}
 use Rattle.html_page.specs.PrinterView.{is_blank_row, ends_blank_rows}
 use Rattle.block_rows.proofs.RowSteps.{shown_more}
 
 -- the last row alone says it
 pub last_row : (rows : List Row) (ls : List BlockLine) (i : ℕ) (d : Row) → i + 1 ≡ length rows
-    → ends_blank_rows (shown rows ls).rows ≡ is_blank_row (row_shown (get_or rows i d) (shown (take i rows) ls).left)
+    → ends_blank_rows (rows_value rows ls).rows ≡ is_blank_row (row_value (get_or rows i d) (rows_value (take i rows) ls).left)
 last_row rows ls i d last =
-    let so_far = shown (take i rows) ls in
-    let row = row_shown (get_or rows i d) so_far.left in
-    ap (λ (rs : List Row). ends_blank_rows (shown rs ls).rows) (sym (take_all (i + 1) rows (omega (arith, last))))
-    ∙ ap (λ (s : Shown). ends_blank_rows s.rows) (shown_more rows ls i d (omega (arith, last)))
+    let so_far = rows_value (take i rows) ls in
+    let row = row_value (get_or rows i d) so_far.left in
+    ap (λ (rs : List Row). ends_blank_rows (rows_value rs ls).rows) (sym (take_all (i + 1) rows (omega (arith, last))))
+    ∙ ap (λ (s : RowsValue). ends_blank_rows s.rows) (shown_more rows ls i d (omega (arith, last)))
     ∙ fold_push (λ (before : Bool) (r : BlockRow). is_blank_row r) false so_far.rows row

@@ -4,7 +4,7 @@ use Rattle.definition_block.specs.declared.container.Container.{Container}
 use Rattle.definition_block.specs.declared.container.Container.TheVariants.{Quote, Item}
 use Rattle.definition_block.specs.Tree.{Block, Paragraph, Heading, Break, IndentedCode, FencedCode, Html, Definition, Holds, Items, Ending, Blank, Blocks, Nil, Cons}
 use Rattle.definition_block.specs.Lists.{has_gap, before, grouped, grouped_block}
-use Rattle.block_rows.specs.Rows.{BlockRow, Exit, entered, rows_of, block_rows}
+use Rattle.block_rows.specs.Rows.{BlockRow, Exit, start_row, rows_of, block_rows}
 use Rattle.html_page.specs.declared.loose.Place.{Place}
 use Rattle.html_page.specs.declared.loose.Ahead.{Ahead}
 use Rattle.html_page.specs.Printable.{IsPrintable, IsPrintableContainer, CanBePrinted}
@@ -53,10 +53,10 @@ BlockPassed b = (gs : Blocks) (outer : List Ahead) (places : List Place)
 
 holds_passed : (c : Container) (kids : Blocks) → IsPrintableContainer c → KidsPassed kids → BlockPassed (Holds c kids)
 holds_passed Quote kids some k gs outer places =
-    ap (λ p. pass_row p (entered Quote)) (pass_rows-append (pass_at (ahead_of gs) outer places) (rows_of kids) (Exit ∷ []) ∙ k (ahead_of gs ∷ outer) places)
+    ap (λ p. pass_row p (start_row Quote)) (pass_rows-append (pass_at (ahead_of gs) outer places) (rows_of kids) (Exit ∷ []) ∙ k (ahead_of gs ∷ outer) places)
 holds_passed (Item item) kids some k gs outer places =
     let at = λ (a : Ahead). pass_at a outer (place_at (ahead_of gs) item.marker (has_gap (grouped kids)) ∷ (places_within kids ++ places)) in
-    ap (λ p. pass_row p (entered (Item item))) (pass_rows-append (pass_at (ahead_of gs) outer places) (rows_of kids) (Exit ∷ []) ∙ k (ahead_of gs ∷ outer) places)
+    ap (λ p. pass_row p (start_row (Item item))) (pass_rows-append (pass_at (ahead_of gs) outer places) (rows_of kids) (Exit ∷ []) ∙ k (ahead_of gs ∷ outer) places)
     ∙ ap at (sym (ahead_of_item item (grouped kids) gs some))
     ∙ ap (λ (bs : Blocks). at (ahead_of bs)) (sym (before_item_is item (grouped kids) gs some))
 

@@ -11,11 +11,14 @@ use Rattle.definition_text.specs.declared.beside.Kind.TheVariants.{Whitespace}
 use Rattle.definition_block.specs.declared.container.Container.{Container}
 use Rattle.definition_block.specs.declared.container.Container.TheVariants.{Quote, Item}
 use Rattle.definition_text.specs.Lines.{TextLine, lines}
+use Rattle.definition_text.specs.Content.{is_eol}
 use Rattle.definition_text.specs.Columns.{Rest, whole, bare, bytes_of, indent, is_byte, is_white, is_blank, trimmed}
 use Rattle.definition_text.specs.Runs.{run, after_run, is_run}
 use Rattle.definition_block.specs.Started.{Started}
 use Rattle.definition_block.specs.Containers.{continues, starts}
 use Rattle.definition_block.specs.CodeFenced.{Fence, first_word, fence_of, fence_start, is_fence_end}
+use Rattle.definition_block.specs.MathFlow.{math_info, math_start}
+use Rattle.definition_block.specs.Frontmatter.{is_metadata_fence, after_metadata_fence, after_frontmatter}
 use Rattle.definition_text.specs.Indents.{small_indent}
 use Rattle.definition_block.specs.CodeIndented.{starts_code_indented}
 use Rattle.definition_block.specs.ThematicBreak.{is_break}
@@ -30,8 +33,8 @@ use Rattle.block_rows.proofs.OpenLines.{AreTextLines, AreLinesTo, SomeClear, Sta
 use Rattle.markdown_options.specs.declared.line_ending.LineEnding.{LineEnding}
 use Rattle.markdown_options.specs.declared.line_ending.LineEnding.TheVariants.{LineFeed}
 use Rattle.definition_text.specs.BlockLines.{BlockLine, spaced_line, own_lines}
-use Rattle.definition_block.specs.Tree.{leaf_text, open_text, beside_in, beside_line, in_container, Block, Paragraph, Heading, Break, IndentedCode, FencedCode, Html, Definition, Holds, Items, Ending, Blank, Blocks, Nil, Cons, join, one, ended, OpenLeaf, Text, Indented, Fenced, OpenHtml, Opening, Leaf, Inside, Tree, tree, nothing, empty_tree, paragraph_of, close_leaf, close, blanks, is_ending, all_endings, front, trailing, without_last, last_of, holds, has_text, with_line, rest_line, html_with, takes, taken, or_heading, or_fence, or_html, begins, text_here, heading_of, underlined, turns, after, text_line_of, break_or_text, begun, leaf_line, start, new, began_blank, goes_on, grow, step, steps, closed, blocks}
-use Rattle.block_rows.specs.Rows.{Shown, shown, shown_as, rows_of}
+use Rattle.definition_block.specs.Tree.{leaf_text, open_text, beside_in, beside_line, in_container, Block, Paragraph, Heading, Break, IndentedCode, FencedCode, Html, Definition, Holds, Items, Ending, Blank, Blocks, Nil, Cons, join, one, ended, OpenLeaf, Text, Indented, Fenced, OpenHtml, Opening, Leaf, Inside, Tree, tree, nothing, empty_tree, paragraph_of, close_leaf, close, blanks, is_ending, all_endings, front, trailing, without_last, last_of, holds, has_text, with_line, rest_line, html_with, takes, taken, or_heading, or_fence, or_html, begins, text_here, heading_of, underlined, turns, after, text_line_of, break_or_text, begun, leaf_line, start, new, began_blank, goes_on, grow, step, steps, closed, children_after, blocks}
+use Rattle.block_rows.specs.Rows.{RowsValue, rows_value, value_with, rows_of}
 use Rattle.block_rows.specs.declared.row.Row.{Row}
 use Rattle.html_page.specs.Printable.{IsPrintableContainer, IsPrintable, ArePrintable, CanBePrinted}
 use Rattle.html_page.proofs.Choose.{choose_if, choose}
@@ -96,6 +99,22 @@ fence_of_fits columns text h k =
 fence_start_fits : (on : Constructs) (rest : Rest) → HaveNoEnding rest → FenceFits (fence_start on rest)
 fence_start_fits on rest clear =
     choose FenceFits (on.code_fenced && small_indent on rest) _ _ (fence_of_fits (indent rest) (bytes_of (bare rest)) (bytes_are_bytes (bare rest)) (bare_clear rest clear)) record { info = tt }
+
+-- the info of math
+clear_test : (b : Bool) → not b ≡ true → b ≡ false
+clear_test true h = sym h
+clear_test false h = refl
+
+clear_text : (text : List ℕ) → list_all (λ c. not (is_eol c)) text ≡ true → HaveNoEnding text
+clear_text [] h = tt
+clear_text (c ∷ cs) h = let parts = and_parts (not (is_eol c)) (list_all (λ d. not (is_eol d)) cs) h in (clear_test (is_eol c) parts.0, clear_text cs parts.1)
+
+math_start_fits : (on : Constructs) (rest : Rest) → FenceFits (math_start on rest)
+math_start_fits on rest =
+    let text = bytes_of (bare rest) in
+    choose FenceFits (on.math_flow && small_indent on rest) _ _
+    (choose FenceFits (leb 2 (run 36 text) && list_all (λ b. not (b == 36)) (after_run 36 text)) _ _ record { info = (refl, clear_text math_info refl) } record { info = tt })
+    record { info = tt }
 
 -- ---- ranks are from 1 to 6
 
@@ -318,8 +337,9 @@ module _ (on : Constructs) (e : Beside) (r : Rest) where
   begins_fits : (paragraph : Bool) → HaveNoEnding r → OptionFits (begins on paragraph r e)
   begins_fits paragraph clear =
       choose OptionFits (starts_code_indented on r && not paragraph) _ _ (some_fits _ tt tt)
-      (or_fence_fits (fence_start on r) (or_html r e (html_start on paragraph r) (or_heading e.ending (heading_atx on r))) (fence_start_fits on r clear)
-      (or_html_fits (html_start on paragraph r) (or_heading e.ending (heading_atx on r)) (or_heading_fits (heading_atx on r) (heading_fits on r clear))))
+      (or_fence_fits (fence_start on r) _ (fence_start_fits on r clear)
+      (or_fence_fits (math_start on r) (or_html r e (html_start on paragraph r) (or_heading e.ending (heading_atx on r))) (math_start_fits on r)
+      (or_html_fits (html_start on paragraph r) (or_heading e.ending (heading_atx on r)) (or_heading_fits (heading_atx on r) (heading_fits on r clear)))))
 
   heading_of_fits : (rank : ℕ) (definitions : Blocks) (ls : List BlockLine) → (1 ≤ rank) × (rank ≤ 6) → CanBePrinted definitions → AreLines ls → OptionFits (heading_of rank definitions ls e.ending)
   heading_of_fits rank definitions [] h k clean = record { tree = tt }
@@ -418,11 +438,40 @@ steps_printable on before e t (line ∷ next ∷ others) p k h =
     steps_printable on Whitespace p.1.0 more (next ∷ others) p.2 (subst (λ o. AreLinesTo o (open_text more.now)) p.1.1 (open_step on before e t line p.0 k))
     (step_fits on before t line p.0 (are_lines (Some e) (open_text t.now) k) h)
 
+-- the lines after a frontmatter are lines of a text, too
+left_are_lines : (line : TextLine) (others : List TextLine) → AreTextLines (line ∷ others) → AreTextLines others
+left_are_lines line [] h = tt
+left_are_lines line (next ∷ others) h = h.2
+
+abbrev SomeLines : Option (List TextLine) → Type 0
+SomeLines None = Unit {0}
+SomeLines (Some ls) = AreTextLines ls
+
+after_fence_lines : (byte : ℕ) (ls : List TextLine) → AreTextLines ls → SomeLines (after_metadata_fence byte ls)
+after_fence_lines byte [] h = tt
+after_fence_lines byte (line ∷ others) h =
+    let left : AreTextLines others = left_are_lines line others h in
+    choose SomeLines (is_metadata_fence byte line.content) (Some others) (after_metadata_fence byte others) left (after_fence_lines byte others left)
+
+after_front_lines : (on : Constructs) (ls : List TextLine) → AreTextLines ls → SomeLines (after_frontmatter on ls)
+after_front_lines on [] h = tt
+after_front_lines on (line ∷ others) h =
+    let left : AreTextLines others = left_are_lines line others h in
+    choose SomeLines (on.frontmatter && is_metadata_fence 45 line.content) _ _ (after_fence_lines 45 others left)
+    (choose SomeLines (on.frontmatter && is_metadata_fence 43 line.content) _ None (after_fence_lines 43 others left) tt)
+
+children_printable : (on : Constructs) (before : Kind) (ls : List TextLine) (o : Option (List TextLine)) → AreTextLines ls → SomeLines o
+    → CanBePrinted (children_after on before ls o)
+children_printable on before ls None clean left = steps_printable on before LineFeed empty_tree ls clean tt (fits empty_tree tt tt)
+children_printable on before ls (Some others) clean left = steps_printable on Whitespace LineFeed empty_tree others left tt (fits empty_tree tt tt)
+
 pub blocks_printable : (on : Constructs) (before : Kind) (text : List ℕ) → ((k : ℕ) → get_or text k 0 < 256) → CanBePrinted (blocks on before text)
-blocks_printable on before text bytes = steps_printable on before LineFeed empty_tree (lines text) (lines_of_text text bytes) tt (fits empty_tree tt tt)
+blocks_printable on before text bytes =
+    let clean = lines_of_text text bytes in
+    children_printable on before (lines text) (after_frontmatter on (lines text)) clean (after_front_lines on (lines text) clean)
 
 -- rows that stand for the blocks of a text
 pub shown_printable : (on : Constructs) (before : Kind) (text : List ℕ) (rows : List Row) (ls left : List BlockLine) → ((k : ℕ) → get_or text k 0 < 256)
-    → shown rows ls ≡ shown_as (rows_of (blocks on before text)) left → ArePrintable (shown rows ls).rows
+    → rows_value rows ls ≡ value_with (rows_of (blocks on before text)) left → ArePrintable (rows_value rows ls).rows
 shown_printable on before text rows ls left bytes h =
-    subst ArePrintable (sym (ap (λ (s : Shown). s.rows) h)) (printable_rows_of (blocks on before text) (blocks_printable on before text bytes))
+    subst ArePrintable (sym (ap (λ (s : RowsValue). s.rows) h)) (printable_rows_of (blocks on before text) (blocks_printable on before text bytes))

@@ -7,7 +7,7 @@ use Rattle.std.proofs.lemmas.List.Sums.{fold_push, fold-append}
 use Rattle.block_rows.specs.declared.row.Row.{Row}
 use Rattle.html_bytes.specs.Document.{Document}
 use Rattle.definition_text.specs.BlockLines.{BlockLine}
-use Rattle.block_rows.specs.Rows.{BlockRow, Shown, shown, shown_as, show_row, row_shown, lines_taken}
+use Rattle.block_rows.specs.Rows.{BlockRow, RowsValue, rows_value, value_with, show_row, row_value, row_size}
 use Rattle.html_page.specs.Printable.{IsPrintableRow, ArePrintable}
 use Rattle.html_page.specs.PrinterView.{PrinterView, print_row, print_all}
 
@@ -19,30 +19,30 @@ printed_more d default p rows row = fold_push (print_row d default) p rows row
 -- ---- a row that is shown
 
 -- the rows that are shown already stay
-pub shown_after : (s : Shown) (rows : List Row) → (fold show_row s rows).rows ≡ s.rows ++ (fold show_row (shown_as [] s.left) rows).rows
+pub shown_after : (s : RowsValue) (rows : List Row) → (fold show_row s rows).rows ≡ s.rows ++ (fold show_row (value_with [] s.left) rows).rows
 shown_after s [] = sym (append-nil s.rows)
 shown_after s (r ∷ rs) =
-    let b = row_shown r s.left in
-    let left = drop (lines_taken r) s.left in
+    let b = row_value r s.left in
+    let left = drop (row_size r) s.left in
     shown_after (show_row s r) rs
-    ∙ append_assoc s.rows (b ∷ []) (fold show_row (shown_as [] left) rs).rows
-    ∙ ap (λ x. s.rows ++ x) (sym (shown_after (show_row (shown_as [] s.left) r) rs))
+    ∙ append_assoc s.rows (b ∷ []) (fold show_row (value_with [] left) rs).rows
+    ∙ ap (λ x. s.rows ++ x) (sym (shown_after (show_row (value_with [] s.left) r) rs))
 
 all_at : {X : Type 0} (P : X → Type 0) (xs : List X) (y : X) (ys : List X) → All P (xs ++ y ∷ ys) → P y
 all_at P [] y ys h = All-head P y ys h
 all_at P (x ∷ xs) y ys h = all_at P xs y ys (All-tail P x (xs ++ y ∷ ys) h)
 
 -- each row that is shown can be printed
-pub printable_at : (rows : List Row) (ls : List BlockLine) (i : ℕ) (d : Row) → i < length rows → ArePrintable (shown rows ls).rows
-    → IsPrintableRow (row_shown (get_or rows i d) (shown (take i rows) ls).left)
+pub printable_at : (rows : List Row) (ls : List BlockLine) (i : ℕ) (d : Row) → i < length rows → ArePrintable (rows_value rows ls).rows
+    → IsPrintableRow (row_value (get_or rows i d) (rows_value (take i rows) ls).left)
 printable_at rows ls i d lt h =
-    let so_far = shown (take i rows) ls in
+    let so_far = rows_value (take i rows) ls in
     let row = get_or rows i d in
-    let b = row_shown row so_far.left in
-    let others = (fold show_row (shown_as [] (drop (lines_taken row) so_far.left)) (drop (i + 1) rows)).rows in
-    let split : (shown rows ls).rows ≡ so_far.rows ++ b ∷ others =
-    ap (λ rs. (shown rs ls).rows) (sym (take-append-drop i rows))
-    ∙ ap (λ (s : Shown). s.rows) (fold-append show_row (shown_as [] ls) (take i rows) (drop i rows))
+    let b = row_value row so_far.left in
+    let others = (fold show_row (value_with [] (drop (row_size row) so_far.left)) (drop (i + 1) rows)).rows in
+    let split : (rows_value rows ls).rows ≡ so_far.rows ++ b ∷ others =
+    ap (λ rs. (rows_value rs ls).rows) (sym (take-append-drop i rows))
+    ∙ ap (λ (s : RowsValue). s.rows) (fold-append show_row (value_with [] ls) (take i rows) (drop i rows))
     ∙ ap (λ rs. (fold show_row so_far rs).rows) (drop_more rows i d lt)
     ∙ shown_after (show_row so_far row) (drop (i + 1) rows)
     ∙ append_assoc so_far.rows (b ∷ []) others in

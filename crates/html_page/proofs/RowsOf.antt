@@ -11,7 +11,7 @@ use Rattle.html_bytes.specs.Pieces.{print, layout}
 use Rattle.html_bytes.specs.Document.{Document}
 use Rattle.definition_page.specs.Read.{ends_blank, is_blank_ending}
 use Rattle.html_bytes.specs.Html.{children_pieces, last_piece, document_pieces}
-use Rattle.block_rows.specs.Rows.{BlockRow, Single, Exit, entered, rows_of, block_rows, spaced_definition}
+use Rattle.block_rows.specs.Rows.{BlockRow, Single, Exit, start_row, rows_of, block_rows, spaced_definition}
 use Rattle.html_page.specs.declared.level.Holder.TheVariants as holder
 use Rattle.html_page.specs.declared.loose.Place.{Place}
 use Rattle.html_page.specs.Printable.{IsPrintable, IsPrintableRow, ArePrintable, CanBePrinted}
@@ -35,7 +35,7 @@ block_ends_blank (FencedCode info closed ls) blank h = refl
 block_ends_blank (Html ls) blank h = refl
 block_ends_blank (Definition label destination title) blank h = refl
 block_ends_blank (Holds c kids) blank h =
-    fold-append (λ (before : Bool) row. is_blank_row row) (is_blank_row (entered c)) (rows_of kids) (Exit ∷ [])
+    fold-append (λ (before : Bool) row. is_blank_row row) (is_blank_row (start_row c)) (rows_of kids) (Exit ∷ [])
 block_ends_blank (Items items) blank h = absurd h
 block_ends_blank (Ending ending) blank h = refl
 block_ends_blank (Blank ending) blank h = refl
@@ -69,7 +69,7 @@ all_append P (x ∷ xs) ys h k = All-cons P x (xs ++ ys) (All-head P x xs h) (al
 all_one : (row : BlockRow) → IsPrintableRow row → ArePrintable (row ∷ [])
 all_one row h = All-cons IsPrintableRow row [] h (All-nil IsPrintableRow)
 
-entered_printable : (c : Container) → IsPrintableRow (entered c)
+entered_printable : (c : Container) → IsPrintableRow (start_row c)
 entered_printable Quote = tt
 entered_printable (Item item) = tt
 
@@ -83,7 +83,7 @@ mutual
   printable_block (Html ls) h = all_one (Single (Html ls)) h
   printable_block (Definition label destination title) h = all_one (Single (spaced_definition label destination title)) h
   printable_block (Holds c kids) h =
-      All-cons IsPrintableRow (entered c) (rows_of kids ++ Exit ∷ []) (entered_printable c) (all_append IsPrintableRow (rows_of kids) (Exit ∷ []) (printable_rows_of kids h.1) (all_one Exit tt))
+      All-cons IsPrintableRow (start_row c) (rows_of kids ++ Exit ∷ []) (entered_printable c) (all_append IsPrintableRow (rows_of kids) (Exit ∷ []) (printable_rows_of kids h.1) (all_one Exit tt))
   printable_block (Items items) h = absurd h
   printable_block (Ending ending) h = all_one (Single (Ending ending)) h
   printable_block (Blank ending) h = all_one (Single (Blank ending)) h

@@ -8,12 +8,12 @@ ghost use Rattle.block_rows.specs.ParagraphLines.{HaveNoEnding};
 ghost use Rattle.definition_block.specs.Tree.{FencedCode};
 ghost use Rattle.html_bytes.specs.Html.{block_pieces, class_of, fenced_content};
 ghost use Rattle.block_rows.specs.Rows.{piece_lines};
-ghost use Rattle.html_text.specs.Texts.{document_by};
+ghost use Rattle.html_contents.specs.Texts.{document_by};
 ghost use Rattle.html_page.specs.Prints.{LaysOut, Prints};
 
 use crate::page::Page;
 use block_rows::Piece;
-use html_text::Texts;
+use html_contents::Texts;
 use markdown_options::{LineEnding, Tables};
 use std::alloc::{AllocError, Allocator};
 

@@ -6,12 +6,12 @@ ghost use Rattle.definition_block.specs.Tree.{Heading};
 ghost use Rattle.html_bytes.specs.Html.{block_pieces};
 ghost use Rattle.block_rows.specs.ParagraphLines.{HaveNoEnding};
 ghost use Rattle.block_rows.specs.Rows.{piece_line};
-ghost use Rattle.html_text.specs.Texts.{HasDefinitions, document_by};
+ghost use Rattle.html_contents.specs.Texts.{HasDefinitions, document_by};
 ghost use Rattle.html_page.specs.Prints.{LaysOut};
 
 use crate::page::Page;
 use block_rows::Piece;
-use html_text::Texts;
+use html_contents::Texts;
 use markdown_options::Tables;
 use std::alloc::{AllocError, Allocator};
 

@@ -1,7 +1,7 @@
 //! What holds a row (CommonMark 5).
 ghost use Rattle.std.specs.Prelude.{◌≡◌, List};
 ghost use Rattle.definition_text.specs.BlockLines.{BlockLine};
-ghost use Rattle.block_rows.specs.Rows.{row_shown};
+ghost use Rattle.block_rows.specs.Rows.{row_value};
 ghost use Rattle.html_page.specs.Levels.{is_document, is_list, level_after, new_level};
 
 use block_rows::Row;
@@ -45,7 +45,7 @@ impl Level {
     /// The level after one more row in it. An ending right after a tight paragraph or a definition
     /// prints nothing, nor does one after fenced code at the top that isn't closed.
     pub(crate) fn after(self, row: Row) -> Level
-        ensures { (ls : List BlockLine) → result ≡ level_after self (row_shown row ls) }
+        ensures { (ls : List BlockLine) → result ≡ level_after self (row_value row ls) }
     {
         let (plain, silent) = match row {
             Row::Paragraph(_) | Row::WholeParagraph(_) => (self.tight, self.tight),

@@ -2,7 +2,7 @@
 ghost use Rattle.std.specs.Prelude.{◌≡◌, List, IfOk, OnOk, reverse};
 ghost use Rattle.std.specs.List.{list_any};
 ghost use Rattle.definition_text.specs.BlockLines.{BlockLine};
-ghost use Rattle.block_rows.specs.Rows.{row_shown, shown};
+ghost use Rattle.block_rows.specs.Rows.{row_value, rows_value};
 ghost use Rattle.html_page.specs.Loose.{before_block, before_ending, before_item, place_at, pass_view, pass_row, pass_item, leave, places_of, starts_item};
 
 use block_rows::Row;
@@ -95,7 +95,7 @@ struct Pass<A: Allocator> {
 impl<A: Allocator> Pass<A> {
     /// One row more, in front of the others.
     fn row(&mut self, row: Row) -> Result<(), AllocError>
-        ensures { OnOk result ((ls : List BlockLine) → pass_view self.new ≡ pass_row (pass_view self.old) (row_shown row ls)) }
+        ensures { OnOk result ((ls : List BlockLine) → pass_view self.new ≡ pass_row (pass_view self.old) (row_value row ls)) }
     {
         match row {
             Row::Exit => {
@@ -136,7 +136,7 @@ pub(crate) fn places<A: Allocator + Clone>(
     alloc: A,
     rows: &[Row],
 ) -> Result<Vec<Place, A>, AllocError>
-    ensures { IfOk result (λ places. (ls : List BlockLine) → reverse places.items ≡ places_of (shown rows.now ls).rows) }
+    ensures { IfOk result (λ places. (ls : List BlockLine) → reverse places.items ≡ places_of (rows_value rows.now ls).rows) }
 {
     if !has_items(rows) {
         return Ok(Vec::new(alloc));

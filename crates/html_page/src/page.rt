@@ -6,14 +6,14 @@ ghost use Rattle.definition_inline.specs.Definition.{Definition};
 ghost use Rattle.definition_block.specs.Tree.{Paragraph, Break};
 ghost use Rattle.definition_page.specs.Pieces.{is_fresh};
 ghost use Rattle.html_bytes.specs.Pieces.{Fresh, print};
-ghost use Rattle.block_rows.specs.Rows.{lines_taken, piece_lines, row_shown};
-ghost use Rattle.html_text.specs.Texts.{HasDefinitions, document_by};
+ghost use Rattle.block_rows.specs.Rows.{row_size, piece_lines, row_value};
+ghost use Rattle.html_contents.specs.Texts.{HasDefinitions, document_by};
 ghost use Rattle.html_page.specs.Levels.{row_pieces};
 ghost use Rattle.html_page.specs.Printable.{IsPrintableRow};
 
 use crate::level::Level;
 use block_rows::{Piece, Row, push_ending};
-use html_text::{TextBuffers, Texts};
+use html_contents::{TextBuffers, Texts};
 use markdown_options::{LineEnding, Tables};
 use std::alloc::{AllocError, Allocator};
 
@@ -37,11 +37,11 @@ impl<A: Allocator + Clone> Page<A> {
         level: Level,
         lines: &[Piece<'_>],
     ) -> Result<(), AllocError>
-        requires enough { lines_taken row ≤ length lines.now }
-        requires printable { IsPrintableRow (row_shown row (piece_lines lines.now)) }
+        requires enough { row_size row ≤ length lines.now }
+        requires printable { IsPrintableRow (row_value row (piece_lines lines.now)) }
         ensures default { self.new.default_ending ≡ self.old.default_ending }
         ensures printed { (ds : List Definition) → HasDefinitions texts.now.labels.now texts.now.links.now ds →
-            OnOk result (LaysOut self.old self.new (row_pieces (document_by T.Tables texts.now ds) level (row_shown row (piece_lines lines.now)))) }
+            OnOk result (LaysOut self.old self.new (row_pieces (document_by T.Tables texts.now ds) level (row_value row (piece_lines lines.now)))) }
     {
         let top = level.is_document();
         match row {

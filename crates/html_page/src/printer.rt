@@ -6,8 +6,8 @@ ghost use Rattle.definition_text.specs.BlockLines.{BlockLine};
 ghost use Rattle.definition_block.specs.Tree.{Blocks};
 ghost use Rattle.html_bytes.specs.Pieces.{layout};
 ghost use Rattle.html_bytes.specs.Html.{document_pieces};
-ghost use Rattle.block_rows.specs.Rows.{all_taken, lines_taken, piece_lines, rows_of, row_shown, shown};
-ghost use Rattle.html_text.specs.Texts.{HasDefinitions, document_by};
+ghost use Rattle.block_rows.specs.Rows.{rows_size, row_size, piece_lines, rows_of, row_value, rows_value};
+ghost use Rattle.html_contents.specs.Texts.{HasDefinitions, document_by};
 ghost use Rattle.html_page.specs.Printable.{IsPrintableRow, ArePrintable, CanBePrinted};
 ghost use Rattle.html_page.specs.PrinterView.{ends_blank_rows, is_blank_row, printer_view, print_row};
 
@@ -15,7 +15,7 @@ use crate::level::{Holder, Level};
 use crate::loose::{Place, places};
 use crate::page::Page;
 use block_rows::{Piece, Row};
-use html_text::{TextBuffers, Texts};
+use html_contents::{TextBuffers, Texts};
 use markdown_options::{LineEnding, Tables};
 use std::alloc::{AllocError, Allocator};
 
@@ -38,12 +38,12 @@ impl<A: Allocator + Clone> Printer<A> {
         row: Row,
         lines: &[Piece<'_>],
     ) -> Result<(), AllocError>
-        requires enough { lines_taken row ≤ length lines.now }
-        requires printable { IsPrintableRow (row_shown row (piece_lines lines.now)) }
+        requires enough { row_size row ≤ length lines.now }
+        requires printable { IsPrintableRow (row_value row (piece_lines lines.now)) }
         ensures default { self.new.page.default_ending ≡ self.old.page.default_ending }
         ensures printed { (ds : List Definition) → HasDefinitions texts.now.labels.now texts.now.links.now ds →
-            let d = document_by T.Tables texts.now ds in let shown = row_shown row (piece_lines lines.now) in
-            OnOk result (printer_view self.new ≡ print_row d (ending_bytes self.old.page.default_ending) (printer_view self.old) shown) }
+            let d = document_by T.Tables texts.now ds in let value = row_value row (piece_lines lines.now) in
+            OnOk result (printer_view self.new ≡ print_row d (ending_bytes self.old.page.default_ending) (printer_view self.old) value) }
     {
         match row {
             Row::EnterQuote => self.enter_quote(),
@@ -71,10 +71,10 @@ pub fn print_rows<T: Tables, A: Allocator + Clone>(
     rows: &[Row],
     pieces: &[Piece<'_>],
 ) -> Result<String<A>, AllocError>
-    requires enough { all_taken rows.now ≤ length pieces.now }
-    requires printable { ArePrintable (shown rows.now (piece_lines pieces.now)).rows }
+    requires enough { rows_size rows.now ≤ length pieces.now }
+    requires printable { ArePrintable (rows_value rows.now (piece_lines pieces.now)).rows }
     ensures { (ds : List Definition) → HasDefinitions texts.now.labels.now texts.now.links.now ds →
-        (bs : Blocks) → (shown rows.now (piece_lines pieces.now)).rows ≡ rows_of bs → CanBePrinted bs →
+        (bs : Blocks) → (rows_value rows.now (piece_lines pieces.now)).rows ≡ rows_of bs → CanBePrinted bs →
         IfOk result (λ html. string_bytes html ≡ layout (ending_bytes default_ending) (document_pieces (document_by T.Tables texts.now ds) bs)) }
 {
     let mut printer = Printer {
@@ -87,10 +87,10 @@ pub fn print_rows<T: Tables, A: Allocator + Clone>(
         outer: Vec::new(alloc.clone()?),
         places: places(alloc, rows)?,
     };
-    let mut taken = 0;
+    let mut at = 0;
     for row in rows {
-        printer.row(texts, *row, &pieces[taken..])?;
-        taken += row.lines_taken();
+        printer.row(texts, *row, &pieces[at..])?;
+        at += row.size();
     }
     if ends_blank(rows) {
         printer.page.fresh()?;
@@ -102,7 +102,7 @@ pub fn print_rows<T: Tables, A: Allocator + Clone>(
 
 /// Whether the last row is the ending of a blank line.
 fn ends_blank(rows: &[Row]) -> bool
-    ensures { (ls : List BlockLine) → result ≡ ends_blank_rows (shown rows.now ls).rows }
+    ensures { (ls : List BlockLine) → result ≡ ends_blank_rows (rows_value rows.now ls).rows }
 {
     match rows.last() {
         None => false,
@@ -111,7 +111,7 @@ fn ends_blank(rows: &[Row]) -> bool
 }
 
 fn is_blank_ending(row: Row) -> bool
-    ensures { (ls : List BlockLine) → result ≡ is_blank_row (row_shown row ls) }
+    ensures { (ls : List BlockLine) → result ≡ is_blank_row (row_value row ls) }
 {
     matches!(row, Row::Blank(Some(_)))
 }

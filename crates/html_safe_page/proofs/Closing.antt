@@ -52,10 +52,10 @@ unfolding letters
 letters_spelled [] = refl
 letters_spelled (b ∷ bs) = ap (λ x. spell_letter b ++ x) (letters_spelled bs)
 
-safe_text : (text : List ℕ) → IsSafePage (spell_text text [])
+pub safe_text : (text : List ℕ) → IsSafePage (spell_text text [])
 safe_text text = (letters text, (letters_safe text, letters_spelled text))
 
-texts_append : (a b : List ℕ) → spell_text (a ++ b) [] ≡ spell_text a [] ++ spell_text b []
+pub texts_append : (a b : List ℕ) → spell_text (a ++ b) [] ≡ spell_text a [] ++ spell_text b []
 texts_append [] b = refl
 texts_append (c ∷ cs) b = ap (λ x. spell_letter c ++ x) (texts_append cs b) ∙ sym (append_assoc (spell_letter c) (spell_text cs []) (spell_text b []))
 
@@ -76,7 +76,7 @@ encoded_plain b k =
 encoded_spelled : (b : ℕ) → encoded_byte b ≡ spell_text (plain_byte b) []
 encoded_spelled b = by_kind (λ b. encoded_byte b ≡ spell_text (plain_byte b) []) refl refl refl refl encoded_plain b
 
-encode_spelled : (text : List ℕ) → encode text ≡ spell_text (plain text) []
+pub encode_spelled : (text : List ℕ) → encode text ≡ spell_text (plain text) []
 encode_spelled [] = refl
 encode_spelled (b ∷ bs) =
     ap (λ x. x ++ encode bs) (encoded_spelled b)

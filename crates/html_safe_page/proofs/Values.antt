@@ -137,7 +137,7 @@ src_plain : list_all all_plain src_protocols ≡ true
 unfolding src_protocols
 src_plain = refl
 
-value_spelled : (name text : List ℕ) → is_value name text ≡ is_value name (sp text)
+pub value_spelled : (name text : List ℕ) → is_value name text ≡ is_value name (sp text)
 value_spelled name text =
     let href = bytes_eq name (codes "href") in
     let src = bytes_eq name (codes "src") in

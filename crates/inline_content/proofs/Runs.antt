@@ -1,12 +1,12 @@
 -- The run that a rest of a content begins with.
-use Rattle.std.proofs.Common.{◌≡◌, ℕ, zero, suc, ◌+◌, ◌-◌, ◌<◌, ◌≤◌, Bool, true, false, cond, eqb, ◌==◌, ◌||◌, ◌⊎◌, List, [], ◌∷◌, ◌++◌, None, Some, inl, inr, refl, sym, ap, ◌∙◌, get_or, length, take, drop, subst, arith}
+use Rattle.std.proofs.Common.{◌≡◌, ℕ, zero, suc, ◌+◌, ◌-◌, ◌<◌, ◌≤◌, Bool, true, false, cond, eqb, ◌==◌, ◌||◌, ◌&&◌, ◌⊎◌, List, [], ◌∷◌, ◌++◌, None, Some, inl, inr, refl, sym, ap, ◌∙◌, get_or, length, take, drop, subst, arith}
 use Rattle.std.specs.List.{prefix_len}
-use Rattle.std.proofs.lemmas.Bool.{cases_Bool, cond-true, cond-false, eqb-true, ne_eqb, eq-eqb, or_cases, and_parts, and_right, or_from}
+use Rattle.std.proofs.lemmas.Bool.{true≢false, cases_Bool, cond-true, cond-false, eqb-true, ne_eqb, eq-eqb, or_cases, or_parts, and_parts, and_right, or_from}
 use Rattle.std.proofs.lemmas.List.{take-append-drop, drop-map, drop_at, drop_all, length-append}
 use Rattle.std.proofs.lemmas.List.Sums.{prefix_len_passes, prefix_len-le-length}
 use Rattle.std.specs.Str.{IsUtf8, IsCharBoundary}
 use Rattle.std.proofs.lemmas.Str.{IsCharBoundary-after_ascii}
-use Rattle.markdown_options.specs.declared.configuration.Constructs.{Constructs}
+use Rattle.markdown_options.specs.declared.configuration.ParseOptions.{ParseOptions}
 use Rattle.definition_text.specs.declared.beside.Kind.{Kind}
 use Rattle.definition_text.specs.declared.beside.Kind.TheVariants.{Whitespace}
 use Rattle.definition_text.specs.Content.{is_eol, content_codes}
@@ -21,79 +21,99 @@ use Rattle.inline_content.proofs.Places.{codes_append, split_codes}
 
 -- ---- the byte of a run
 
-marker_is : (on : Constructs) (b : ℕ) → is_marker on b ≡ true → (b ≡ 42) ⊎ (b ≡ 95)
-marker_is on b h = elim (or_cases (eqb b 42) (eqb b 95) (and_parts on.attention _ h).1) [
-  | inl s ↦ inl (eqb-true b 42 s)
-  | inr u ↦ inr (eqb-true b 95 u)
+-- a byte whose runs may form spans with some options
+abbrev pub may_mark : ℕ → Bool
+may_mark b = (eqb b 42 || eqb b 95) || eqb b 126
+
+marker_is : (options : ParseOptions) (b : ℕ) → is_marker options b ≡ true → (b ≡ 42) ⊎ ((b ≡ 95) ⊎ (b ≡ 126))
+marker_is options b h = elim (or_cases (options.constructs.attention && (eqb b 42 || eqb b 95)) _ h) [
+  | inl p ↦ elim (or_cases (eqb b 42) (eqb b 95) (and_parts options.constructs.attention _ p).1) [
+    | inl s ↦ inl (eqb-true b 42 s)
+    | inr u ↦ inr (inl (eqb-true b 95 u))
+  ]
+  | inr p ↦ inr (inr (eqb-true b 126 (and_parts options.constructs.gfm_strikethrough _ p).1))
 ]
 
-marker_at : (on : Constructs) (b n : ℕ) → is_marker on b ≡ true → (n ≡ 42 → ⊥) → (n ≡ 95 → ⊥) → b ≡ n → ⊥
-marker_at on b n h star under e = elim (marker_is on b h) [
-  | inl s ↦ star (sym e ∙ s)
-  | inr u ↦ under (sym e ∙ u)
+-- it is no other byte
+pub marker_at : (options : ParseOptions) (b n : ℕ) → is_marker options b ≡ true → may_mark n ≡ false → b ≡ n → ⊥
+marker_at options b n h other e = elim (marker_is options b h) [
+  | inl s ↦ true≢false (sym (ap may_mark (sym e ∙ s)) ∙ other)
+  | inr p ↦ elim p [
+    | inl u ↦ true≢false (sym (ap may_mark (sym e ∙ u)) ∙ other)
+    | inr t ↦ true≢false (sym (ap may_mark (sym e ∙ t)) ∙ other)
+  ]
 ]
 
-no_marker : (on : Constructs) (c : ℕ) → (c ≡ 42 → ⊥) → (c ≡ 95 → ⊥) → is_marker on c ≡ false
-no_marker on c star under = and_right on.attention _ (or_from (eqb c 42) (eqb c 95) (ne_eqb c 42 star) (ne_eqb c 95 under))
+pub marker_ascii : (options : ParseOptions) (b : ℕ) → is_marker options b ≡ true → b < 128
+marker_ascii options b h = elim (marker_is options b h) [
+  | inl s ↦ omega (arith, s)
+  | inr p ↦ elim p [
+    | inl u ↦ omega (arith, u)
+    | inr t ↦ omega (arith, t)
+  ]
+]
 
-within_line : (on : Constructs) (b : ℕ) → is_marker on b ≡ true → is_eol b ≡ false
-within_line on b h =
-    let apart : (n : ℕ) → (n ≡ 42 → ⊥) → (n ≡ 95 → ⊥) → eqb b n ≡ false = λ n star under. ne_eqb b n (marker_at on b n h star under) in
-    or_from (eqb b 10 || eqb b 13) (eqb b 257)
-    (or_from (eqb b 10) (eqb b 13) (apart 10 (λ e. omega (arith, e)) (λ e. omega (arith, e))) (apart 13 (λ e. omega (arith, e)) (λ e. omega (arith, e))))
-    (apart 257 (λ e. omega (arith, e)) (λ e. omega (arith, e)))
+pub no_marker : (options : ParseOptions) (c : ℕ) → may_mark c ≡ false → is_marker options c ≡ false
+no_marker options c h =
+    let p = or_parts (eqb c 42 || eqb c 95) (eqb c 126) h in
+    or_from _ _ (and_right options.constructs.attention _ p.0) (and_right options.constructs.gfm_strikethrough _ p.1)
+
+within_line : (options : ParseOptions) (b : ℕ) → is_marker options b ≡ true → is_eol b ≡ false
+within_line options b h =
+    let apart : (n : ℕ) → may_mark n ≡ false → eqb b n ≡ false = λ n other. ne_eqb b n (marker_at options b n h other) in
+    or_from (eqb b 10 || eqb b 13) (eqb b 257) (or_from (eqb b 10) (eqb b 13) (apart 10 refl) (apart 13 refl)) (apart 257 refl)
 
 -- ---- no run
 
-no_run_codes : (on : Constructs) (v : List InlineCode) → ((c : ℕ) (cs : List ℕ) → codes_of v ≡ c ∷ cs → is_marker on c ≡ false) → run_at on v ≡ None
-no_run_codes on [] h = refl
-no_run_codes on (c ∷ cs) h = cond-false (is_marker on c.code) _ _ (h c.code (codes_of cs) refl)
+no_run_codes : (options : ParseOptions) (v : List InlineCode) → ((c : ℕ) (cs : List ℕ) → codes_of v ≡ c ∷ cs → is_marker options c ≡ false) → run_at options v ≡ None
+no_run_codes options [] h = refl
+no_run_codes options (c ∷ cs) h = cond-false (is_marker options c.code) _ _ (h c.code (codes_of cs) refl)
 
 head_is : (c d : ℕ) (cs ds : List ℕ) → c ∷ cs ≡ d ∷ ds → c ≡ d
 head_is c d cs ds e = ap (λ l. get_or l 0 0) e
 
 -- the first code of bytes that don't begin with a marker
-first_code_is : (on : Constructs) (b : ℕ) (bs : List ℕ) → is_marker on b ≡ false → (c : ℕ) (cs : List ℕ) → content_codes (b ∷ bs) ≡ c ∷ cs → is_marker on c ≡ false
-first_code_is on b bs h c cs e = elim (cases_Bool (eqb b 13)) [
+first_code_is : (options : ParseOptions) (b : ℕ) (bs : List ℕ) → is_marker options b ≡ false → (c : ℕ) (cs : List ℕ) → content_codes (b ∷ bs) ≡ c ∷ cs → is_marker options c ≡ false
+first_code_is options b bs h c cs e = elim (cases_Bool (eqb b 13)) [
   | inl r ↦ go bs (eqb-true b 13 r) e
-  | inr o ↦ subst (λ x. is_marker on x ≡ false) (head_is b c (content_codes bs) cs (sym (cond-false (eqb b 13) _ _ o) ∙ e)) h
+  | inr o ↦ subst (λ x. is_marker options x ≡ false) (head_is b c (content_codes bs) cs (sym (cond-false (eqb b 13) _ _ o) ∙ e)) h
 ]
   where
-    go : (bs : List ℕ) → b ≡ 13 → content_codes (b ∷ bs) ≡ c ∷ cs → is_marker on c ≡ false
+    go : (bs : List ℕ) → b ≡ 13 → content_codes (b ∷ bs) ≡ c ∷ cs → is_marker options c ≡ false
     go [] r e =
         let first = head_is 13 c [] cs (ap (λ x. content_codes (x ∷ [])) (sym r) ∙ e) in
-        no_marker on c (λ f. omega (arith, f, first)) (λ f. omega (arith, f, first))
+        no_marker options c (ap may_mark (sym first))
     go (d ∷ ds) r e = elim (cases_Bool (eqb d 10)) [
       | inl f ↦
           let first = head_is 257 c (drop 1 (content_codes (d ∷ ds))) cs (sym (cond-true (eqb d 10) _ _ f) ∙ ap (λ x. content_codes (x ∷ d ∷ ds)) (sym r) ∙ e) in
-          no_marker on c (λ f. omega (arith, f, first)) (λ f. omega (arith, f, first))
+          no_marker options c (ap may_mark (sym first))
       | inr n ↦
           let first = head_is 13 c (content_codes (d ∷ ds)) cs (sym (cond-false (eqb d 10) _ _ n) ∙ ap (λ x. content_codes (x ∷ d ∷ ds)) (sym r) ∙ e) in
-          no_marker on c (λ f. omega (arith, f, first)) (λ f. omega (arith, f, first))
+          no_marker options c (ap may_mark (sym first))
     ]
 
 -- the text is what stands before a rest, and the rest
 pub text_is : (text rest : List ℕ) → IsRest text rest → text ≡ take (length text - length rest) text ++ rest
 text_is text rest h = let n = length text - length rest in sym (take-append-drop n text) ∙ ap (λ l. take n text ++ l) (sym h.place)
 
-module _ (p : ℕ → Bool) (marks : List Mark) (on : Constructs) where
+module _ (p : ℕ → Bool) (marks : List Mark) (options : ParseOptions) where
   pub rest_of_view : (text rest : List ℕ) → codes_of (drop (length (content_codes text) - length (content_codes rest)) (marked p marks text)) ≡ drop (length (content_codes text) - length (content_codes rest)) (content_codes text)
   rest_of_view text rest =
       let n = length (content_codes text) - length (content_codes rest) in
       sym (drop-map (λ (c : InlineCode). c.code) n (marked p marks text)) ∙ ap (drop n) (codes_from p marks 0 (kind_at marks 0) (content_codes text))
 
-  pub no_run : (text rest : List ℕ) → IsRest text rest → (0 < length rest → is_marker on (get_or rest 0 0) ≡ false)
-      → None ≡ run_at on (drop (length (content_codes text) - length (content_codes rest)) (marked p marks text))
+  pub no_run : (text rest : List ℕ) → IsRest text rest → (0 < length rest → is_marker options (get_or rest 0 0) ≡ false)
+      → None ≡ run_at options (drop (length (content_codes text) - length (content_codes rest)) (marked p marks text))
   no_run text [] r h =
       let n = length (content_codes text) in
-      sym (no_run_codes on (drop (n - 0) (marked p marks text)) (λ c cs e. absurd (omega (arith, ap length (sym e ∙ rest_of_view text [] ∙ drop_all (n - 0) (content_codes text) (omega arith))))))
+      sym (no_run_codes options (drop (n - 0) (marked p marks text)) (λ c cs e. absurd (omega (arith, ap length (sym e ∙ rest_of_view text [] ∙ drop_all (n - 0) (content_codes text) (omega arith))))))
   no_run text (y ∷ ys) r h =
       let codes = content_codes text in
       let n = length codes - length (content_codes (y ∷ ys)) in
       let zs = take (length text - length (y ∷ ys)) text in
       let whole = ap content_codes (text_is text (y ∷ ys) r) in
       sym
-      (no_run_codes on (drop n (marked p marks text))
+      (no_run_codes options (drop n (marked p marks text))
       (λ c cs e.
       let here : drop n codes ≡ c ∷ cs = sym (rest_of_view text (y ∷ ys)) ∙ e in
       elim (split_codes zs y ys) [
@@ -101,7 +121,7 @@ module _ (p : ℕ → Bool) (marks : List Mark) (on : Constructs) where
             let all = whole ∙ cut in
             let size = ap length all ∙ length-append (content_codes zs) (content_codes (y ∷ ys)) in
             let at : n ≡ length (content_codes zs) = omega (arith, size) in
-            first_code_is on y ys (h (omega arith)) c cs
+            first_code_is options y ys (h (omega arith)) c cs
             (sym (drop_at (content_codes zs) (content_codes (y ∷ ys)) (length (content_codes zs)) refl) ∙ ap (drop (length (content_codes zs))) (sym all) ∙ ap (λ k. drop k codes) (sym at) ∙ here)
         | inr inside ↦
             let all = whole ∙ inside.2 in
@@ -109,7 +129,7 @@ module _ (p : ℕ → Bool) (marks : List Mark) (on : Constructs) where
             let long = inside.3 in
             let at : n ≡ length inside.0 = omega (arith, size, long) in
             let first = head_is 257 c inside.1 cs (sym (drop_at inside.0 (257 ∷ inside.1) (length inside.0) refl) ∙ ap (drop (length inside.0)) (sym all) ∙ ap (λ k. drop k codes) (sym at) ∙ here) in
-            no_marker on c (λ f. omega (arith, f, first)) (λ f. omega (arith, f, first))
+            no_marker options c (ap may_mark (sym first))
       ]))
 
   -- ---- a run
@@ -147,18 +167,18 @@ module _ (p : ℕ → Bool) (marks : List Mark) (on : Constructs) where
       let one : prefix_len (λ b. b == m) (x ∷ xs) ≡ 1 + prefix_len (λ b. b == m) xs = cond-true (eqb x m) _ 0 (eq-eqb x m is) in
       ap (drop (suc n)) (cond-false (eqb x 13) _ _ (ne_eqb x 13 (λ e. a (sym is ∙ e)))) ∙ drop_bytes m n xs a (omega (arith, le, one))
 
-  same_run : (m s t : ℕ) (a b e f : Kind) → s ≡ t → a ≡ b → e ≡ f → run_between m s a e ≡ run_between m t b f
-  same_run m s t a b e f h k l = ap (λ n. run_between m n a e) h ∙ ap (λ x. run_between m t x e) k ∙ ap (run_between m t b) l
+  same_run : (m s t : ℕ) (a b e f : Kind) → s ≡ t → a ≡ b → e ≡ f → run_between options m s a e ≡ run_between options m t b f
+  same_run m s t a b e f h k l = ap (λ n. run_between options m n a e) h ∙ ap (λ x. run_between options m t x e) k ∙ ap (run_between options m t b) l
 
   -- a run of codes
-  run_of_codes : (place : ℕ) (kind : Kind) (b : ℕ) (bs : List ℕ) (size : ℕ) (before after : Kind) → is_marker on b ≡ true
+  run_of_codes : (place : ℕ) (kind : Kind) (b : ℕ) (bs : List ℕ) (size : ℕ) (before after : Kind) → is_marker options b ≡ true
       → size ≡ prefix_len (λ x. x == b) (b ∷ bs) → before ≡ kind → after ≡ first_kind p Whitespace (line_left (content_codes (drop size (b ∷ bs))))
-      → Some (run_between b size before after) ≡ run_at on (view_from p marks place kind (b ∷ content_codes bs))
+      → Some (run_between options b size before after) ≡ run_at options (view_from p marks place kind (b ∷ content_codes bs))
   run_of_codes place kind b bs size before after h sized is_before is_after =
       let v = view_from p marks place kind (b ∷ content_codes bs) in
       let codes = b ∷ content_codes bs in
-      let return : b ≡ 13 → ⊥ = marker_at on b 13 h (λ e. omega (arith, e)) (λ e. omega (arith, e)) in
-      let both : b ≡ 257 → ⊥ = marker_at on b 257 h (λ e. omega (arith, e)) (λ e. omega (arith, e)) in
+      let return : b ≡ 13 → ⊥ = marker_at options b 13 h refl in
+      let both : b ≡ 257 → ⊥ = marker_at options b 257 h refl in
       let plain : content_codes (b ∷ bs) ≡ codes = cond-false (eqb b 13) _ _ (ne_eqb b 13 return) in
       let count : size ≡ run_size b v =
       sized ∙ sym (size_bytes b (b ∷ bs) return both) ∙ ap (prefix_len (λ x. x == b)) (plain ∙ sym (codes_from p marks place kind codes)) ∙ sym (size_codes b v) in
@@ -172,39 +192,36 @@ module _ (p : ℕ → Bool) (marks : List Mark) (on : Constructs) where
       ap (λ k. drop k codes) next ∙ ap (drop size) (sym plain) ∙ drop_bytes b size (b ∷ bs) return (omega (arith, sized)) in
       let last : after ≡ (get_or v (size - 1) d).after =
       is_after
-      ∙ sym (cond-false (is_eol b) Whitespace _ (within_line on b h))
+      ∙ sym (cond-false (is_eol b) Whitespace _ (within_line options b h))
       ∙ ap (λ l. kind_after p b (line_left l)) (sym past)
       ∙ ap (λ x. kind_after p x (line_left (drop (suc (size - 1)) codes))) (sym at_end)
       ∙ sym (after_at p marks place kind codes (size - 1) d (omega (arith, in_codes, le, sized, first))) in
       ap Some (same_run b size (run_size b v) before kind after (get_or v (run_size b v - 1) d).after count is_before (last ∙ ap (λ k. (get_or v (k - 1) d).after) count))
-      ∙ sym (cond-true (is_marker on b) _ None h)
+      ∙ sym (cond-true (is_marker options b) _ None h)
 
-  pub a_run : (text rest : List ℕ) (size : ℕ) (before after : Kind) → IsRest text rest → 0 < length rest → is_marker on (get_or rest 0 0) ≡ true
+  pub a_run : (text rest : List ℕ) (size : ℕ) (before after : Kind) → IsRest text rest → 0 < length rest → is_marker options (get_or rest 0 0) ≡ true
       → size ≡ prefix_len (λ x. x == get_or rest 0 0) rest
       → before ≡ kind_between p marks 0 (kind_at marks 0) (content_codes (take (length text - length rest) text)) (content_codes rest)
       → after ≡ first_kind p Whitespace (line_left (content_codes (drop size rest)))
-      → Some (run_between (get_or rest 0 0) size before after) ≡ run_at on (drop (length (content_codes text) - length (content_codes rest)) (marked p marks text))
+      → Some (run_between options (get_or rest 0 0) size before after) ≡ run_at options (drop (length (content_codes text) - length (content_codes rest)) (marked p marks text))
   a_run text [] size before after r some h sized is_before is_after = absurd (omega (arith, some))
   a_run text (b ∷ bs) size before after r some h sized is_before is_after =
       let rest = b ∷ bs in
       let zs = take (length text - length rest) text in
       let front = content_codes zs in
-      let plain : content_codes rest ≡ b ∷ content_codes bs = cond-false (eqb b 13) _ _ (ne_eqb b 13 (marker_at on b 13 h (λ e. omega (arith, e)) (λ e. omega (arith, e)))) in
+      let plain : content_codes rest ≡ b ∷ content_codes bs = cond-false (eqb b 13) _ _ (ne_eqb b 13 (marker_at options b 13 h refl)) in
       let whole : content_codes text ≡ front ++ content_codes rest =
-      ap content_codes (text_is text rest r) ∙ codes_append zs b bs (marker_at on b 10 h (λ e. omega (arith, e)) (λ e. omega (arith, e))) in
+      ap content_codes (text_is text rest r) ∙ codes_append zs b bs (marker_at options b 10 h refl) in
       run_of_codes (widths front) (kind_between p marks 0 (kind_at marks 0) front (content_codes rest)) b bs size before after h sized is_before is_after
-      ∙ ap (λ cs. run_at on (view_from p marks (widths front) (kind_between p marks 0 (kind_at marks 0) front (content_codes rest)) cs)) (sym plain)
-      ∙ ap (run_at on) (sym (view_is p marks text rest front whole))
+      ∙ ap (λ cs. run_at options (view_from p marks (widths front) (kind_between p marks 0 (kind_at marks 0) front (content_codes rest)) cs)) (sym plain)
+      ∙ ap (run_at options) (sym (view_is p marks text rest front whole))
 
 -- a text may be cut after a run
-pub run_boundary : (on : Constructs) (rest : List ℕ) (size : ℕ) → IsUtf8 rest → is_marker on (get_or rest 0 0) ≡ true → size ≡ prefix_len (λ x. x == get_or rest 0 0) rest → 0 < size → IsCharBoundary rest size
-run_boundary on rest size u h sized some =
+pub run_boundary : (options : ParseOptions) (rest : List ℕ) (size : ℕ) → IsUtf8 rest → is_marker options (get_or rest 0 0) ≡ true → size ≡ prefix_len (λ x. x == get_or rest 0 0) rest → 0 < size → IsCharBoundary rest size
+run_boundary options rest size u h sized some =
     let m = get_or rest 0 0 in
     let le = prefix_len-le-length (λ x. x == m) rest in
     let is : get_or rest (size - 1) 0 ≡ m = eqb-true (get_or rest (size - 1) 0) m (prefix_len_passes (λ x. x == m) rest (size - 1) 0 (omega (arith, sized, some))) in
-    let low : m < 128 = elim (marker_is on m h) [
-      | inl s ↦ omega (arith, s)
-      | inr d ↦ omega (arith, d)
-    ] in
+    let low : m < 128 = marker_ascii options m h in
     let e : size - 1 + 1 ≡ size = omega (arith, some) in
     subst (IsCharBoundary rest) e (IsCharBoundary-after_ascii rest (size - 1) u (omega (arith, sized, le, some)) (omega (arith, is, low)))

@@ -1,9 +1,11 @@
 -- The codes that a content stands for, and what stands beside them (CommonMark 6.2).
-use Rattle.std.specs.Prelude.{ℕ, ◌+◌, ◌-◌, Bool, if◌then◌else◌, ◌==◌, List, [], ◌∷◌, ◌++◌, drop, length}
+use Rattle.std.specs.Prelude.{ℕ, ◌+◌, ◌-◌, Bool, if◌then◌else◌, ◌==◌, List, [], ◌∷◌, ◌++◌, drop, take, length}
 use Rattle.definition_text.specs.declared.beside.Kind.{Kind}
 use Rattle.definition_text.specs.declared.beside.Kind.TheVariants.{Whitespace}
+use Rattle.definition_text.specs.BlockLines.{own_lines}
 use Rattle.definition_text.specs.Content.{is_eol, content_codes}
-use Rattle.definition_text.specs.InlineCode.{InlineCode, inline_code, first_kind, next_kind}
+use Rattle.block_rows.specs.Rows.{whole_lines}
+use Rattle.definition_text.specs.InlineCode.{InlineCode, inline_code, inline_content, first_kind, next_kind}
 use Rattle.inline_content.specs.declared.mark.Mark.{Mark}
 use Rattle.inline_content.specs.declared.content.Content.{Content}
 use Rattle.inline_content.specs.Marks.{kind_at}
@@ -51,3 +53,12 @@ abbrev pub kind_between : (ℕ → Bool) → List Mark → ℕ → Kind → List
 kind_between is_punctuation marks place before [] cs = before
 kind_between is_punctuation marks place before (c ∷ front) cs =
     kind_between is_punctuation marks (place + width c) (kind_before is_punctuation marks (place + width c) before c (line_left (front ++ cs))) front cs
+
+-- the kind of the character before a place of a content, where these codes stand from there on
+abbrev pub kind_at_place : (ℕ → Bool) → Content → ℕ → List ℕ → Kind
+kind_at_place is_punctuation content place others =
+    kind_between is_punctuation content.marks.now 0 (kind_at content.marks.now 0) (content_codes (take place content.text.now)) others
+
+-- the codes of the first lines of a text, so many, without the last ending
+abbrev pub whole_view : (ℕ → Bool) → ℕ → List ℕ → List InlineCode
+whole_view is_punctuation count text = inline_content is_punctuation Whitespace (own_lines (whole_lines count text))

@@ -1,8 +1,7 @@
-//! The runs of a content, by what stands beside them (CommonMark 6.2).
+//! The runs of a content, by what stands beside them (CommonMark 6.2 and GFM 6.5).
 //!
-//!     run ::= '*'+ | '_'+, as long as it gets
-ghost use Rattle.std.specs.Prelude.{◌≡◌, ◌≤◌, ◌<◌, ◌==◌, ℕ, List, IfSome, MatchOption, length, take, drop, slice_index};
-ghost use Rattle.std.specs.List.{prefix_len};
+//!     run ::= '*'+ | '_'+ | '~'+, as long as it gets
+ghost use Rattle.std.specs.Prelude.{◌≡◌, ◌<◌, ℕ, List, IfSome, MatchOption, length, slice_index};
 ghost use Rattle.definition_text.specs.declared.beside.Kind.TheVariants.{Whitespace};
 ghost use Rattle.definition_inline.specs.Attention.{is_marker};
 ghost use Rattle.definition_text.specs.Content.{content_codes};
@@ -12,38 +11,37 @@ ghost use Rattle.std.specs.Str.{IsCharBoundary};
 ghost use Rattle.definition_inline.specs.Attention.{run_at};
 ghost use Rattle.inline_links.specs.Codes.{IsRest};
 ghost use Rattle.inline_runs.specs.View.{run_view};
-ghost use Rattle.inline_content.specs.Marks.{kind_at};
 ghost use Rattle.inline_content.specs.Ends.{EndsWith};
 ghost use Rattle.inline_content.specs.Fronts.{StartsRun};
-ghost use Rattle.inline_content.specs.View.{line_left, kind_between, view_at};
+ghost use Rattle.inline_content.specs.View.{line_left, kind_at_place, view_at};
 
 use crate::content::Content;
 use definition_text::Kind;
 use inline_runs::{Run, run_between};
-use markdown_options::{Constructs, Tables};
+use markdown_options::{ParseOptions, Tables};
 
 impl<'a> Content<'a> {
     /// The run that a rest of the content begins with (CommonMark 6.2).
-    pub fn run_at<T: Tables>(self, on: &Constructs, tables: &T, rest: &str) -> Option<Run>
+    pub fn run_at<T: Tables>(self, options: &ParseOptions, tables: &T, rest: &str) -> Option<Run>
         requires { IsRest self.text.now rest.now }
-        ensures read { option_map run_view result ≡ run_at on.now (view_at (T.punctuation_of tables.now) self.entry rest.now) }
-        ensures front { IfSome result (λ run. StartsRun on.now rest.now run) }
+        ensures read { option_map run_view result ≡ run_at options.now (view_at (T.punctuation_of tables.now) self.entry rest.now) }
+        ensures front { IfSome result (λ run. StartsRun options.now rest.now run) }
     {
         let bytes = rest.as_bytes();
-        if bytes.is_empty() || !is_marker(on, bytes[0]) {
+        if bytes.is_empty() || !is_marker(options, bytes[0]) {
             return None;
         }
         let marker = bytes[0];
-        let size = run_size(bytes, marker);
+        let size = text_bytes::run(marker, bytes);
         let before = self.kind_before(tables, self.text.len() - rest.len());
         let after = first_kind(tables, &rest[size..]);
-        Some(run_between(marker, size, before, after))
+        Some(run_between(options, marker, size, before, after))
     }
 
     /// The kind of the character before a place.
     fn kind_before<T: Tables>(self, tables: &T, place: usize) -> Kind
         requires { IsCharBoundary self.text.now place }
-        ensures { (others : List ℕ) → result ≡ kind_between (T.punctuation_of tables.now) self.entry.marks.now 0 (kind_at self.entry.marks.now 0) (content_codes (take place self.entry.text.now)) others }
+        ensures { (others : List ℕ) → result ≡ kind_at_place (T.punctuation_of tables.now) self.entry place others }
     {
         match last_character(&self.text[..place]) {
             None => self.kind_at(place),
@@ -58,22 +56,11 @@ impl<'a> Content<'a> {
 }
 
 /// A byte whose runs may form spans.
-pub(crate) fn is_marker(on: &Constructs, byte: u8) -> bool
-    ensures { result ≡ is_marker on.now byte }
+pub(crate) fn is_marker(options: &ParseOptions, byte: u8) -> bool
+    ensures { result ≡ is_marker options.now byte }
 {
-    on.attention && (byte == b'*' || byte == b'_')
-}
-
-/// How many of a byte come first.
-pub(crate) fn run_size(bytes: &[u8], marker: u8) -> usize
-    ensures { result ≡ prefix_len (λ b. b == marker) bytes.now }
-{
-    for (i, b) in bytes.iter().enumerate() {
-        if *b != marker {
-            return i;
-        }
-    }
-    bytes.len()
+    (options.constructs.attention && (byte == b'*' || byte == b'_'))
+        || (options.constructs.gfm_strikethrough && byte == b'~')
 }
 
 /// The kind of a character.

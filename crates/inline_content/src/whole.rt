@@ -1,19 +1,16 @@
 //! The content of whole lines, which stand right after another in the text (CommonMark 4.8).
 ghost use Rattle.std.specs.Prelude.{◌≡◌, ℕ, Bool, [], take};
 ghost use Rattle.std.specs.Str.{IsCharBoundary};
-ghost use Rattle.definition_text.specs.declared.beside.Kind.TheVariants.{Whitespace};
-ghost use Rattle.definition_text.specs.BlockLines.{own_lines};
 ghost use Rattle.definition_text.specs.Content.{content_text};
 ghost use Rattle.block_rows.specs.Rows.{whole_lines};
-ghost use Rattle.definition_text.specs.InlineCode.{inline_content};
-ghost use Rattle.inline_content.specs.View.{content_view};
+ghost use Rattle.inline_content.specs.View.{content_view, whole_view};
 
 use crate::content::Content;
 use text_lines::line::next_line;
 
 /// The content of the first lines of a text, so many, without the last ending.
 pub fn whole_content(count: usize, text: &str) -> Content<'_>
-    ensures { (is_punctuation : ℕ → Bool) → content_view is_punctuation result ≡ inline_content is_punctuation Whitespace (own_lines (whole_lines count text.now)) }
+    ensures { (is_punctuation : ℕ → Bool) → content_view is_punctuation result ≡ whole_view is_punctuation count text.now }
 {
     Content {
         text: whole_text(count, text),

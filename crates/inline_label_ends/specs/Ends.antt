@@ -1,9 +1,9 @@
 -- What the answers on a label end stand for.
-use Rattle.std.specs.Prelude.{◌≡◌, ◌-◌, ℕ, ⊤, List, Option, None, Some, drop, length}
+use Rattle.std.specs.Prelude.{◌≡◌, ◌-◌, ℕ, ⊤, List, Option, None, Some, is_some, drop, length}
 use Rattle.definition_text.specs.Content.{content_codes}
 use Rattle.definition_inline.specs.Inline.{Target, linked}
 use Rattle.definition_inline.specs.Inline as inline
-use Rattle.definition_inline.specs.LabelEnd.{Ended}
+use Rattle.definition_inline.specs.LabelEnd.{Ended, label_end_at}
 use Rattle.definition_inline.specs.LabelMatch.{first_match}
 use Rattle.inline_links.specs.Codes.{IsCut, IsRest}
 use Rattle.inline_leaves.specs.Leaves.{size_before}
@@ -31,6 +31,10 @@ IsEnded ls rest None None = ⊤
 IsEnded ls rest None (Some end) = ⊥
 IsEnded ls rest (Some found) None = ⊥
 IsEnded ls rest (Some found) (Some end) = IsEnd ls rest found end
+
+-- what a `]` after a text forms before a rest, where these are the labels of the definitions
+abbrev pub EndsAs : List (List ℕ) → List ℕ → List ℕ → Option LabelEnd → Type 0
+EndsAs ls text rest found = IsEnded ls rest found (label_end_at (λ label. is_some (first_match label ls)) (content_codes text) (content_codes rest))
 
 -- what follows the first codes of a content
 pub record IsAfterEnd (content rest : List ℕ) : Type 0 where

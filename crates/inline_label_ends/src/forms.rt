@@ -14,7 +14,7 @@ ghost use Rattle.definition_inline.specs.LabelMatch.{first_match};
 ghost use Rattle.definition_text.specs.Bytes.{begins_with};
 ghost use Rattle.inline_leaves.specs.Leaves.{size_before};
 ghost use Rattle.inline_labels.specs.Table.{HasLabels};
-ghost use Rattle.inline_label_ends.specs.Ends.{IsAfterEnd, IsEnded, IsReference};
+ghost use Rattle.inline_label_ends.specs.Ends.{IsAfterEnd, EndsAs, IsReference};
 
 use crate::text::is_label_text;
 use inline_labels::LabelTable;
@@ -37,7 +37,7 @@ pub fn label_end<'a, A: Allocator + Clone>(
     text: &'a str,
     rest: &'a str,
 ) -> Result<Option<LabelEnd<'a>>, AllocError>
-    ensures read { (ls : List (List ℕ)) → HasLabels labels.now ls → IfOk result (λ found. IsEnded ls rest.now found (label_end_at (λ label. is_some (first_match label ls)) (content_codes text.now) (content_codes rest.now))) }
+    ensures read { (ls : List (List ℕ)) → HasLabels labels.now ls → IfOk result (EndsAs ls text.now rest.now) }
     ensures place { IfOk result (λ found. IfSome found (λ end. IsAfterEnd rest.now end.after.now)) }
 {
     if let Some(resource) = resource_of(rest) {

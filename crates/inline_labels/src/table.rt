@@ -1,6 +1,6 @@
 //! The labels of definitions, each with the place of the first definition that has it
 //! (CommonMark 4.7).
-ghost use Rattle.std.specs.Prelude.{◌≡◌, ℕ, List, [], ◌∷◌, ◌++◌, false, length, IfOk, OnOk, OnErr, is_none};
+ghost use Rattle.std.specs.Prelude.{◌≡◌, ℕ, List, [], false, length, IfOk, OnOk, OnErr};
 ghost use Rattle.definition_text.specs.Content.{content_codes};
 ghost use Rattle.definition_inline.specs.LabelMatch.{first_match};
 
@@ -16,7 +16,7 @@ pub struct LabelTable<A: Allocator + Clone> {
 }
 
 impl<A: Allocator + Clone> LabelTable<A> {
-    ghost use Rattle.inline_labels.specs.Table.{HasLabels};
+    ghost use Rattle.inline_labels.specs.Table.{AddsLabel, HasLabels, lacks_label};
 
     /// A table without labels.
     pub fn new(alloc: A) -> Result<LabelTable<A>, AllocError>
@@ -32,8 +32,8 @@ impl<A: Allocator + Clone> LabelTable<A> {
     /// was new (CommonMark 4.7). The place is how many labels were given before, repeats counted.
     /// Without memory the table stays as it was.
     pub fn insert(&mut self, label: &[u8], place: usize) -> Result<bool, AllocError>
-        ensures added { (labels : List (List ℕ)) → HasLabels self.old labels → place ≡ length labels → OnOk result (HasLabels self.new (labels ++ content_codes label.now ∷ [])) }
-        ensures new { (labels : List (List ℕ)) → HasLabels self.old labels → IfOk result (λ is_new. is_new ≡ is_none (first_match (content_codes label.now) labels)) }
+        ensures added { AddsLabel self.old result self.new place label.now }
+        ensures new { (labels : List (List ℕ)) → HasLabels self.old labels → IfOk result (λ is_new. is_new ≡ lacks_label labels label.now) }
         ensures repeated { (labels : List (List ℕ)) → HasLabels self.old labels → IfOk result (λ is_new. is_new ≡ false → HasLabels self.new labels) }
         ensures err { (labels : List (List ℕ)) → HasLabels self.old labels → OnErr result (HasLabels self.new labels) }
     {

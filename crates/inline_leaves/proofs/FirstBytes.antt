@@ -3,10 +3,12 @@ use Rattle.std.proofs.Common.{◌≡◌, ◌⊎◌, ℕ, ◌<◌, List, [], ◌�
 use Rattle.std.specs.Prelude.{nat_le}
 use Rattle.std.proofs.lemmas.Bool.{cases_Bool, cond-false, cond-true, eqb-true, eqb-false, ne_eqb, and_left, and_right, or_from}
 use Rattle.markdown_options.specs.declared.configuration.Constructs.{Constructs}
+use Rattle.markdown_options.specs.declared.configuration.ParseOptions.{ParseOptions}
 use Rattle.definition_inline.specs.Autolink.{autolink_at}
 use Rattle.definition_inline.specs.CharacterEscape.{escape_at}
 use Rattle.definition_inline.specs.CharacterReference.{reference_at, reference_form, reference_of}
 use Rattle.definition_inline.specs.CodeText.{code_text_at}
+use Rattle.definition_inline.specs.MathText.{may_open_math, math_text_at}
 use Rattle.definition_text.specs.Columns.{is_white, indent}
 use Rattle.definition_text.specs.Content.{content_codes, is_eol}
 use Rattle.definition_inline.specs.HardBreak.{escaped_break_at, line_end_at, line_spaces_at}
@@ -35,7 +37,10 @@ alone : (a b : Option Leaf) → b ≡ None → or_else a b ≡ a
 alone None b none = none
 alone (Some found) b none = refl
 
-module _ (on : Constructs) (names : List ℕ → Option (List ℕ)) (xs : List ℕ) where
+module _ (options : ParseOptions) (names : List ℕ → Option (List ℕ)) (xs : List ℕ) where
+  abbrev on : Constructs
+  on = options.constructs
+
   no_escape : IsNot 92 (get_or xs 0 0) → escape_at on (content_codes xs) ≡ None
   no_escape p = skip (escape_at on) None (IsNot 92) (λ e. omega arith) (λ e. omega arith) refl none xs p
     where
@@ -62,6 +67,12 @@ module _ (on : Constructs) (names : List ℕ → Option (List ℕ)) (xs : List �
     where
       none : (codes : List ℕ) → run 96 codes ≡ 0 → code_text_at on codes ≡ None
       none codes size = cond-false _ _ _ (and_right on.code_text _ (ap (λ n. not (eqb n 0)) size))
+
+  no_math : IsNot 36 (get_or xs 0 0) → math_text_at options (content_codes xs) ≡ None
+  no_math p = skip (math_text_at options) None (IsNot 36) (λ e. omega arith) (λ e. omega arith) (none [] refl) (λ c cs other. none (c ∷ cs) (cond-false (eqb c 36) _ _ (ne_eqb c 36 other))) xs p
+    where
+      none : (codes : List ℕ) → run 36 codes ≡ 0 → math_text_at options codes ≡ None
+      none codes size = cond-false _ _ _ (and_right (may_open_math options (run 36 codes)) _ (ap (λ n. not (eqb n 0)) size))
 
   no_autolink : IsNot 60 (get_or xs 0 0) → autolink_at on (content_codes xs) ≡ None
   no_autolink p =
@@ -95,20 +106,26 @@ module _ (on : Constructs) (names : List ℕ → Option (List ℕ)) (xs : List �
   abbrev angles : Option Leaf
   angles = or_else (autolink_at on codes_here) (or_else (html_text_at on codes_here) ends)
 
+  abbrev dollars : Option Leaf
+  dollars = or_else (math_text_at options codes_here) angles
+
   abbrev ticks : Option Leaf
-  ticks = or_else (code_text_at on codes_here) angles
+  ticks = or_else (code_text_at on codes_here) dollars
 
   abbrev references : Option Leaf
   references = or_else (reference_at on names codes_here) ticks
 
-  from_references : IsNot 92 (get_or xs 0 0) → leaf_in on names codes_here ≡ references
+  from_references : IsNot 92 (get_or xs 0 0) → leaf_in options names codes_here ≡ references
   from_references p = later _ _ (no_escape p) ∙ later _ _ (no_break p)
 
   from_ticks : IsNot 38 (get_or xs 0 0) → references ≡ ticks
   from_ticks p = later _ _ (no_reference p)
 
-  from_angles : IsNot 96 (get_or xs 0 0) → ticks ≡ angles
-  from_angles p = later _ _ (no_code p)
+  from_dollars : IsNot 96 (get_or xs 0 0) → ticks ≡ dollars
+  from_dollars p = later _ _ (no_code p)
+
+  from_angles : IsNot 36 (get_or xs 0 0) → dollars ≡ angles
+  from_angles p = later _ _ (no_math p)
 
   from_ends : IsNot 60 (get_or xs 0 0) → angles ≡ ends
   from_ends p = later _ _ (no_autolink p) ∙ later _ _ (no_html p)
@@ -118,47 +135,53 @@ module _ (on : Constructs) (names : List ℕ → Option (List ℕ)) (xs : List �
 
   -- ---- by the first byte
 
-  pub by_backslash : get_or xs 0 0 ≡ 92 → leaf_in on names codes_here ≡ or_else (escape_at on codes_here) (escaped_break_at on codes_here)
+  pub by_backslash : get_or xs 0 0 ≡ 92 → leaf_in options names codes_here ≡ or_else (escape_at on codes_here) (escaped_break_at on codes_here)
   by_backslash e =
-      let none : references ≡ None = from_ticks (λ f. omega arith) ∙ from_angles (λ f. omega arith) ∙ from_ends (λ f. omega arith) ∙ no_ends (λ f. omega arith) (ap is_eol e) (ap is_white e) in
+      let none : references ≡ None = from_ticks (λ f. omega arith) ∙ from_dollars (λ f. omega arith) ∙ from_angles (λ f. omega arith) ∙ from_ends (λ f. omega arith) ∙ no_ends (λ f. omega arith) (ap is_eol e) (ap is_white e) in
       ap (or_else (escape_at on codes_here)) (alone (escaped_break_at on codes_here) references none)
 
-  pub by_ampersand : get_or xs 0 0 ≡ 38 → leaf_in on names codes_here ≡ reference_at on names codes_here
+  pub by_ampersand : get_or xs 0 0 ≡ 38 → leaf_in options names codes_here ≡ reference_at on names codes_here
   by_ampersand e =
-      let none : ticks ≡ None = from_angles (λ f. omega arith) ∙ from_ends (λ f. omega arith) ∙ no_ends (λ f. omega arith) (ap is_eol e) (ap is_white e) in
+      let none : ticks ≡ None = from_dollars (λ f. omega arith) ∙ from_angles (λ f. omega arith) ∙ from_ends (λ f. omega arith) ∙ no_ends (λ f. omega arith) (ap is_eol e) (ap is_white e) in
       from_references (λ f. omega arith) ∙ alone (reference_at on names codes_here) ticks none
 
-  pub by_backtick : get_or xs 0 0 ≡ 96 → leaf_in on names codes_here ≡ code_text_at on codes_here
+  pub by_backtick : get_or xs 0 0 ≡ 96 → leaf_in options names codes_here ≡ code_text_at on codes_here
   by_backtick e =
-      let none : angles ≡ None = from_ends (λ f. omega arith) ∙ no_ends (λ f. omega arith) (ap is_eol e) (ap is_white e) in
-      from_references (λ f. omega arith) ∙ from_ticks (λ f. omega arith) ∙ alone (code_text_at on codes_here) angles none
+      let none : dollars ≡ None = from_angles (λ f. omega arith) ∙ from_ends (λ f. omega arith) ∙ no_ends (λ f. omega arith) (ap is_eol e) (ap is_white e) in
+      from_references (λ f. omega arith) ∙ from_ticks (λ f. omega arith) ∙ alone (code_text_at on codes_here) dollars none
 
-  pub by_angle : get_or xs 0 0 ≡ 60 → leaf_in on names codes_here ≡ or_else (autolink_at on codes_here) (html_text_at on codes_here)
+  pub by_dollar : get_or xs 0 0 ≡ 36 → leaf_in options names codes_here ≡ math_text_at options codes_here
+  by_dollar e =
+      let none : angles ≡ None = from_ends (λ f. omega arith) ∙ no_ends (λ f. omega arith) (ap is_eol e) (ap is_white e) in
+      from_references (λ f. omega arith) ∙ from_ticks (λ f. omega arith) ∙ from_dollars (λ f. omega arith) ∙ alone (math_text_at options codes_here) angles none
+
+  pub by_angle : get_or xs 0 0 ≡ 60 → leaf_in options names codes_here ≡ or_else (autolink_at on codes_here) (html_text_at on codes_here)
   by_angle e =
       let none : ends ≡ None = no_ends (λ f. omega arith) (ap is_eol e) (ap is_white e) in
-      from_references (λ f. omega arith) ∙ from_ticks (λ f. omega arith) ∙ from_angles (λ f. omega arith)
+      from_references (λ f. omega arith) ∙ from_ticks (λ f. omega arith) ∙ from_dollars (λ f. omega arith) ∙ from_angles (λ f. omega arith)
       ∙ ap (or_else (autolink_at on codes_here)) (alone (html_text_at on codes_here) ends none)
 
-  past_marks : IsNot 92 (get_or xs 0 0) → IsNot 38 (get_or xs 0 0) → IsNot 96 (get_or xs 0 0) → IsNot 60 (get_or xs 0 0) → leaf_in on names codes_here ≡ ends
-  past_marks a b c d = from_references a ∙ from_ticks b ∙ from_angles c ∙ from_ends d
+  past_marks : IsNot 92 (get_or xs 0 0) → IsNot 38 (get_or xs 0 0) → IsNot 96 (get_or xs 0 0) → IsNot 36 (get_or xs 0 0) → IsNot 60 (get_or xs 0 0)
+      → leaf_in options names codes_here ≡ ends
+  past_marks a b c d e = from_references a ∙ from_ticks b ∙ from_dollars c ∙ from_angles d ∙ from_ends e
 
-  pub by_line_end : (get_or xs 0 0 ≡ 10) ⊎ (get_or xs 0 0 ≡ 13) → leaf_in on names codes_here ≡ line_end_at codes_here
+  pub by_line_end : (get_or xs 0 0 ≡ 10) ⊎ (get_or xs 0 0 ≡ 13) → leaf_in options names codes_here ≡ line_end_at codes_here
   by_line_end (inl e) =
-      past_marks (λ f. omega arith) (λ f. omega arith) (λ f. omega arith) (λ f. omega arith) ∙ alone (line_end_at codes_here) _ (no_spaces (ap is_white e))
+      past_marks (λ f. omega arith) (λ f. omega arith) (λ f. omega arith) (λ f. omega arith) (λ f. omega arith) ∙ alone (line_end_at codes_here) _ (no_spaces (ap is_white e))
   by_line_end (inr e) =
-      past_marks (λ f. omega arith) (λ f. omega arith) (λ f. omega arith) (λ f. omega arith) ∙ alone (line_end_at codes_here) _ (no_spaces (ap is_white e))
+      past_marks (λ f. omega arith) (λ f. omega arith) (λ f. omega arith) (λ f. omega arith) (λ f. omega arith) ∙ alone (line_end_at codes_here) _ (no_spaces (ap is_white e))
 
-  pub by_white : (get_or xs 0 0 ≡ 9) ⊎ (get_or xs 0 0 ≡ 32) → leaf_in on names codes_here ≡ line_spaces_at on codes_here
+  pub by_white : (get_or xs 0 0 ≡ 9) ⊎ (get_or xs 0 0 ≡ 32) → leaf_in options names codes_here ≡ line_spaces_at on codes_here
   by_white (inl e) =
-      past_marks (λ f. omega arith) (λ f. omega arith) (λ f. omega arith) (λ f. omega arith) ∙ later _ _ (no_line_end (λ f. omega arith) (ap is_eol e))
+      past_marks (λ f. omega arith) (λ f. omega arith) (λ f. omega arith) (λ f. omega arith) (λ f. omega arith) ∙ later _ _ (no_line_end (λ f. omega arith) (ap is_eol e))
   by_white (inr e) =
-      past_marks (λ f. omega arith) (λ f. omega arith) (λ f. omega arith) (λ f. omega arith) ∙ later _ _ (no_line_end (λ f. omega arith) (ap is_eol e))
+      past_marks (λ f. omega arith) (λ f. omega arith) (λ f. omega arith) (λ f. omega arith) (λ f. omega arith) ∙ later _ _ (no_line_end (λ f. omega arith) (ap is_eol e))
 
-  pub by_other : get_or xs 0 0 < 256 → IsNot 92 (get_or xs 0 0) → IsNot 38 (get_or xs 0 0) → IsNot 96 (get_or xs 0 0) → IsNot 60 (get_or xs 0 0)
-      → IsNot 10 (get_or xs 0 0) → IsNot 13 (get_or xs 0 0) → IsNot 32 (get_or xs 0 0) → IsNot 9 (get_or xs 0 0) → leaf_in on names codes_here ≡ None
-  by_other byte a b c d feed return space tab =
+  pub by_other : get_or xs 0 0 < 256 → IsNot 92 (get_or xs 0 0) → IsNot 38 (get_or xs 0 0) → IsNot 96 (get_or xs 0 0) → IsNot 36 (get_or xs 0 0)
+      → IsNot 60 (get_or xs 0 0) → IsNot 10 (get_or xs 0 0) → IsNot 13 (get_or xs 0 0) → IsNot 32 (get_or xs 0 0) → IsNot 9 (get_or xs 0 0) → leaf_in options names codes_here ≡ None
+  by_other byte a b c d e feed return space tab =
       let x = get_or xs 0 0 in
-      past_marks a b c d
+      past_marks a b c d e
       ∙ no_ends return
       (or_from (eqb x 10 || eqb x 13) (eqb x 257) (or_from (eqb x 10) (eqb x 13) (ne_eqb x 10 feed) (ne_eqb x 13 return)) (ne_eqb x 257 (λ e. omega arith)))
       (or_from (eqb x 32 || eqb x 9) (eqb x 256) (or_from (eqb x 32) (eqb x 9) (ne_eqb x 32 space) (ne_eqb x 9 tab)) (ne_eqb x 256 (λ e. omega arith)))

@@ -1,12 +1,12 @@
 pub mod AutolinkLemmas
 pub mod HardBreakTrailingLemmas
 pub mod LineEndingLemmas
-pub mod CodeTextLemmas
+pub mod RawTextLemmas
 pub mod Codes
 pub mod Endings
 pub mod FirstBytes
 pub mod Fronts
 pub mod HtmlTextLemmas
-pub mod LastRuns
+pub mod RawRuns
 pub mod CharacterReferenceLemmas
 pub mod Searching

@@ -3,6 +3,7 @@ use Rattle.inline_leaves.specs.declared.byte_class.ByteClass.{ByteClass}
 use Rattle.inline_leaves.specs.declared.byte_class.ByteClass.TheVariants.{Scheme, Uri, Email, Domain}
 use Rattle.definition_inline.specs.Autolink.{is_scheme_byte, is_uri_byte, is_email_byte, is_domain_byte}
 use Rattle.std.specs.Prelude.{Bool, if◌then◌else◌, ◌&&◌, ◌≡◌, ◌<◌, ◌≤◌, ◌+◌, ◌-◌, ℕ, true, List, [], ◌∷◌, Option, None, Some, drop, length, map, slice_index, take}
+use Rattle.std.specs.Option.{option_map}
 use Rattle.markdown_options.specs.declared.configuration.Constructs.{Constructs}
 use Rattle.definition_inline.specs.HardBreak.{is_trailing_break}
 use Rattle.definition_text.specs.Columns.{is_white}
@@ -17,7 +18,7 @@ use Rattle.inline_links.specs.Codes.{IsCut}
 use Rattle.inline_leaves.specs.declared.leaf.Leaf.{Leaf}
 use Rattle.inline_leaves.specs.declared.line_ending.Ending.{Ending}
 use Rattle.inline_leaves.specs.declared.leaf.LeafPart.{LeafPart}
-use Rattle.inline_leaves.specs.declared.leaf.LeafPart.TheVariants.{Escape, Character, Number, Code, Backticks, Autolink, Html, EscapedBreak, TrailingBreak, LineEnd, Spaces}
+use Rattle.inline_leaves.specs.declared.leaf.LeafPart.TheVariants.{Escape, Character, Number, Code, Math, Unclosed, Autolink, Html, EscapedBreak, TrailingBreak, LineEnd, Spaces}
 
 -- the parts that a construct makes
 abbrev pub parts_of : LeafPart → List Inline
@@ -25,7 +26,8 @@ parts_of (Escape text) = map inline.Escape text.now
 parts_of (Character text) = inline.Character text.now ∷ []
 parts_of (Number radix digits) = inline.Character (numbered_text (number_of radix digits.now)) ∷ []
 parts_of (Code text) = inline.Code (code_text (content_codes text.now)) ∷ []
-parts_of (Backticks text) = map inline.Data text.now
+parts_of (Math text) = inline.Math (code_text (content_codes text.now)) ∷ []
+parts_of (Unclosed text) = map inline.Data text.now
 parts_of (Autolink email text) = inline.Autolink email text.now ∷ []
 parts_of (Html text) = inline.Html (content_codes text.now) ∷ []
 parts_of EscapedBreak = inline.EscapedBreak ∷ []
@@ -89,10 +91,10 @@ pub record IsWhite (bytes : List ℕ) (size : ℕ) : Type 0 where
 abbrev pub spaces_parts : Constructs → List ℕ → List Inline
 spaces_parts on content = if on.hard_break_trailing && is_trailing_break content then inline.TrailingBreak ∷ [] else []
 
--- so many backticks at a place
-pub record IsRun (bytes : List ℕ) (at size : ℕ) : Type 0 where
+-- so many of a byte at a place
+pub record IsRun (marker : ℕ) (bytes : List ℕ) (at size : ℕ) : Type 0 where
   pub within : at + size ≤ length bytes
-  pub backticks : (k : ℕ) → k < size → slice_index bytes (at + k) ≡ 96
+  pub markers : (k : ℕ) → k < size → slice_index bytes (at + k) ≡ marker
 
 -- the bytes of a class
 abbrev pub is_of : ByteClass → ℕ → Bool
@@ -109,6 +111,10 @@ character_parts text = inline.Character text ∷ []
 pub record IsPlain (bytes : List ℕ) (size : ℕ) : Type 0 where
   pub within : size ≤ length bytes
   pub plain : (k : ℕ) → k < size → slice_index bytes k ≡ 13 → ⊥
+
+-- the codes after the first bytes, where so many are found
+abbrev pub codes_after : List ℕ → Option ℕ → Option (List ℕ)
+codes_after bytes size = option_map (λ size. content_codes (drop size bytes)) size
 
 -- the bytes of an address, before a `>`
 pub record IsAddress (bytes : List ℕ) (size : ℕ) : Type 0 where

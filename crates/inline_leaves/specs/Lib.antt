@@ -2,4 +2,4 @@ pub mod Leaves
 pub mod HtmlText
 pub mod Scanned
 pub mod Searched
-pub mod LastRuns
+pub mod RawRuns

@@ -1,13 +1,13 @@
 -- What a content begins with, whichever labels are defined.
 use Rattle.std.specs.Prelude.{ℕ, false, List, Option}
-use Rattle.markdown_options.specs.declared.configuration.Constructs.{Constructs}
+use Rattle.markdown_options.specs.declared.configuration.ParseOptions.{ParseOptions}
 use Rattle.definition_inline.specs.Inline.{Leaf}
 use Rattle.definition_inline.specs.Scan.{InlineContext, leaf_at}
 
 -- a context with no label
-abbrev pub without_labels : Constructs → (List ℕ → Option (List ℕ)) → InlineContext
-without_labels on names = record { on = on; names = names; is_defined = λ label. false }
+abbrev pub without_labels : ParseOptions → (List ℕ → Option (List ℕ)) → InlineContext
+without_labels options names = record { options = options; names = names; is_defined = λ label. false }
 
 -- the construct that a content begins with, if it holds no other (CommonMark 6)
-abbrev pub leaf_in : Constructs → (List ℕ → Option (List ℕ)) → List ℕ → Option Leaf
-leaf_in on names content = leaf_at (without_labels on names) content
+abbrev pub leaf_in : ParseOptions → (List ℕ → Option (List ℕ)) → List ℕ → Option Leaf
+leaf_in options names content = leaf_at (without_labels options names) content

@@ -10,13 +10,15 @@ ghost use Rattle.std.specs.Prelude.{◌≡◌, IfSome, drop};
 ghost use Rattle.std.specs.Option.{option_map};
 ghost use Rattle.definition_inline.specs.Autolink.{autolink_at, autolink_after, closed_autolink, uri_end, email_end, domain_end, is_domain, is_domain_label};
 ghost use Rattle.definition_text.specs.Content.{content_codes};
-ghost use Rattle.inline_leaves.specs.Leaves.{found_leaf, address_leaf, IsAddress, IsAfter, IsPlain};
+ghost use Rattle.inline_leaves.specs.Leaves.{found_leaf, address_leaf, codes_after, IsAddress, IsAfter, IsPlain};
 
-use crate::byte_class::{ByteClass, begins_with_letter, prefix_size};
+use crate::byte_class::{ByteClass, prefix_size};
 use crate::cut::{cut_after, text_between};
 use crate::leaf::{Leaf, LeafPart};
 use inline_links::part::from;
 use markdown_options::Constructs;
+use markdown_options::constants::{AUTOLINK_DOMAIN_SIZE_MAX, AUTOLINK_SCHEME_SIZE_MAX};
+use text_bytes::begins_with_letter;
 
 /// A URI or an email address.
 #[derive(Clone, Copy)]
@@ -62,7 +64,7 @@ fn find_address(bytes: &[u8]) -> Option<Address>
 /// An address of this size, if there is one and a `>` follows it.
 fn closed(email: bool, size: Option<usize>, bytes: &[u8]) -> Option<Address>
     requires { IfSome size (λ size. IsPlain bytes.now size) }
-    ensures read { address_leaf bytes.now result ≡ closed_autolink email (content_codes bytes.now) (option_map (λ size. content_codes (drop size bytes.now)) size) }
+    ensures read { address_leaf bytes.now result ≡ closed_autolink email (content_codes bytes.now) (codes_after bytes.now size) }
     ensures place { IfSome result (λ found. IsAddress bytes.now found.size) }
 {
     let Some(size) = size else {
@@ -81,7 +83,7 @@ fn uri_size(bytes: &[u8]) -> Option<usize>
     ensures place { IfSome result (λ size. IsPlain bytes.now size) }
 {
     let scheme = prefix_size(ByteClass::Scheme, bytes);
-    if scheme < 2 || scheme > 32 || !begins_with_letter(bytes) {
+    if scheme < 2 || scheme > AUTOLINK_SCHEME_SIZE_MAX || !begins_with_letter(bytes) {
         return None;
     }
     let rest = from(bytes, scheme);
@@ -132,7 +134,7 @@ fn is_domain(text: &[u8]) -> bool
 fn is_domain_label(label: &[u8]) -> bool
     ensures { result ≡ is_domain_label label.now }
 {
-    if label.is_empty() || label.len() > 63 {
+    if label.is_empty() || label.len() > AUTOLINK_DOMAIN_SIZE_MAX {
         return false;
     }
     label[0] != b'-' && label[label.len() - 1] != b'-'

@@ -1,7 +1,6 @@
 //! Classes of bytes, and how far they reach.
 ghost use Rattle.std.specs.Prelude.{◌≡◌};
 ghost use Rattle.std.specs.List.{prefix_len};
-ghost use Rattle.definition_text.specs.Bytes.{begins_with_letter};
 ghost use Rattle.inline_leaves.specs.Leaves.{is_of, IsPlain};
 
 /// A class of bytes.
@@ -44,14 +43,4 @@ pub fn prefix_size(class: ByteClass, bytes: &[u8]) -> usize
         }
     }
     bytes.len()
-}
-
-/// Whether a letter comes first.
-pub fn begins_with_letter(bytes: &[u8]) -> bool
-    ensures { result ≡ begins_with_letter bytes.now }
-{
-    match bytes {
-        [] => false,
-        [b, ..] => b.is_ascii_alphabetic(),
-    }
 }

@@ -15,6 +15,7 @@ use crate::line_ending::{ends_here, ends_inner_line};
 use crate::space::white_size;
 use inline_links::part::from;
 use markdown_options::Constructs;
+use markdown_options::constants::HARD_BREAK_PREFIX_SIZE_MIN;
 
 /// Spaces and tabs at the end of a line or of the content, which may be a hard line break
 /// (CommonMark 6.7 and 6.8).
@@ -49,7 +50,7 @@ fn is_trailing_break(bytes: &[u8]) -> bool
     ensures { result ≡ is_trailing_break (content_codes bytes.now) }
 {
     let size = white_size(bytes);
-    if size < 2 {
+    if size < HARD_BREAK_PREFIX_SIZE_MIN {
         return false;
     }
     if !are_spaces(&bytes[..size]) {

@@ -7,20 +7,22 @@
 //!     cdata       ::= '<![CDATA[' text ']]>'
 //!
 //! A text ends where what closes it stands first. In a tag a line ending is white space.
-ghost use Rattle.std.specs.Prelude.{◌≡◌, ◌≤◌, IfSome, drop, length, false};
+ghost use Rattle.std.specs.Prelude.{◌≡◌, ◌≤◌, IfSome, codes, drop, length, false};
 ghost use Rattle.std.specs.Option.{option_map};
 ghost use Rattle.definition_inline.specs.HtmlText.{after_first, comment, instruction, declaration, cdata, html_text_at};
+ghost use Rattle.definition_text.specs.Bytes.{begins_with};
 ghost use Rattle.definition_text.specs.Content.{content_codes};
 ghost use Rattle.inline_tags.specs.Views.{place_of};
 ghost use Rattle.inline_leaves.specs.Leaves.{found_leaf, IsAfter};
 ghost use Rattle.inline_leaves.specs.HtmlText.{line_feed, is_end, tag_after, open_after, closing_after, html_after, IsClosed, ClosesText};
 
-use crate::byte_class::begins_with_letter;
 use crate::cut::{cut_after, text_before};
 use crate::leaf::{Leaf, LeafPart};
 use inline_links::part::from;
 use inline_tags::tags::{Place, next};
 use markdown_options::Constructs;
+use markdown_options::constants::HTML_CDATA_PREFIX;
+use text_bytes::begins_with_letter;
 
 /// Raw HTML (CommonMark 6.6).
 pub fn html_text_at<'a>(on: &Constructs, content: &'a str) -> Option<Leaf<'a>>
@@ -130,10 +132,17 @@ fn cdata(bytes: &[u8]) -> Option<usize>
     ensures read { option_map (λ size. drop size bytes.now) result ≡ cdata bytes.now }
     ensures place { IfSome result (λ size. IsClosed bytes.now size) }
 {
-    if !bytes.starts_with(b"<![CDATA[") {
+    if !begins_cdata(bytes) {
         return None;
     }
     text_end(b"]]>", bytes, 9)
+}
+
+/// Whether a CDATA section begins (CommonMark 6.6).
+pub(crate) fn begins_cdata(bytes: &[u8]) -> bool
+    ensures { result ≡ begins_with (codes "<![CDATA[") bytes.now }
+{
+    bytes.starts_with(b"<![") && from(bytes, 3).starts_with(&HTML_CDATA_PREFIX)
 }
 
 /// Where the first of the texts ends that stand in bytes from a place on.

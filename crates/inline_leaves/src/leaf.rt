@@ -17,8 +17,10 @@ pub enum LeafPart<'a> {
     },
     /// The text of a code span between its runs of backticks (CommonMark 6.1).
     Code(&'a str),
-    /// Backticks that no run closes: text (CommonMark 6.1).
-    Backticks(&'a str),
+    /// The text of math between its runs of dollars.
+    Math(&'a str),
+    /// A run of backticks or dollars that no other closes: text (CommonMark 6.1).
+    Unclosed(&'a str),
     /// What stands between `<` and `>`: a URI, or an email address (CommonMark 6.5).
     Autolink {
         /// Whether it is an email address.

@@ -13,26 +13,28 @@ use crate::hard_break_escape::escaped_break_at;
 use crate::hard_break_trailing::line_spaces_at;
 use crate::leaf::Leaf;
 use crate::line_ending::line_end_at;
+use crate::math_text::math_text_at;
 use crate::searches::Searches;
-use markdown_options::{Constructs, Tables};
+use markdown_options::{ParseOptions, Tables};
 use std::alloc::{AllocError, Allocator};
 
 /// The construct that a rest of a content begins with, if it holds no other (CommonMark 6): its first
 /// byte says which it may be. What is searched for in vain is kept for later rests.
 pub fn leaf_at<'a, T: Tables, A: Allocator + Clone>(
-    on: &Constructs,
+    options: &ParseOptions,
     tables: &'a T,
     searches: &mut Searches<'a, A>,
     rest: &'a str,
 ) -> Result<Option<Leaf<'a>>, AllocError>
     requires { IsRest searches.old.content.now rest.now }
     ensures content { searches.new.content ≡ searches.old.content }
-    ensures read { IfOk result (λ found. found_leaf rest.now found ≡ leaf_in on.now (T.reference_of tables.now) (content_codes rest.now)) }
+    ensures read { IfOk result (λ found. found_leaf rest.now found ≡ leaf_in options.now (T.reference_of tables.now) (content_codes rest.now)) }
     ensures place { IfOk result (λ found. IfSome found (λ leaf. IsAfter rest.now leaf.after.now)) }
 {
     if rest.is_empty() {
         return Ok(None);
     }
+    let on = &options.constructs;
     match rest.as_bytes()[0] {
         b'\\' => match escape_at(on, rest) {
             Some(found) => Ok(Some(found)),
@@ -40,6 +42,7 @@ pub fn leaf_at<'a, T: Tables, A: Allocator + Clone>(
         },
         b'&' => Ok(reference_at(on, tables, rest)),
         b'`' => code_text_at(on, searches, rest),
+        b'$' => math_text_at(options, searches, rest),
         b'<' => match autolink_at(on, rest) {
             Some(found) => Ok(Some(found)),
             None => Ok(searches.html_text_at(on, rest)),

@@ -13,7 +13,9 @@ pub mod html_text;
 pub mod leaf;
 pub mod leaf_at;
 pub mod line_ending;
-pub mod raw_text;
+pub mod math_text;
+mod raw_runs;
+mod raw_text;
 pub mod searches;
 pub mod space;
 

@@ -1,110 +1,51 @@
-//! Runs of backticks, and where the last one of each size ends (CommonMark 6.1).
+//! Raw text between two runs of one byte: code spans, and math (CommonMark 6.1).
 //!
-//!     run ::= '`'+, with no backtick before or after it
-ghost use Rattle.std.specs.Prelude.{◌≡◌, ◌<◌, ℕ, IfOk, IfSome, OnOk, drop, false, if◌then◌else◌, ◌==◌, nat_lt};
-ghost use Rattle.std.specs.List.{prefix_len};
-ghost use Rattle.std.specs.Option.{option_map};
-ghost use Rattle.definition_inline.specs.CodeText.{run_of};
-ghost use Rattle.definition_text.specs.Runs.{run};
-ghost use Rattle.inline_leaves.specs.Leaves.{IsRun};
-ghost use Rattle.inline_leaves.specs.LastRuns.{last_end, AreLastRuns};
-ghost use Rattle.inline_leaves.specs.declared.raw_text.LastRun.{LastRun as SeenRun};
+//!     raw_text ::= run text run
+//!
+//! Both runs have the same number of bytes, and the text has no run of as many.
+ghost use Rattle.std.specs.Prelude.{◌≡◌, IfOk, IfSome};
+ghost use Rattle.definition_inline.specs.CodeText.{raw_at};
+ghost use Rattle.definition_text.specs.Content.{content_codes};
+ghost use Rattle.inline_links.specs.Codes.{IsRest};
+ghost use Rattle.inline_leaves.specs.Leaves.{found_leaf, IsAfter};
+ghost use Rattle.inline_leaves.specs.RawRuns.{marker_byte};
 
-use inline_links::part::from;
+use crate::cut::{cut_after, text_before};
+use crate::leaf::{Leaf, LeafPart};
+use crate::raw_runs::RawMarker;
+use crate::searches::Searches;
 use std::alloc::{AllocError, Allocator};
+use text_bytes::run;
 
-/// The last run of backticks of its size.
-#[derive(Clone, Copy)]
-pub(crate) struct LastRun {
-    size: usize,
-    // Where it ends.
-    end: usize,
-}
-
-/// How many backticks bytes begin with.
-pub(crate) fn run_size(bytes: &[u8]) -> usize
-    ensures size { result ≡ run 96 bytes.now }
-    ensures run { IsRun bytes.now 0 result }
+/// A run that may open raw text: that text, where another run closes it, and otherwise the run
+/// itself (CommonMark 6.1). That nothing closes it is kept for later rests.
+pub(crate) fn raw_text_at<'a, A: Allocator + Clone>(
+    marker: RawMarker,
+    may_open: bool,
+    searches: &mut Searches<'a, A>,
+    rest: &'a str,
+) -> Result<Option<Leaf<'a>>, AllocError>
+    requires { IsRest searches.old.content.now rest.now }
+    ensures content { searches.new.content ≡ searches.old.content }
+    ensures read { IfOk result (λ found. found_leaf rest.now found ≡ raw_at (marker_byte marker) may_open (content_codes rest.now)) }
+    ensures place { IfOk result (λ found. IfSome found (λ leaf. IsAfter rest.now leaf.after.now)) }
 {
-    for (i, b) in bytes.iter().enumerate() {
-        if *b != b'`' {
-            return i;
-        }
+    if !may_open {
+        return Ok(None);
     }
-    bytes.len()
-}
-
-/// Where the first run of exactly so many backticks begins.
-pub(crate) fn closing_run(bytes: &[u8], size: usize) -> Option<usize>
-    requires { 0 < size }
-    ensures read { option_map (λ end. drop end bytes.now) result ≡ run_of 96 size false bytes.now }
-    ensures run { IfSome result (λ end. IsRun bytes.now end size) }
-{
-    let mut at = 0;
-    while at < bytes.len() {
-        let run = run_size(from(bytes, at));
-        if run == size {
-            return Some(at);
-        }
-        at += if run == 0 { 1 } else { run };
+    let size = run(marker.byte(), rest.as_bytes());
+    if size == 0 {
+        return Ok(None);
     }
-    None
-}
-
-/// The last run of each size in a content, ascending by size. A content of n bytes has runs of fewer
-/// sizes than the root of 2n.
-pub(crate) fn last_runs<A: Allocator>(
-    alloc: A,
-    content: &[u8],
-) -> Result<Vec<LastRun, A>, AllocError>
-    ensures { IfOk result (λ runs. AreLastRuns content.now runs.items) }
-{
-    let mut runs = Vec::new(alloc);
-    let mut at = 0;
-    while at < content.len() {
-        let size = run_size(from(content, at));
-        if size == 0 {
-            at += 1;
-        } else {
-            at += size;
-            keep(&mut runs, LastRun { size, end: at })?;
-        }
+    let text = cut_after(rest, size);
+    match searches.closing_run(marker, text.as_bytes(), size)? {
+        None => Ok(Some(Leaf {
+            part: LeafPart::Unclosed(text_before(rest, size)),
+            after: text,
+        })),
+        Some(end) => Ok(Some(Leaf {
+            part: marker.part(text_before(text, end)),
+            after: cut_after(rest, size + end + size),
+        })),
     }
-    Ok(runs)
-}
-
-/// Where the last run of a size ends, or 0 if there is none. In an ascending list it looks at no more
-/// runs than the size.
-pub(crate) fn last_end(runs: &[LastRun], size: usize) -> usize
-    ensures { result ≡ last_end runs.now size }
-{
-    match runs.get(smaller(runs, size)) {
-        Some(run) if run.size == size => run.end,
-        _ => 0,
-    }
-}
-
-/// Keeps a run, in place of an earlier one of its size.
-fn keep<A: Allocator>(runs: &mut Vec<LastRun, A>, run: LastRun) -> Result<(), AllocError>
-    ensures { (size : ℕ) → OnOk result (last_end runs.new.items size ≡ (if run.size == size then run.end else last_end runs.old.items size)) }
-{
-    let place = smaller(runs, run.size);
-    if place < runs.len() && runs[place].size == run.size {
-        runs[place] = run;
-    } else {
-        runs.insert(place, run)?;
-    }
-    Ok(())
-}
-
-/// How many runs at the front are smaller than a size.
-fn smaller(runs: &[LastRun], size: usize) -> usize
-    ensures { result ≡ prefix_len (λ (run : SeenRun). nat_lt run.size size) runs.now }
-{
-    for (i, run) in runs.iter().enumerate() {
-        if run.size >= size {
-            return i;
-        }
-    }
-    runs.len()
 }

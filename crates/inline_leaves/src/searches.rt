@@ -1,42 +1,45 @@
 //! Searches to the end of a content that found nothing, so that none is made twice.
-ghost use Rattle.std.specs.Prelude.{◌≡◌, ◌≤◌, ◌-◌, [], ◌∷◌, None, drop, length, true};
+ghost use Rattle.std.specs.Prelude.{◌≡◌, ◌≤◌, None, codes, length, true};
 ghost use Rattle.std.specs.Option.{ForSome};
 ghost use Rattle.definition_inline.specs.HtmlText.{after_first};
 ghost use Rattle.inline_links.specs.Codes.{IsRest};
 ghost use Rattle.inline_leaves.specs.HtmlText.{html_after, ClosesText};
-ghost use Rattle.inline_leaves.specs.LastRuns.{AreLastRuns};
+ghost use Rattle.inline_leaves.specs.RawRuns.{marker_byte, AreLastRuns};
 ghost use Rattle.inline_leaves.specs.Searched.{Lacks};
+ghost use Rattle.inline_leaves.specs.declared.raw_runs.RawMarker.TheVariants.{Backtick, Dollar};
 
-use crate::byte_class::begins_with_letter;
-use crate::html_text::{html_text_at, text_end};
+use crate::html_text::{begins_cdata, html_text_at, text_end};
 use crate::leaf::Leaf;
-use crate::raw_text::{LastRun, closing_run, last_end, last_runs};
+use crate::raw_runs::{LastRun, RawMarker, closing_run, last_end, last_runs};
 use inline_links::part::from;
 use markdown_options::Constructs;
 use std::alloc::{AllocError, Allocator};
+use text_bytes::begins_with_letter;
 
 /// How much of a content's end is known to lack what closes raw HTML (CommonMark 6.6), and where
-/// the last runs of backticks are (CommonMark 6.1).
+/// the last runs of backticks and of dollars are (CommonMark 6.1).
 #[derive(Drop)]
 pub struct Searches<'a, A: Allocator> {
     content: &'a str,
     alloc: A,
     // They are looked for where nothing closes a run for the first time.
-    last_runs: Option<Vec<LastRun, A>>,
+    backticks: Option<Vec<LastRun, A>>,
+    dollars: Option<Vec<LastRun, A>>,
     // How many bytes at the content's end are known to hold no `-->`, no `?>`, no `>` and no `]]>`.
     comment: usize,
     instruction: usize,
     declaration: usize,
     cdata: usize,
-    ghost no_comment: { after_first (45 ∷ 45 ∷ 62 ∷ []) (drop (length content.now - comment) content.now) ≡ None },
-    ghost no_instruction: { after_first (63 ∷ 62 ∷ []) (drop (length content.now - instruction) content.now) ≡ None },
-    ghost no_declaration: { after_first (62 ∷ []) (drop (length content.now - declaration) content.now) ≡ None },
-    ghost no_cdata: { after_first (93 ∷ 93 ∷ 62 ∷ []) (drop (length content.now - cdata) content.now) ≡ None },
-    ghost are_last: { ForSome last_runs (λ runs. AreLastRuns content.now runs.items) },
+    ghost no_comment: { Lacks (codes "-->") content.now comment },
+    ghost no_instruction: { Lacks (codes "?>") content.now instruction },
+    ghost no_declaration: { Lacks (codes ">") content.now declaration },
+    ghost no_cdata: { Lacks (codes "]]>") content.now cdata },
+    ghost are_last_backticks: { ForSome backticks (λ runs. AreLastRuns (marker_byte Backtick) content.now runs.items) },
+    ghost are_last_dollars: { ForSome dollars (λ runs. AreLastRuns (marker_byte Dollar) content.now runs.items) },
 }
 
 impl<'a, A: Allocator + Clone> Searches<'a, A> {
-    ghost use Rattle.std.specs.Prelude.{◌<◌, IfOk, IfSome, false};
+    ghost use Rattle.std.specs.Prelude.{◌<◌, IfOk, IfSome, drop, false};
     ghost use Rattle.std.specs.Option.{option_map};
     ghost use Rattle.definition_inline.specs.CodeText.{run_of};
     ghost use Rattle.definition_text.specs.Runs.{run};
@@ -51,7 +54,8 @@ impl<'a, A: Allocator + Clone> Searches<'a, A> {
         Searches {
             content,
             alloc,
-            last_runs: None,
+            backticks: None,
+            dollars: None,
             comment: 0,
             instruction: 0,
             declaration: 0,
@@ -59,41 +63,56 @@ impl<'a, A: Allocator + Clone> Searches<'a, A> {
         }
     }
 
-    /// Where the first run of exactly so many backticks begins in a rest of the content that doesn't
+    /// Where the first run of exactly so many of a byte begins in a rest of the content that doesn't
     /// begin with one (CommonMark 6.1).
     pub(crate) fn closing_run(
         &mut self,
+        marker: RawMarker,
         rest: &[u8],
         size: usize,
     ) -> Result<Option<usize>, AllocError>
         requires rest { IsRest self.old.content.now rest.now }
         requires some { 0 < size }
-        requires outside { run 96 rest.now ≡ 0 }
+        requires outside { run (marker_byte marker) rest.now ≡ 0 }
         ensures content { self.new.content ≡ self.old.content }
-        ensures read { IfOk result (λ found. option_map (λ end. drop end rest.now) found ≡ run_of 96 size false rest.now) }
-        ensures run { IfOk result (λ found. IfSome found (λ end. IsRun rest.now end size)) }
+        ensures read { IfOk result (λ found. option_map (λ end. drop end rest.now) found ≡ run_of (marker_byte marker) size false rest.now) }
+        ensures run { IfOk result (λ found. IfSome found (λ end. IsRun (marker_byte marker) rest.now end size)) }
     {
-        if self.lacks_run(rest, size) {
+        if self.lacks_run(marker, rest, size) {
             return Ok(None);
         }
-        let found = closing_run(rest, size);
-        if found.is_none() && self.last_runs.is_none() {
-            let runs = last_runs(self.alloc.clone()?, self.content.as_bytes())?;
-            self.last_runs = Some(runs);
+        let found = closing_run(marker.byte(), rest, size);
+        if found.is_none() && self.runs(marker).is_none() {
+            let content = self.content.as_bytes();
+            let runs = last_runs(self.alloc.clone()?, marker.byte(), content)?;
+            match marker {
+                RawMarker::Backtick => self.backticks = Some(runs),
+                RawMarker::Dollar => self.dollars = Some(runs),
+            }
         }
         Ok(found)
     }
 
-    /// Whether a rest of the content is known to have no run of exactly so many backticks.
-    fn lacks_run(&self, rest: &[u8], size: usize) -> bool
+    /// Whether a rest of the content is known to have no run of exactly so many of a byte.
+    fn lacks_run(&self, marker: RawMarker, rest: &[u8], size: usize) -> bool
         requires rest { IsRest self.now.content.now rest.now }
         requires some { 0 < size }
-        requires outside { run 96 rest.now ≡ 0 }
-        ensures { result ≡ true → run_of 96 size false rest.now ≡ None }
+        requires outside { run (marker_byte marker) rest.now ≡ 0 }
+        ensures { result ≡ true → run_of (marker_byte marker) size false rest.now ≡ None }
     {
-        match &self.last_runs {
+        match self.runs(marker) {
             Some(runs) => last_end(runs, size) <= self.content.len() - rest.len(),
             None => false,
+        }
+    }
+
+    /// The last runs of a byte, where they were looked for.
+    fn runs(&self, marker: RawMarker) -> Option<&Vec<LastRun, A>>
+        ensures { ForSome result (λ runs. AreLastRuns (marker_byte marker) self.now.content.now runs.now.items) }
+    {
+        match marker {
+            RawMarker::Backtick => self.backticks.as_ref(),
+            RawMarker::Dollar => self.dollars.as_ref(),
         }
     }
 
@@ -131,7 +150,7 @@ impl<'a, A: Allocator + Clone> Searches<'a, A> {
             self.instruction = search(b"?>", content, rest, self.instruction);
             return rest.len() <= self.instruction;
         }
-        if bytes.starts_with(b"<![CDATA[") {
+        if begins_cdata(bytes) {
             let rest = from(bytes, 9);
             self.cdata = search(b"]]>", content, rest, self.cdata);
             return rest.len() <= self.cdata;

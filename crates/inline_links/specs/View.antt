@@ -1,5 +1,6 @@
 -- What was read, in codes.
-use Rattle.std.specs.Prelude.{Option, None, Some}
+use Rattle.std.specs.Prelude.{ℕ, List, Option, None, Some}
+use Rattle.std.specs.Borrow.{Bor}
 use Rattle.std.specs.Option.{option_map}
 use Rattle.definition_text.specs.Content.{content_codes, part}
 use Rattle.definition_text.specs.Content as content
@@ -17,9 +18,13 @@ abbrev pub found_part : Option Part → Option content.Part
 found_part None = None
 found_part (Some read) = Some (part_of read)
 
+-- the codes of a title, where there is one
+abbrev pub title_codes : Option (Bor (List ℕ)) → Option (List ℕ)
+title_codes title = option_map (λ text. content_codes text.now) title
+
 abbrev pub definition_of : LinkDefinition → link_definition.Definition
 definition_of read =
-    definition (content_codes read.label.now) (content_codes read.destination.now) (option_map (λ text. content_codes text.now) read.title) (content_codes read.rest.now)
+    definition (content_codes read.label.now) (content_codes read.destination.now) (title_codes read.title) (content_codes read.rest.now)
 
 abbrev pub found_definition : Option LinkDefinition → Option link_definition.Definition
 found_definition None = None
@@ -27,7 +32,7 @@ found_definition (Some read) = Some (definition_of read)
 
 abbrev pub resource_of : LinkResource → resource.LinkResource
 resource_of read =
-    record { destination = content_codes read.destination.now; title = option_map (λ text. content_codes text.now) read.title; rest = content_codes read.rest.now }
+    record { destination = content_codes read.destination.now; title = title_codes read.title; rest = content_codes read.rest.now }
 
 abbrev pub found_resource : Option LinkResource → Option resource.LinkResource
 found_resource None = None

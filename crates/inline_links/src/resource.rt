@@ -4,11 +4,10 @@
 //!
 //! A title is set off by at least one space, tab or line ending.
 ghost use Rattle.std.specs.Prelude.{◌≡◌, IfSome, []};
-ghost use Rattle.std.specs.Option.{option_map};
 ghost use Rattle.definition_text.specs.Content.{content_codes};
 ghost use Rattle.definition_inline.specs.Resource.{after_destination, opens_title, resource_at, resource_end, resource_inside};
 ghost use Rattle.inline_links.specs.Codes.{IsShorterRest, IsRest};
-ghost use Rattle.inline_links.specs.View.{part_of, found_resource};
+ghost use Rattle.inline_links.specs.View.{part_of, title_codes, found_resource};
 
 use crate::code::next_code;
 use crate::definition::begins_with_space;
@@ -16,6 +15,7 @@ use crate::destination::destination;
 use crate::part::{Part, from};
 use crate::space::white;
 use crate::title::title;
+use markdown_options::constants::RESOURCE_DESTINATION_BALANCE_MAX;
 
 const OPENING: u16 = b'(' as u16;
 
@@ -24,9 +24,6 @@ const CLOSING: u16 = b')' as u16;
 const DOUBLE_QUOTE: u16 = b'"' as u16;
 
 const SINGLE_QUOTE: u16 = b'\'' as u16;
-
-/// How deep the parentheses of a destination may be nested.
-const MOST_PARENTHESES: usize = 32;
 
 /// A resource, and what follows it.
 #[derive(Clone, Copy)]
@@ -60,7 +57,7 @@ fn inside(content: &[u8]) -> Option<LinkResource<'_>>
     if first.code == CLOSING {
         return end(&[], None, content);
     }
-    after_destination(destination(content, Some(MOST_PARENTHESES))?)
+    after_destination(destination(content, Some(RESOURCE_DESTINATION_BALANCE_MAX))?)
 }
 
 /// A title, if there is one, and the end.
@@ -82,7 +79,7 @@ fn end<'a>(
     title: Option<&'a [u8]>,
     content: &'a [u8],
 ) -> Option<LinkResource<'a>>
-    ensures read { found_resource result ≡ resource_end (content_codes destination.now) (option_map (λ text. content_codes text.now) title.entry) (content_codes content.now) }
+    ensures read { found_resource result ≡ resource_end (content_codes destination.now) (title_codes title.entry) (content_codes content.now) }
     ensures place { IfSome result (λ read. IsRest content.now read.rest.now) }
 {
     let first = next_code(content, 0)?;

@@ -10,7 +10,7 @@ use Rattle.std.specs.declared.result.Result.TheVariants.{Ok, Err}
 use Rattle.std.proofs.lemmas.Bool.{or_cases, and_parts, eqb-true, eqb-false, cases_Bool, cond-true}
 use Rattle.std.proofs.lemmas.List.{length-drop, length-map, get_or-take}
 use Rattle.std.proofs.lemmas.List.Sums.{prefix_len_passes, prefix_len-le-length}
-use Rattle.markdown_options.specs.declared.configuration.Constructs.{Constructs}
+use Rattle.markdown_options.specs.declared.configuration.ParseOptions.{ParseOptions}
 use Rattle.definition_text.specs.Content.{content_codes}
 use Rattle.definition_text.specs.InlineCode.{InlineCode, codes_of}
 use Rattle.definition_inline.specs.Inline.{Inline, Data, leaf}
@@ -25,6 +25,7 @@ use Rattle.inline_runs.specs.declared.run.Run.{Run}
 use Rattle.inline_content.specs.declared.content.Content.{Content}
 use Rattle.inline_content.specs.View.{view_at}
 use Rattle.inline_content.specs.Fronts.{StartsRun}
+use Rattle.inline_content.proofs.Runs.{marker_at, marker_ascii}
 use Rattle.inline_leaves.specs.Leaves.{size_before, IsAfter}
 use Rattle.inline_leaves.specs.Leaves.{IsEnd as IsByteEnd}
 use Rattle.inline_leaves.specs.Scanned.{leaf_in}
@@ -67,33 +68,14 @@ single_of (b ∷ bs) utf8 some s = record {
   code = plain_code b bs s.apart_return;
 }
 
--- a marker is `*` or `_`
-marker_is : (on : Constructs) (m : ℕ) → is_marker on m ≡ true → (m ≡ 42) ⊎ (m ≡ 95)
-marker_is on m e = elim (or_cases (eqb m 42) (eqb m 95) (and_parts on.attention (eqb m 42 || eqb m 95) e).1) [
-  | inl h ↦ inl (eqb-true m 42 h)
-  | inr h ↦ inr (eqb-true m 95 h)
-]
-
-not_return : (on : Constructs) (m : ℕ) → is_marker on m ≡ true → m ≡ 13 → ⊥
-not_return on m is e = elim (marker_is on m is) [
-  | inl h ↦ absurd (omega (arith, e, h))
-  | inr h ↦ absurd (omega (arith, e, h))
-]
-
-ascii_marker : (on : Constructs) (m : ℕ) → is_marker on m ≡ true → m < 128
-ascii_marker on m is = elim (marker_is on m is) [
-  | inl h ↦ omega (arith, h)
-  | inr h ↦ omega (arith, h)
-]
-
 -- a run's bytes
-pub run_front : (on : Constructs) (bytes : List ℕ) (run : Run) → StartsRun on bytes run → IsRunFront bytes run
-run_front on bytes run s = record {
+pub run_front : (options : ParseOptions) (bytes : List ℕ) (run : Run) → StartsRun options bytes run → IsRunFront bytes run
+run_front options bytes run s = record {
   end = record {
     some = some_bytes bytes run s;
     within = within;
-    ascii = subst (λ b. b < 128) (sym (byte_at (run.size - 1) (omega (arith, some_bytes bytes run s)))) (ascii_marker on run.marker s.marks);
-    cut = cut_plain bytes run.size within (λ k lt e. not_return on run.marker s.marks (sym (byte_at k lt) ∙ e));
+    ascii = subst (λ b. b < 128) (sym (byte_at (run.size - 1) (omega (arith, some_bytes bytes run s)))) (marker_ascii options run.marker s.marks);
+    cut = cut_plain bytes run.size within (λ k lt e. marker_at options run.marker 13 s.marks refl (sym (byte_at k lt) ∙ e));
   };
   first = first_byte bytes run s;
 } where
@@ -103,7 +85,7 @@ run_front on bytes run s = record {
   byte_at : (k : ℕ) → k < run.size → get_or bytes k 0 ≡ run.marker
   byte_at k lt = eqb-true (get_or bytes k 0) run.marker (prefix_len_passes (λ b. eqb b run.marker) bytes k 0 (omega (arith, lt, s.size)))
 
-  some_bytes : (bytes : List ℕ) (run : Run) → StartsRun on bytes run → 0 < run.size
+  some_bytes : (bytes : List ℕ) (run : Run) → StartsRun options bytes run → 0 < run.size
   some_bytes [] run s = absurd (omega (arith, s.some))
   some_bytes (b ∷ bs) run s =
       elim (cases_Bool (eqb b run.marker)) [
@@ -111,13 +93,15 @@ run_front on bytes run s = record {
         | inr h ↦ absurd (eqb-false b run.marker h s.first)
       ]
 
-  first_byte : (bytes : List ℕ) (run : Run) → StartsRun on bytes run → take 1 bytes ≡ run.marker ∷ []
+  first_byte : (bytes : List ℕ) (run : Run) → StartsRun options bytes run → take 1 bytes ≡ run.marker ∷ []
   first_byte [] run s = absurd (omega (arith, s.some))
   first_byte (b ∷ bs) run s = ap (λ x. x ∷ []) s.first
 
 -- none of them is CR
-pub run_plain : (on : Constructs) (bytes : List ℕ) (run : Run) → StartsRun on bytes run → (k : ℕ) → k < run.size → get_or bytes k 0 ≡ 13 → ⊥
-run_plain on bytes run s k lt e = not_return on run.marker s.marks (sym (eqb-true (get_or bytes k 0) run.marker (prefix_len_passes (λ b. eqb b run.marker) bytes k 0 (omega (arith, lt, s.size)))) ∙ e)
+pub run_plain : (options : ParseOptions) (bytes : List ℕ) (run : Run) → StartsRun options bytes run → (k : ℕ) → k < run.size → get_or bytes k 0 ≡ 13 → ⊥
+run_plain options bytes run s k lt e =
+    marker_at options run.marker 13 s.marks refl
+    (sym (eqb-true (get_or bytes k 0) run.marker (prefix_len_passes (λ b. eqb b run.marker) bytes k 0 (omega (arith, lt, s.size)))) ∙ e)
 
 -- the bytes of a label start
 pub start_plain : (s : LabelStart) (rest : List ℕ) → take (length (start_bytes (start_view s))) rest ≡ start_bytes (start_view s)
@@ -182,62 +166,62 @@ single_next bytes s = after_next bytes (drop 1 bytes) s.next
 single_size : (bytes : List ℕ) → IsSingle bytes → size_before bytes (drop 1 bytes) ≡ 1
 single_size bytes s = omega (arith, ap length s.code)
 
-module _ (on : Constructs) (names : List ℕ → Option (List ℕ)) (p : ℕ → Bool) (ds : List Definition) (content : Content) where
+module _ (options : ParseOptions) (names : List ℕ → Option (List ℕ)) (p : ℕ → Bool) (ds : List Definition) (content : Content) where
   view_count : (rest : List ℕ) → IsPlace content.text.now rest → 0 < length (content_codes rest) → 0 < length (view_at p content rest)
   view_count rest place some =
       omega (arith, some, ap length (codes_left p content rest place), length-map (view_at p content rest) (λ (c : InlineCode). c.code))
 
   -- what is left after some codes does to what is read by then what all did
   moved : (rest after : List ℕ) (now next final : scan.Reading) (n : ℕ) → IsPlace content.text.now rest → IsNext rest after → n ≡ size_before rest after
-      → scan.scan (context_by on names ds) 0 now (view_at p content rest) ≡ final
-      → scan.scan (context_by on names ds) 0 now (view_at p content rest) ≡ scan.scan (context_by on names ds) 0 next (drop n (view_at p content rest))
-      → scan.scan (context_by on names ds) 0 next (view_at p content after) ≡ final
+      → scan.scan (context_by options names ds) 0 now (view_at p content rest) ≡ final
+      → scan.scan (context_by options names ds) 0 now (view_at p content rest) ≡ scan.scan (context_by options names ds) 0 next (drop n (view_at p content rest))
+      → scan.scan (context_by options names ds) 0 next (view_at p content after) ≡ final
   moved rest after now next final n place is size same goes =
-      ap (scan.scan (context_by on names ds) 0 next) (sym (ap (λ k. drop k (view_at p content rest)) size ∙ view_next p content rest after place is))
+      ap (scan.scan (context_by options names ds) 0 next) (sym (ap (λ k. drop k (view_at p content rest)) size ∙ view_next p content rest after place is))
       ∙ sym goes ∙ same
 
   -- bytes of text
   pub text_follows : (rest : List ℕ) (n : ℕ) (now final : scan.Reading) → IsPlace content.text.now rest → n ≤ length rest
       → ((k : ℕ) → k < n → is_text_at (drop k (content_codes rest)) ≡ true) → ((k : ℕ) → k < n → get_or rest k 0 ≡ 13 → ⊥) → IsAfter rest (drop n rest)
-      → scan.scan (context_by on names ds) 0 now (view_at p content rest) ≡ final
-      → scan.scan (context_by on names ds) 0 (read_tokens (map Item (map Data (take n rest))) now) (view_at p content (drop n rest)) ≡ final
+      → scan.scan (context_by options names ds) 0 now (view_at p content rest) ≡ final
+      → scan.scan (context_by options names ds) 0 (read_tokens (map Item (map Data (take n rest))) now) (view_at p content (drop n rest)) ≡ final
   text_follows rest n now final place le text plain after same =
       let codes = codes_left p content rest place in
       let bytes : take n (codes_of (view_at p content rest)) ≡ take n rest = ap (take n) codes ∙ plain_take n rest le plain in
       moved rest (drop n rest) now (read_tokens (map Item (map Data (take n rest))) now) final n place (after_next rest (drop n rest) after) (sym (size_plain n rest (drop n rest) refl le plain)) same
-      (texts.text_steps (context_by on names ds) n now (view_at p content rest) (λ k lt. ap (λ cs. is_text_at (drop k cs)) codes ∙ text k lt)
-      ∙ ap (λ bs. scan.scan (context_by on names ds) 0 (read_tokens (map Item (map Data bs)) now) (drop n (view_at p content rest))) bytes)
+      (texts.text_steps (context_by options names ds) n now (view_at p content rest) (λ k lt. ap (λ cs. is_text_at (drop k cs)) codes ∙ text k lt)
+      ∙ ap (λ bs. scan.scan (context_by options names ds) 0 (read_tokens (map Item (map Data bs)) now) (drop n (view_at p content rest))) bytes)
 
   -- a construct that holds no other
   pub leaf_follows : (rest after : List ℕ) (parts : List Inline) (now final : scan.Reading) → IsPlace content.text.now rest
-      → Some (leaf parts (size_before rest after)) ≡ leaf_in on names (content_codes rest) → IsAfter rest after
-      → scan.scan (context_by on names ds) 0 now (view_at p content rest) ≡ final
-      → scan.scan (context_by on names ds) 0 (read_tokens (map Item parts) now) (view_at p content after) ≡ final
+      → Some (leaf parts (size_before rest after)) ≡ leaf_in options names (content_codes rest) → IsAfter rest after
+      → scan.scan (context_by options names ds) 0 now (view_at p content rest) ≡ final
+      → scan.scan (context_by options names ds) 0 (read_tokens (map Item parts) now) (view_at p content after) ≡ final
   leaf_follows rest after parts now final place found is same =
       moved rest after now (read_tokens (map Item parts) now) final (size_before rest after) place (after_next rest after is) refl same
-      (goes.leaf_goes (context_by on names ds) now (view_at p content rest) (leaf parts (size_before rest after))
-      (ap (leaf_in on names) (codes_left p content rest place) ∙ sym found))
+      (goes.leaf_goes (context_by options names ds) now (view_at p content rest) (leaf parts (size_before rest after))
+      (ap (leaf_in options names) (codes_left p content rest place) ∙ sym found))
 
-  none_left : (rest : List ℕ) → IsPlace content.text.now rest → leaf_in on names (content_codes rest) ≡ None → leaf_at (context_by on names ds) (codes_of (view_at p content rest)) ≡ None
-  none_left rest place none = ap (leaf_in on names) (codes_left p content rest place) ∙ none
+  none_left : (rest : List ℕ) → IsPlace content.text.now rest → leaf_in options names (content_codes rest) ≡ None → leaf_at (context_by options names ds) (codes_of (view_at p content rest)) ≡ None
+  none_left rest place none = ap (leaf_in options names) (codes_left p content rest place) ∙ none
 
   -- a run
-  pub run_follows : (rest : List ℕ) (run : Run) (now final : scan.Reading) → IsPlace content.text.now rest → leaf_in on names (content_codes rest) ≡ None
-      → Some (run_view run) ≡ run_at on (view_at p content rest) → StartsRun on rest run
-      → scan.scan (context_by on names ds) 0 now (view_at p content rest) ≡ final
-      → scan.scan (context_by on names ds) 0 (read_tokens (Delimiters (run_view run) ∷ []) now) (view_at p content (drop run.size rest)) ≡ final
+  pub run_follows : (rest : List ℕ) (run : Run) (now final : scan.Reading) → IsPlace content.text.now rest → leaf_in options names (content_codes rest) ≡ None
+      → Some (run_view run) ≡ run_at options (view_at p content rest) → StartsRun options rest run
+      → scan.scan (context_by options names ds) 0 now (view_at p content rest) ≡ final
+      → scan.scan (context_by options names ds) 0 (read_tokens (Delimiters (run_view run) ∷ []) now) (view_at p content (drop run.size rest)) ≡ final
   run_follows rest run now final place none is starts same =
-      let front = run_front on rest run starts in
+      let front = run_front options rest run starts in
       moved rest (drop run.size rest) now (read_tokens (Delimiters (run_view run) ∷ []) now) final run.size place
       (after_next rest (drop run.size rest) (is_after rest (drop run.size rest) run.size refl front.end.some front.end.within front.end.cut))
-      (sym (size_plain run.size rest (drop run.size rest) refl front.end.within (run_plain on rest run starts))) same
-      (goes.run_goes (context_by on names ds) now (view_at p content rest) (run_view run) (none_left rest place none) (sym is) front.end.some)
+      (sym (size_plain run.size rest (drop run.size rest) refl front.end.within (run_plain options rest run starts))) same
+      (goes.run_goes (context_by options names ds) now (view_at p content rest) (run_view run) (none_left rest place none) (sym is) front.end.some)
 
   -- a label start
-  pub start_follows : (rest : List ℕ) (s : LabelStart) (now final : scan.Reading) → IsPlace content.text.now rest → leaf_in on names (content_codes rest) ≡ None
-      → run_at on (view_at p content rest) ≡ None → Some (start_view s) ≡ label_start_at on (content_codes rest) → StartsLabel rest s → 0 < length rest
-      → scan.scan (context_by on names ds) 0 now (view_at p content rest) ≡ final
-      → scan.scan (context_by on names ds) 0 (opened s (drop (length (start_bytes (start_view s))) rest) now) (view_at p content (drop (length (start_bytes (start_view s))) rest)) ≡ final
+  pub start_follows : (rest : List ℕ) (s : LabelStart) (now final : scan.Reading) → IsPlace content.text.now rest → leaf_in options names (content_codes rest) ≡ None
+      → run_at options (view_at p content rest) ≡ None → Some (start_view s) ≡ label_start_at options.constructs (content_codes rest) → StartsLabel rest s → 0 < length rest
+      → scan.scan (context_by options names ds) 0 now (view_at p content rest) ≡ final
+      → scan.scan (context_by options names ds) 0 (opened s (drop (length (start_bytes (start_view s))) rest) now) (view_at p content (drop (length (start_bytes (start_view s))) rest)) ≡ final
   start_follows rest s now final place none no_run is front some same =
       let k = length (start_bytes (start_view s)) in
       let plain = start_plain s rest front.first in
@@ -245,32 +229,32 @@ module _ (on : Constructs) (names : List ℕ → Option (List ℕ)) (p : ℕ →
       let codes = codes_left p content rest place in
       let left : drop k (codes_of (view_at p content rest)) ≡ content_codes (drop k rest) = ap (drop k) codes ∙ plain_drop k rest front.end.within plain in
       moved rest (drop k rest) now (opened s (drop k rest) now) final k place (after_next rest (drop k rest) after) (sym (size_plain k rest (drop k rest) refl front.end.within plain)) same
-      (goes.start_view_goes (context_by on names ds) now (view_at p content rest) (start_view s) k (start_count s) (view_count rest place (omega (arith, after.fewer))) (none_left rest place none) no_run
-      (ap (label_start_at on) codes ∙ sym is)
-      ∙ ap (λ from. scan.scan (context_by on names ds) 0 (scan.reading (scan.text [] false) (record { start = start_view s; from = from; outer = now.now } ∷ now.open_labels)) (drop k (view_at p content rest))) left)
+      (goes.start_view_goes (context_by options names ds) now (view_at p content rest) (start_view s) k (start_count s) (view_count rest place (omega (arith, after.fewer))) (none_left rest place none) no_run
+      (ap (label_start_at options.constructs) codes ∙ sym is)
+      ∙ ap (λ from. scan.scan (context_by options names ds) 0 (scan.reading (scan.text [] false) (record { start = start_view s; from = from; outer = now.now } ∷ now.open_labels)) (drop k (view_at p content rest))) left)
 
   -- a `]` that forms nothing
-  pub nothing_follows : (rest : List ℕ) (now final : scan.Reading) → IsPlace content.text.now rest → leaf_in on names (content_codes rest) ≡ None
-      → run_at on (view_at p content rest) ≡ None → label_start_at on (content_codes rest) ≡ None → on.label_end ≡ true → get_or rest 0 0 ≡ 93 → IsSingle rest → 0 < length rest
-      → ended_here (context_by on names ds) (content_codes rest) now.open_labels now.now ≡ None
-      → scan.scan (context_by on names ds) 0 now (view_at p content rest) ≡ final
-      → scan.scan (context_by on names ds) 0 (read_tokens (map Item (map Data (take 1 rest))) (unformed_in now.open_labels now.now)) (view_at p content (drop 1 rest)) ≡ final
+  pub nothing_follows : (rest : List ℕ) (now final : scan.Reading) → IsPlace content.text.now rest → leaf_in options names (content_codes rest) ≡ None
+      → run_at options (view_at p content rest) ≡ None → label_start_at options.constructs (content_codes rest) ≡ None → options.constructs.label_end ≡ true → get_or rest 0 0 ≡ 93 → IsSingle rest → 0 < length rest
+      → ended_here (context_by options names ds) (content_codes rest) now.open_labels now.now ≡ None
+      → scan.scan (context_by options names ds) 0 now (view_at p content rest) ≡ final
+      → scan.scan (context_by options names ds) 0 (read_tokens (map Item (map Data (take 1 rest))) (unformed_in now.open_labels now.now)) (view_at p content (drop 1 rest)) ≡ final
   nothing_follows rest now final place none no_run no_start end bracket single some ended same =
       let codes = codes_left p content rest place in
       let first = first_code rest (view_at p content rest) single codes in
       moved rest (drop 1 rest) now (read_tokens (map Item (map Data (take 1 rest))) (unformed_in now.open_labels now.now)) final 1 place (single_next rest single) (sym (single_size rest single)) same
-      (goes.nothing_view_goes (context_by on names ds) now (view_at p content rest) (view_count rest place (omega (arith, single.next.fewer))) (none_left rest place none) no_run
-      (ap (label_start_at on) codes ∙ no_start) end (first ∙ bracket)
-      (ap (λ cs. ended_here (context_by on names ds) cs now.open_labels now.now) codes ∙ ended)
-      ∙ ap (λ bs. scan.scan (context_by on names ds) 0 (read_tokens (map Item (map Data bs)) (unformed_in now.open_labels now.now)) (drop 1 (view_at p content rest)))
+      (goes.nothing_view_goes (context_by options names ds) now (view_at p content rest) (view_count rest place (omega (arith, single.next.fewer))) (none_left rest place none) no_run
+      (ap (label_start_at options.constructs) codes ∙ no_start) end (first ∙ bracket)
+      (ap (λ cs. ended_here (context_by options names ds) cs now.open_labels now.now) codes ∙ ended)
+      ∙ ap (λ bs. scan.scan (context_by options names ds) 0 (read_tokens (map Item (map Data bs)) (unformed_in now.open_labels now.now)) (drop 1 (view_at p content rest)))
       (sym (one_byte rest some ∙ ap (λ b. b ∷ []) bracket)))
 
   -- a `]` that forms a link or an image
-  pub formed_follows : (rest after : List ℕ) (e : Ended) (now final : scan.Reading) → IsPlace content.text.now rest → leaf_in on names (content_codes rest) ≡ None
-      → run_at on (view_at p content rest) ≡ None → label_start_at on (content_codes rest) ≡ None → on.label_end ≡ true → get_or rest 0 0 ≡ 93 → IsSingle rest → 0 < length rest
-      → ended_here (context_by on names ds) (content_codes rest) now.open_labels now.now ≡ Some e → e.size ≡ size_before (drop 1 rest) after → IsNext (drop 1 rest) after
-      → scan.scan (context_by on names ds) 0 now (view_at p content rest) ≡ final
-      → scan.scan (context_by on names ds) 0 (formed_in e.target now.open_labels now.now) (view_at p content after) ≡ final
+  pub formed_follows : (rest after : List ℕ) (e : Ended) (now final : scan.Reading) → IsPlace content.text.now rest → leaf_in options names (content_codes rest) ≡ None
+      → run_at options (view_at p content rest) ≡ None → label_start_at options.constructs (content_codes rest) ≡ None → options.constructs.label_end ≡ true → get_or rest 0 0 ≡ 93 → IsSingle rest → 0 < length rest
+      → ended_here (context_by options names ds) (content_codes rest) now.open_labels now.now ≡ Some e → e.size ≡ size_before (drop 1 rest) after → IsNext (drop 1 rest) after
+      → scan.scan (context_by options names ds) 0 now (view_at p content rest) ≡ final
+      → scan.scan (context_by options names ds) 0 (formed_in e.target now.open_labels now.now) (view_at p content after) ≡ final
   formed_follows rest after e now final place none no_run no_start end bracket single some ended size next same =
       let codes = codes_left p content rest place in
       let first = first_code rest (view_at p content rest) single codes in
@@ -278,21 +262,21 @@ module _ (on : Constructs) (names : List ℕ → Option (List ℕ)) (p : ℕ →
       let one = ap (λ n. drop n (view_at p content rest)) (sym (single_size rest single)) ∙ view_next p content rest (drop 1 rest) place (single_next rest single) in
       let left : drop e.size (drop 1 (view_at p content rest)) ≡ view_at p content after =
       ap (drop e.size) one ∙ ap (λ n. drop n (view_at p content (drop 1 rest))) size ∙ view_next p content (drop 1 rest) after there next in
-      ap (scan.scan (context_by on names ds) 0 (formed_in e.target now.open_labels now.now)) (sym left)
-      ∙ sym (goes.formed_view_goes (context_by on names ds) now (view_at p content rest) e (view_count rest place (omega (arith, single.next.fewer))) (none_left rest place none) no_run
-      (ap (label_start_at on) codes ∙ no_start) end (first ∙ bracket)
-      (ap (λ cs. ended_here (context_by on names ds) cs now.open_labels now.now) codes ∙ ended))
+      ap (scan.scan (context_by options names ds) 0 (formed_in e.target now.open_labels now.now)) (sym left)
+      ∙ sym (goes.formed_view_goes (context_by options names ds) now (view_at p content rest) e (view_count rest place (omega (arith, single.next.fewer))) (none_left rest place none) no_run
+      (ap (label_start_at options.constructs) codes ∙ no_start) end (first ∙ bracket)
+      (ap (λ cs. ended_here (context_by options names ds) cs now.open_labels now.now) codes ∙ ended))
       ∙ same
 
   -- a byte at which nothing starts
-  pub byte_follows : (rest : List ℕ) (now final : scan.Reading) → IsPlace content.text.now rest → leaf_in on names (content_codes rest) ≡ None
-      → run_at on (view_at p content rest) ≡ None → label_start_at on (content_codes rest) ≡ None → (on.label_end && eqb (get_or rest 0 0) 93) ≡ false → IsSingle rest → 0 < length rest
-      → scan.scan (context_by on names ds) 0 now (view_at p content rest) ≡ final
-      → scan.scan (context_by on names ds) 0 (read_tokens (map Item (map Data (take 1 rest))) now) (view_at p content (drop 1 rest)) ≡ final
+  pub byte_follows : (rest : List ℕ) (now final : scan.Reading) → IsPlace content.text.now rest → leaf_in options names (content_codes rest) ≡ None
+      → run_at options (view_at p content rest) ≡ None → label_start_at options.constructs (content_codes rest) ≡ None → (options.constructs.label_end && eqb (get_or rest 0 0) 93) ≡ false → IsSingle rest → 0 < length rest
+      → scan.scan (context_by options names ds) 0 now (view_at p content rest) ≡ final
+      → scan.scan (context_by options names ds) 0 (read_tokens (map Item (map Data (take 1 rest))) now) (view_at p content (drop 1 rest)) ≡ final
   byte_follows rest now final place none no_run no_start no_end single some same =
       let codes = codes_left p content rest place in
       let first = first_code rest (view_at p content rest) single codes in
       moved rest (drop 1 rest) now (read_tokens (map Item (map Data (take 1 rest))) now) final 1 place (single_next rest single) (sym (single_size rest single)) same
-      (goes.byte_view_goes (context_by on names ds) now (view_at p content rest) (get_or rest 0 0) (view_count rest place (omega (arith, single.next.fewer))) (none_left rest place none) no_run
-      (ap (label_start_at on) codes ∙ no_start) first no_end
-      ∙ ap (λ bs. scan.scan (context_by on names ds) 0 (read_tokens (map Item (map Data bs)) now) (drop 1 (view_at p content rest))) (sym (one_byte rest some)))
+      (goes.byte_view_goes (context_by options names ds) now (view_at p content rest) (get_or rest 0 0) (view_count rest place (omega (arith, single.next.fewer))) (none_left rest place none) no_run
+      (ap (label_start_at options.constructs) codes ∙ no_start) first no_end
+      ∙ ap (λ bs. scan.scan (context_by options names ds) 0 (read_tokens (map Item (map Data bs)) now) (drop 1 (view_at p content rest))) (sym (one_byte rest some)))

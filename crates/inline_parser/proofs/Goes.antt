@@ -30,15 +30,15 @@ module _ (context : InlineContext) where
       scan_step context r (read_tokens (map Item found.parts) r) c cs (found.size - 1) (step_leaf context r c cs found is)
       ∙ ap (λ n. scan context 0 (read_tokens (map Item found.parts) r) (drop n (c ∷ cs))) (omega (arith, fits.some))
 
-  pub run_goes : (r : Reading) (view : List InlineCode) (run : Run) → leaf_at context (codes_of view) ≡ None → run_at context.on view ≡ Some run → 0 < run.left
+  pub run_goes : (r : Reading) (view : List InlineCode) (run : Run) → leaf_at context (codes_of view) ≡ None → run_at context.options view ≡ Some run → 0 < run.left
       → scan context 0 r view ≡ scan context 0 (read_tokens (Delimiters run ∷ []) r) (drop run.left view)
   run_goes r [] run none is some = absurd (no_none run is)
   run_goes r (c ∷ cs) run none is some =
       scan_step context r (read_tokens (Delimiters run ∷ []) r) c cs (run.left - 1) (step_run context r c cs run none is)
       ∙ ap (λ n. scan context 0 (read_tokens (Delimiters run ∷ []) r) (drop n (c ∷ cs))) (omega (arith, some))
 
-  pub start_goes : (r : Reading) (c : InlineCode) (cs : List InlineCode) (start : LabelStart) → leaf_at context (codes_of (c ∷ cs)) ≡ None → run_at context.on (c ∷ cs) ≡ None
-      → label_start_at context.on (codes_of (c ∷ cs)) ≡ Some start
+  pub start_goes : (r : Reading) (c : InlineCode) (cs : List InlineCode) (start : LabelStart) → leaf_at context (codes_of (c ∷ cs)) ≡ None → run_at context.options (c ∷ cs) ≡ None
+      → label_start_at context.options.constructs (codes_of (c ∷ cs)) ≡ Some start
       → scan context 0 r (c ∷ cs)
       ≡ scan context 0 (reading (text [] false) (record { start = start; from = drop (1 + start_more start) (codes_of (c ∷ cs)); outer = r.now } ∷ r.open_labels)) (drop (1 + start_more start) (c ∷ cs))
   start_goes r c cs start none no_run is =
@@ -46,20 +46,20 @@ module _ (context : InlineContext) where
       (step_start context r c cs start none no_run is)
 
   -- a `]` is read
-  end_read : (r : Reading) (c : InlineCode) (cs : List InlineCode) → leaf_at context (codes_of (c ∷ cs)) ≡ None → run_at context.on (c ∷ cs) ≡ None
-      → label_start_at context.on (codes_of (c ∷ cs)) ≡ None → (context.on.label_end && eqb c.code 93) ≡ true
+  end_read : (r : Reading) (c : InlineCode) (cs : List InlineCode) → leaf_at context (codes_of (c ∷ cs)) ≡ None → run_at context.options (c ∷ cs) ≡ None
+      → label_start_at context.options.constructs (codes_of (c ∷ cs)) ≡ None → (context.options.constructs.label_end && eqb c.code 93) ≡ true
       → scan context 0 r (c ∷ cs) ≡ and_then (label_end_step context (codes_of (c ∷ cs)) r.now r.open_labels) (λ k next. scan context k next cs)
   end_read r c cs none no_run no_start is =
       ap (λ s. and_then s (λ k next. scan context k next cs))
-      (step_last context r c cs none no_run no_start ∙ cond-true (context.on.label_end && eqb c.code 93) _ _ is)
+      (step_last context r c cs none no_run no_start ∙ cond-true (context.options.constructs.label_end && eqb c.code 93) _ _ is)
 
   none_read : (now : Text) (labels : List OpenLabel) (c : InlineCode) (cs : List InlineCode) → ended_here context (codes_of (c ∷ cs)) labels now ≡ None
       → and_then (label_end_step context (codes_of (c ∷ cs)) now labels) (λ k next. scan context k next cs) ≡ scan context 0 (read_tokens (Item (Data 93) ∷ []) (unformed_in labels now)) cs
   none_read now [] c cs is = refl
   none_read now (label ∷ others) c cs is = ap (λ e. and_then (ended_step label others now e) (λ k next. scan context k next cs)) is
 
-  pub end_forms_nothing : (r : Reading) (c : InlineCode) (cs : List InlineCode) → leaf_at context (codes_of (c ∷ cs)) ≡ None → run_at context.on (c ∷ cs) ≡ None
-      → label_start_at context.on (codes_of (c ∷ cs)) ≡ None → (context.on.label_end && eqb c.code 93) ≡ true
+  pub end_forms_nothing : (r : Reading) (c : InlineCode) (cs : List InlineCode) → leaf_at context (codes_of (c ∷ cs)) ≡ None → run_at context.options (c ∷ cs) ≡ None
+      → label_start_at context.options.constructs (codes_of (c ∷ cs)) ≡ None → (context.options.constructs.label_end && eqb c.code 93) ≡ true
       → ended_here context (codes_of (c ∷ cs)) r.open_labels r.now ≡ None
       → scan context 0 r (c ∷ cs) ≡ scan context 0 (read_tokens (Item (Data 93) ∷ []) (unformed_in r.open_labels r.now)) cs
   end_forms_nothing r c cs none no_run no_start is ended = end_read r c cs none no_run no_start is ∙ none_read r.now r.open_labels c cs ended
@@ -71,16 +71,16 @@ module _ (context : InlineContext) where
       ap (λ o. and_then (ended_step label others now o) (λ k next. scan context k next cs)) is
       ∙ scan_skipped context e.size (formed_in e.target (label ∷ others) now) cs
 
-  pub end_forms : (r : Reading) (c : InlineCode) (cs : List InlineCode) (e : Ended) → leaf_at context (codes_of (c ∷ cs)) ≡ None → run_at context.on (c ∷ cs) ≡ None
-      → label_start_at context.on (codes_of (c ∷ cs)) ≡ None → (context.on.label_end && eqb c.code 93) ≡ true
+  pub end_forms : (r : Reading) (c : InlineCode) (cs : List InlineCode) (e : Ended) → leaf_at context (codes_of (c ∷ cs)) ≡ None → run_at context.options (c ∷ cs) ≡ None
+      → label_start_at context.options.constructs (codes_of (c ∷ cs)) ≡ None → (context.options.constructs.label_end && eqb c.code 93) ≡ true
       → ended_here context (codes_of (c ∷ cs)) r.open_labels r.now ≡ Some e
       → scan context 0 r (c ∷ cs) ≡ scan context 0 (formed_in e.target r.open_labels r.now) (drop e.size cs)
   end_forms r c cs e none no_run no_start is ended = end_read r c cs none no_run no_start is ∙ some_read r.now r.open_labels c cs e ended
 
   -- ---- the same of codes of which there are some
 
-  pub start_view_goes : (r : Reading) (view : List InlineCode) (start : LabelStart) (n : ℕ) → n ≡ 1 + start_more start → 0 < length view → leaf_at context (codes_of view) ≡ None → run_at context.on view ≡ None
-      → label_start_at context.on (codes_of view) ≡ Some start
+  pub start_view_goes : (r : Reading) (view : List InlineCode) (start : LabelStart) (n : ℕ) → n ≡ 1 + start_more start → 0 < length view → leaf_at context (codes_of view) ≡ None → run_at context.options view ≡ None
+      → label_start_at context.options.constructs (codes_of view) ≡ Some start
       → scan context 0 r view
       ≡ scan context 0 (reading (text [] false) (record { start = start; from = drop n (codes_of view); outer = r.now } ∷ r.open_labels)) (drop n view)
   start_view_goes r [] start n size some none no_run is = absurd (omega (arith, some))
@@ -88,27 +88,27 @@ module _ (context : InlineContext) where
       start_goes r c cs start none no_run is
       ∙ ap (λ k. scan context 0 (reading (text [] false) (record { start = start; from = drop k (codes_of (c ∷ cs)); outer = r.now } ∷ r.open_labels)) (drop k (c ∷ cs))) (sym size)
 
-  is_end : (c : ℕ) → context.on.label_end ≡ true → c ≡ 93 → (context.on.label_end && eqb c 93) ≡ true
+  is_end : (c : ℕ) → context.options.constructs.label_end ≡ true → c ≡ 93 → (context.options.constructs.label_end && eqb c 93) ≡ true
   is_end c on is = ap (λ b. b && eqb c 93) on ∙ ap (λ k. eqb k 93) is
 
-  pub nothing_view_goes : (r : Reading) (view : List InlineCode) → 0 < length view → leaf_at context (codes_of view) ≡ None → run_at context.on view ≡ None
-      → label_start_at context.on (codes_of view) ≡ None → context.on.label_end ≡ true → get_or (codes_of view) 0 0 ≡ 93
+  pub nothing_view_goes : (r : Reading) (view : List InlineCode) → 0 < length view → leaf_at context (codes_of view) ≡ None → run_at context.options view ≡ None
+      → label_start_at context.options.constructs (codes_of view) ≡ None → context.options.constructs.label_end ≡ true → get_or (codes_of view) 0 0 ≡ 93
       → ended_here context (codes_of view) r.open_labels r.now ≡ None
       → scan context 0 r view ≡ scan context 0 (read_tokens (Item (Data 93) ∷ []) (unformed_in r.open_labels r.now)) (drop 1 view)
   nothing_view_goes r [] some none no_run no_start on is ended = absurd (omega (arith, some))
   nothing_view_goes r (c ∷ cs) some none no_run no_start on is ended = end_forms_nothing r c cs none no_run no_start (is_end c.code on is) ended
 
-  pub formed_view_goes : (r : Reading) (view : List InlineCode) (e : Ended) → 0 < length view → leaf_at context (codes_of view) ≡ None → run_at context.on view ≡ None
-      → label_start_at context.on (codes_of view) ≡ None → context.on.label_end ≡ true → get_or (codes_of view) 0 0 ≡ 93
+  pub formed_view_goes : (r : Reading) (view : List InlineCode) (e : Ended) → 0 < length view → leaf_at context (codes_of view) ≡ None → run_at context.options view ≡ None
+      → label_start_at context.options.constructs (codes_of view) ≡ None → context.options.constructs.label_end ≡ true → get_or (codes_of view) 0 0 ≡ 93
       → ended_here context (codes_of view) r.open_labels r.now ≡ Some e
       → scan context 0 r view ≡ scan context 0 (formed_in e.target r.open_labels r.now) (drop e.size (drop 1 view))
   formed_view_goes r [] e some none no_run no_start on is ended = absurd (omega (arith, some))
   formed_view_goes r (c ∷ cs) e some none no_run no_start on is ended = end_forms r c cs e none no_run no_start (is_end c.code on is) ended
 
-  pub byte_view_goes : (r : Reading) (view : List InlineCode) (b : ℕ) → 0 < length view → leaf_at context (codes_of view) ≡ None → run_at context.on view ≡ None
-      → label_start_at context.on (codes_of view) ≡ None → get_or (codes_of view) 0 0 ≡ b → (context.on.label_end && eqb b 93) ≡ false
+  pub byte_view_goes : (r : Reading) (view : List InlineCode) (b : ℕ) → 0 < length view → leaf_at context (codes_of view) ≡ None → run_at context.options view ≡ None
+      → label_start_at context.options.constructs (codes_of view) ≡ None → get_or (codes_of view) 0 0 ≡ b → (context.options.constructs.label_end && eqb b 93) ≡ false
       → scan context 0 r view ≡ scan context 0 (read_tokens (map Item (map Data (b ∷ []))) r) (drop 1 view)
   byte_view_goes r [] b some none no_run no_start is no_end = absurd (omega (arith, some))
   byte_view_goes r (c ∷ cs) b some none no_run no_start is no_end =
-      other_step context r c cs none no_run no_start (ap (λ k. context.on.label_end && eqb k 93) is ∙ no_end)
+      other_step context r c cs none no_run no_start (ap (λ k. context.options.constructs.label_end && eqb k 93) is ∙ no_end)
       ∙ ap (λ k. scan context 0 (read_tokens (map Item (map Data (k ∷ []))) r) cs) is

@@ -3,6 +3,7 @@ use Rattle.std.proofs.Common.{◌≡◌, ℕ, zero, suc, ◌+◌, ◌-◌, ◌<�
 use Rattle.std.proofs.lemmas.Bool.{cases_Bool, cond-false, cond-true, eqb-true, eq-eqb, ne_eqb, le-leb, false≢true, true≢false, not-true, not-false, or_parts, or_cases, or_from, and_left, and_right, and_from}
 use Rattle.std.proofs.lemmas.List.{append-nil, append_assoc, get_or-drop, length-drop, drop-drop}
 use Rattle.markdown_options.specs.declared.configuration.Constructs.{Constructs}
+use Rattle.markdown_options.specs.declared.configuration.ParseOptions.{ParseOptions}
 use Rattle.definition_text.specs.Columns.{is_white, indent, bare}
 use Rattle.definition_text.specs.Content.{content_codes, is_eol}
 use Rattle.definition_inline.specs.HardBreak.{ends_here, escaped_break_at, line_end_at, line_spaces_at}
@@ -10,6 +11,8 @@ use Rattle.definition_inline.specs.Strings.{begins_with_eol}
 use Rattle.definition_inline.specs.CharacterEscape.{escape_at}
 use Rattle.definition_inline.specs.CharacterReference.{reference_at, reference_of}
 use Rattle.definition_inline.specs.CodeText.{code_text_at}
+use Rattle.definition_inline.specs.MathText.{may_open_math, math_text_at}
+use Rattle.definition_text.specs.Runs.{run}
 use Rattle.definition_inline.specs.Autolink.{autolink_at}
 use Rattle.definition_inline.specs.HtmlText.{html_text_at}
 use Rattle.definition_text.specs.InlineCode.{InlineCode, codes_of}
@@ -21,6 +24,7 @@ use Rattle.definition_inline.proofs.Scanning.{scan_step, step_last}
 use Rattle.inline_leaves.specs.Leaves.{IsAfter, IsWhite}
 use Rattle.inline_leaves.specs.Scanned.{leaf_in, without_labels}
 use Rattle.inline_leaves.proofs.Codes.{plain_code, plain_drop, at_return, is_after, cut_plain, cut_after_byte}
+use Rattle.inline_content.proofs.Runs.{no_marker}
 use Rattle.inline_parser.specs.Plain.{is_special, starts, is_text_at}
 
 -- ---- a code at which nothing starts
@@ -30,9 +34,11 @@ pub record IsOther (c : ℕ) : Type 0 where
   pub backslash : eqb c 92 ≡ false
   pub ampersand : eqb c 38 ≡ false
   pub backtick : eqb c 96 ≡ false
+  pub dollar : eqb c 36 ≡ false
   pub less : eqb c 60 ≡ false
   pub star : eqb c 42 ≡ false
   pub underscore : eqb c 95 ≡ false
+  pub tilde : eqb c 126 ≡ false
   pub exclamation : eqb c 33 ≡ false
   pub opening : eqb c 91 ≡ false
   pub closing : eqb c 93 ≡ false
@@ -44,18 +50,22 @@ is_other c h =
     let a = or_parts (eqb c 92) _ p.0 in
     let b = or_parts (eqb c 38) _ a.1 in
     let d = or_parts (eqb c 96) _ b.1 in
-    let e = or_parts (eqb c 60) _ d.1 in
+    let dollar = or_parts (eqb c 36) _ d.1 in
+    let e = or_parts (eqb c 60) _ dollar.1 in
     let f = or_parts (eqb c 42) _ e.1 in
     let g = or_parts (eqb c 95) _ f.1 in
-    let i = or_parts (eqb c 33) _ g.1 in
+    let tilde = or_parts (eqb c 126) _ g.1 in
+    let i = or_parts (eqb c 33) _ tilde.1 in
     let j = or_parts (eqb c 91) (eqb c 93) i.1 in
     record {
       backslash = a.0;
       ampersand = b.0;
       backtick = d.0;
+      dollar = dollar.0;
       less = e.0;
       star = f.0;
       underscore = g.0;
+      tilde = tilde.0;
       exclamation = i.0;
       opening = j.0;
       closing = j.1;
@@ -117,6 +127,9 @@ no_reference on names c cs h = elim (cases_Bool on.character_reference) [
 no_code : (on : Constructs) (c : ℕ) (cs : List ℕ) → eqb c 96 ≡ false → code_text_at on (c ∷ cs) ≡ None
 no_code on c cs h = cond-false _ _ _ (and_right on.code_text _ (ap (λ n. not (eqb n 0)) (cond-false (eqb c 96) _ 0 h)))
 
+no_math : (options : ParseOptions) (c : ℕ) (cs : List ℕ) → eqb c 36 ≡ false → math_text_at options (c ∷ cs) ≡ None
+no_math options c cs h = cond-false _ _ _ (and_right (may_open_math options (run 36 (c ∷ cs))) _ (ap (λ n. not (eqb n 0)) (cond-false (eqb c 36) _ 0 h)))
+
 no_autolink : (on : Constructs) (c : ℕ) (cs : List ℕ) → eqb c 60 ≡ false → autolink_at on (c ∷ cs) ≡ None
 no_autolink on c cs h = cond-false _ _ _ (and_right on.autolink _ (and_left (eqb 60 c) _ (flip c 60 h)))
 
@@ -130,20 +143,21 @@ pub text_leaf : (context : InlineContext) (c : ℕ) (cs : List ℕ) → is_text_
 text_leaf context c cs h =
     let is = text_is c cs h in
     let o = is_other c is.0 in
-    let on = context.on in
+    let on = context.options.constructs in
     or_none (escape_at on (c ∷ cs)) _ (no_escape on c cs o.backslash)
     ∙ or_none (escaped_break_at on (c ∷ cs)) _ (no_escaped_break on c cs o.backslash)
     ∙ or_none (reference_at on context.names (c ∷ cs)) _ (no_reference on context.names c cs o.ampersand)
     ∙ or_none (code_text_at on (c ∷ cs)) _ (no_code on c cs o.backtick)
+    ∙ or_none (math_text_at context.options (c ∷ cs)) _ (no_math context.options c cs o.dollar)
     ∙ or_none (autolink_at on (c ∷ cs)) _ (no_autolink on c cs o.less)
     ∙ or_none (html_text_at on (c ∷ cs)) _ (no_html on c cs o.less)
     ∙ or_none (line_end_at (c ∷ cs)) _ (cond-false (is_eol c) _ _ o.ending)
     ∙ cond-false _ _ _ is.1
 
-pub text_run : (on : Constructs) (c : InlineCode) (cs : List InlineCode) → starts c.code ≡ false → run_at on (c ∷ cs) ≡ None
-text_run on c cs h =
+pub text_run : (options : ParseOptions) (c : InlineCode) (cs : List InlineCode) → starts c.code ≡ false → run_at options (c ∷ cs) ≡ None
+text_run options c cs h =
     let o = is_other c.code h in
-    cond-false _ _ _ (and_right on.attention _ (or_from (eqb c.code 42) (eqb c.code 95) o.star o.underscore))
+    cond-false _ _ _ (no_marker options c.code (or_from (eqb c.code 42 || eqb c.code 95) (eqb c.code 126) (or_from (eqb c.code 42) (eqb c.code 95) o.star o.underscore) o.tilde))
 
 pub text_start : (on : Constructs) (c : ℕ) (cs : List ℕ) → starts c ≡ false → label_start_at on (c ∷ cs) ≡ None
 text_start on c cs h =
@@ -158,8 +172,8 @@ pub text_step : (context : InlineContext) (r : Reading) (c : InlineCode) (cs : L
     → step context r c cs ≡ Next 0 (read_tokens (Item (Data c.code) ∷ []) r)
 text_step context r c cs h =
     let free = (text_is c.code (codes_of cs) h).0 in
-    step_last context r c cs (text_leaf context c.code (codes_of cs) h) (text_run context.on c cs free) (text_start context.on c.code (codes_of cs) free)
-    ∙ cond-false _ _ _ (and_right context.on.label_end _ (is_other c.code free).closing)
+    step_last context r c cs (text_leaf context c.code (codes_of cs) h) (text_run context.options c cs free) (text_start context.options.constructs c.code (codes_of cs) free)
+    ∙ cond-false _ _ _ (and_right context.options.constructs.label_end _ (is_other c.code free).closing)
 
 -- tokens that are read one after another
 pub read_none : (r : Reading) → read_tokens [] r ≡ r
@@ -182,7 +196,7 @@ text_steps context (suc n) r (c ∷ cs) h =
 
 -- a code at which a construct may start, but none does
 pub other_step : (context : InlineContext) (r : Reading) (c : InlineCode) (cs : List InlineCode) → leaf_at context (codes_of (c ∷ cs)) ≡ None
-    → run_at context.on (c ∷ cs) ≡ None → label_start_at context.on (codes_of (c ∷ cs)) ≡ None → (context.on.label_end && eqb c.code 93) ≡ false
+    → run_at context.options (c ∷ cs) ≡ None → label_start_at context.options.constructs (codes_of (c ∷ cs)) ≡ None → (context.options.constructs.label_end && eqb c.code 93) ≡ false
     → scan context 0 r (c ∷ cs) ≡ scan context 0 (read_tokens (map Item (map Data (c.code ∷ []))) r) cs
 other_step context r c cs no_leaf no_run no_start no_end =
     scan_step context r (read_tokens (Item (Data c.code) ∷ []) r) c cs 0 (step_last context r c cs no_leaf no_run no_start ∙ cond-false _ _ _ no_end)
@@ -200,16 +214,16 @@ else_none : (one other : Option Leaf) → or_else one other ≡ None → other �
 else_none None other h = h
 else_none (Some found) other h = absurd (there_not (Some found) refl h)
 
-last_leaves : (context : InlineContext) (codes : List ℕ) → leaf_at context codes ≡ None → or_else (line_end_at codes) (line_spaces_at context.on codes) ≡ None
+last_leaves : (context : InlineContext) (codes : List ℕ) → leaf_at context codes ≡ None → or_else (line_end_at codes) (line_spaces_at context.options.constructs codes) ≡ None
 last_leaves context codes h =
-    let on = context.on in
-    else_none (html_text_at on codes) _ (else_none (autolink_at on codes) _ (else_none (code_text_at on codes) _
-    (else_none (reference_at on context.names codes) _ (else_none (escaped_break_at on codes) _ (else_none (escape_at on codes) _ h)))))
+    let on = context.options.constructs in
+    else_none (html_text_at on codes) _ (else_none (autolink_at on codes) _ (else_none (math_text_at context.options codes) _ (else_none (code_text_at on codes) _
+    (else_none (reference_at on context.names codes) _ (else_none (escaped_break_at on codes) _ (else_none (escape_at on codes) _ h))))))
 
 no_leaf_no_eol : (context : InlineContext) (c : ℕ) (cs : List ℕ) → leaf_at context (c ∷ cs) ≡ None → is_eol c ≡ false
 no_leaf_no_eol context c cs h = elim (cases_Bool (is_eol c)) [
   | inl is ↦
-      absurd (there_not _ (ap (λ o. is_there (or_else o (line_spaces_at context.on (c ∷ cs)))) (cond-true (is_eol c) _ _ is)) (last_leaves context (c ∷ cs) h))
+      absurd (there_not _ (ap (λ o. is_there (or_else o (line_spaces_at context.options.constructs (c ∷ cs)))) (cond-true (is_eol c) _ _ is)) (last_leaves context (c ∷ cs) h))
   | inr isnt ↦ isnt
 ]
 
@@ -220,7 +234,7 @@ special_first context c cs h none = elim (cases_Bool (is_white c)) [
       let ends : ends_here (bare (c ∷ cs)) ≡ true = not-false _ (sym (cond-true (is_white c) _ _ white) ∙ h) in
       let size : indent (c ∷ cs) ≡ 1 + indent cs = cond-true (is_white c) _ _ white in
       let some : leb 1 (indent (c ∷ cs)) ≡ true = le-leb 1 (indent (c ∷ cs)) (omega arith) in
-      absurd (there_not (line_spaces_at context.on (c ∷ cs)) (ap is_there (cond-true _ _ _ (and_from (leb 1 (indent (c ∷ cs))) _ some ends))) (else_none (line_end_at (c ∷ cs)) _ (last_leaves context (c ∷ cs) none)))
+      absurd (there_not (line_spaces_at context.options.constructs (c ∷ cs)) (ap is_there (cond-true _ _ _ (and_from (leb 1 (indent (c ∷ cs))) _ some ends))) (else_none (line_end_at (c ∷ cs)) _ (last_leaves context (c ∷ cs) none)))
   | inr dark ↦ (not-false _ (sym (cond-false (is_white c) _ _ dark) ∙ h), no_leaf_no_eol context c cs none)
 ]
 
@@ -241,11 +255,13 @@ special_ascii c h = elim (cases_Bool (leb 128 c)) [
         or_from (eqb c 92) _ (ne_eqb c 92 (λ e. omega arith))
         (or_from (eqb c 38) _ (ne_eqb c 38 (λ e. omega arith))
         (or_from (eqb c 96) _ (ne_eqb c 96 (λ e. omega arith))
+        (or_from (eqb c 36) _ (ne_eqb c 36 (λ e. omega arith))
         (or_from (eqb c 60) _ (ne_eqb c 60 (λ e. omega arith))
         (or_from (eqb c 42) _ (ne_eqb c 42 (λ e. omega arith))
         (or_from (eqb c 95) _ (ne_eqb c 95 (λ e. omega arith))
+        (or_from (eqb c 126) _ (ne_eqb c 126 (λ e. omega arith))
         (or_from (eqb c 33) _ (ne_eqb c 33 (λ e. omega arith))
-        (or_from (eqb c 91) (eqb c 93) (ne_eqb c 91 (λ e. omega arith)) (ne_eqb c 93 (λ e. omega arith)))))))))
+        (or_from (eqb c 91) (eqb c 93) (ne_eqb c 91 (λ e. omega arith)) (ne_eqb c 93 (λ e. omega arith)))))))))))
 
 -- so many bytes at the front are text
 pub record IsText (bytes : List ℕ) (size : ℕ) : Type 0 where
@@ -347,16 +363,16 @@ pub record IsSpecial (bytes : List ℕ) : Type 0 where
   pub special : is_special (get_or bytes 0 0) ≡ true
   pub place : IsAfter bytes (drop 1 bytes)
 
-pub special_byte : (on : Constructs) (names : List ℕ → Option (List ℕ)) (bytes : List ℕ) → 0 < length bytes
-    → is_text_at (content_codes bytes) ≡ false → leaf_in on names (content_codes bytes) ≡ None → IsSpecial bytes
-special_byte on names [] some stop none = absurd (omega arith)
-special_byte on names (b ∷ bs) some stop none = elim (cases_Bool (eqb b 13)) [
+pub special_byte : (options : ParseOptions) (names : List ℕ → Option (List ℕ)) (bytes : List ℕ) → 0 < length bytes
+    → is_text_at (content_codes bytes) ≡ false → leaf_in options names (content_codes bytes) ≡ None → IsSpecial bytes
+special_byte options names [] some stop none = absurd (omega arith)
+special_byte options names (b ∷ bs) some stop none = elim (cases_Bool (eqb b 13)) [
   | inl h ↦ absurd (returned (eqb-true b 13 h))
   | inr h ↦ other (λ e. true≢false (sym (ap (λ x. eqb x 13) e) ∙ h))
 ]
   where
     context : InlineContext
-    context = without_labels on names
+    context = without_labels options names
 
     ends : (codes : List ℕ) → is_text_at codes ≡ false → leaf_at context codes ≡ None → begins_with_eol codes ≡ true → ⊥
     ends [] stop none eol = false≢true eol

@@ -4,10 +4,11 @@ use Rattle.definition_text.specs.Columns.{is_white, bare}
 use Rattle.definition_text.specs.Content.{is_eol}
 use Rattle.definition_inline.specs.HardBreak.{ends_here}
 
--- a byte that constructs begin with, or that ends one: `\`, `&`, a backtick, `<`, `*`, `_`, `!`, `[` or `]`
+-- a byte that constructs begin with, or that ends one: `\`, `&`, a backtick, `$`, `<`, `*`, `_`, `~`, `!`, `[` or `]`
 abbrev pub is_special : ℕ → Bool
 is_special code =
-    (code == 92) || ((code == 38) || ((code == 96) || ((code == 60) || ((code == 42) || ((code == 95) || ((code == 33) || ((code == 91) || (code == 93))))))))
+    (code == 92) || ((code == 38) || ((code == 96) || ((code == 36) || ((code == 60)
+    || ((code == 42) || ((code == 95) || ((code == 126) || ((code == 33) || ((code == 91) || (code == 93))))))))))
 
 -- a code at which a construct may start, if it is no space or tab: one of these, or a line ending
 abbrev pub starts : ℕ → Bool

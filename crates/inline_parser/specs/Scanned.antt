@@ -2,7 +2,7 @@
 use Rattle.std.specs.Prelude.{◌≡◌, ◌<◌, ◌≤◌, ℕ, Bool, false, List, [], ◌∷◌, OnOk, Result, Option, None, drop, take, length, slice_index}
 use Rattle.std.specs.List.{prefix_len}
 use Rattle.std.specs.Str.{IsCharBoundary}
-use Rattle.markdown_options.specs.declared.configuration.Constructs.{Constructs}
+use Rattle.markdown_options.specs.declared.configuration.ParseOptions.{ParseOptions}
 use Rattle.definition_text.specs.Columns.{is_white}
 use Rattle.definition_text.specs.Content.{content_codes}
 use Rattle.definition_text.specs.InlineCode.{InlineCode}
@@ -27,14 +27,14 @@ use Rattle.inline_parser.specs.declared.scan.Source.{Source}
 use Rattle.inline_parser.specs.Shows.{Shows, IsSound, StartsBefore, start_view}
 
 -- the context of a document with these definitions
-abbrev pub context_by : Constructs → (List ℕ → Option (List ℕ)) → List Definition → InlineContext
-context_by on names ds = record { on = on; names = names; is_defined = is_label_of ds }
+abbrev pub context_by : ParseOptions → (List ℕ → Option (List ℕ)) → List Definition → InlineContext
+context_by options names ds = record { options = options; names = names; is_defined = is_label_of ds }
 
 -- what was read, and that the scan of what is left gives this in the end
-pub record Follows {A : Type 0} (on : Constructs) (names : List ℕ → Option (List ℕ)) (is_punctuation : ℕ → Bool) (ds : List Definition) (content : Content) (s : Scanner A) (final : scan.Reading) : Type 0 where
+pub record Follows {A : Type 0} (options : ParseOptions) (names : List ℕ → Option (List ℕ)) (is_punctuation : ℕ → Bool) (ds : List Definition) (content : Content) (s : Scanner A) (final : scan.Reading) : Type 0 where
   pub now : scan.Reading
   pub shows : Shows (leads_to (linked_by ds)) (linked_at ds) s.reading now
-  pub same : scan.scan (context_by on names ds) 0 now (view_at is_punctuation content s.rest.now) ≡ final
+  pub same : scan.scan (context_by options names ds) 0 now (view_at is_punctuation content s.rest.now) ≡ final
 
 -- a rest of a content, whose codes are the last of the content's
 pub record IsPlace (content rest : List ℕ) : Type 0 where
@@ -73,21 +73,21 @@ pub record StartsLabel (bytes : List ℕ) (start : LabelStart) : Type 0 where
   pub first : take (length (start_bytes (start_view start))) bytes ≡ start_bytes (start_view start)
 
 -- what all of a content is read as, but for the spaces and tabs at its start
-abbrev pub scanned : Constructs → (List ℕ → Option (List ℕ)) → (ℕ → Bool) → List Definition → Content → scan.Reading
-scanned on names is_punctuation ds content =
+abbrev pub scanned : ParseOptions → (List ℕ → Option (List ℕ)) → (ℕ → Bool) → List Definition → Content → scan.Reading
+scanned options names is_punctuation ds content =
     let view = content_view is_punctuation content in
-    scan.scan (context_by on names ds) 0 (scan.reading (scan.text [] false) []) (drop (prefix_len (λ (c : InlineCode). is_white c.code) view) view)
+    scan.scan (context_by options names ds) 0 (scan.reading (scan.text [] false) []) (drop (prefix_len (λ (c : InlineCode). is_white c.code) view) view)
 
 -- a content that is being read to this end
-pub record IsScanning {A : Type 0} (on : Constructs) (names : List ℕ → Option (List ℕ)) (is_punctuation : ℕ → Bool) (labels : LabelTable A) (content : Content) (s : Scanner A) : Type 0 where
+pub record IsScanning {A : Type 0} (options : ParseOptions) (names : List ℕ → Option (List ℕ)) (is_punctuation : ℕ → Bool) (labels : LabelTable A) (content : Content) (s : Scanner A) : Type 0 where
   pub placed : IsPlaced content s
-  pub follows : (ds : List Definition) → HasLabels labels (labels_of ds) → Follows on names is_punctuation ds content s (scanned on names is_punctuation ds content)
+  pub follows : (ds : List Definition) → HasLabels labels (labels_of ds) → Follows options names is_punctuation ds content s (scanned options names is_punctuation ds content)
 
 -- whatever the document's definitions are and whatever is read in the end, the new state leads there as the old one did, unless memory ran out
 abbrev pub GoesOn : {T A B C : Type 0} → (List ℕ → Option (List ℕ)) → (ℕ → Bool) → Source T A → Scanner A → Result B C → Scanner A → Type 0
 GoesOn names is_punctuation source old result new =
     (ds : List Definition) (final : scan.Reading) → HasLabels source.labels.now (labels_of ds) →
-    Follows source.on.now names is_punctuation ds source.content old final → OnOk result (Follows source.on.now names is_punctuation ds source.content new final)
+    Follows source.options.now names is_punctuation ds source.content old final → OnOk result (Follows source.options.now names is_punctuation ds source.content new final)
 
 -- what is left stays a rest of the content, unless memory ran out
 abbrev pub StaysPlaced : {A B C : Type 0} → Scanner A → Result B C → Scanner A → Type 0
@@ -99,8 +99,8 @@ Shortens old result new = OnOk result (length new.rest.now < length old.rest.now
 
 -- the content of this source begins with no construct that holds no other, by these names
 abbrev pub HasNoLeaf : {T A : Type 0} → (List ℕ → Option (List ℕ)) → Source T A → List ℕ → Type 0
-HasNoLeaf names source rest = leaf_in source.on.now names (content_codes rest) ≡ None
+HasNoLeaf names source rest = leaf_in source.options.now names (content_codes rest) ≡ None
 
--- and with no run of `*` or `_`, by this punctuation
+-- and with no run of `*`, `_` or `~`, by this punctuation
 abbrev pub HasNoRun : {T A : Type 0} → (ℕ → Bool) → Source T A → List ℕ → Type 0
-HasNoRun is_punctuation source rest = run_at source.on.now (view_at is_punctuation source.content rest) ≡ None
+HasNoRun is_punctuation source rest = run_at source.options.now (view_at is_punctuation source.content rest) ≡ None

@@ -7,13 +7,13 @@ ghost use Rattle.definition_text.specs.Content.{content_codes, is_eol};
 ghost use Rattle.inline_leaves.specs.Leaves.{IsAfter};
 ghost use Rattle.inline_parser.specs.Plain.{is_text_at};
 
-use inline_leaves::space::is_white;
+use text_bytes::is_space_or_tab;
 use text_search::{ByteSet, next_of};
 
 /// The bytes that are no space or tab at which a construct may start (CommonMark 6).
 const STARTS: ByteSet = ByteSet {
     first: [
-        b'`', b'!', 0, 0, 0, 0, b'&', 0, 0, 0, b'*', b'[', b'\\', b']', 0, b'_',
+        b'`', b'!', 0, 0, b'$', 0, b'&', 0, 0, 0, b'*', b'[', b'\\', b']', b'~', b'_',
     ],
     second: [1, 0, 0, 0, 0, 0, 0, 0, 0, 0, b'\n', 0, b'<', b'\r', 0, 0],
 };
@@ -50,7 +50,7 @@ fn without_white(bytes: &[u8], end: usize) -> usize
     ensures dark { 0 < result → is_white (slice_index bytes.now (result - 1)) ≡ false }
 {
     let mut start = end;
-    while start > 0 && is_white(bytes[start - 1]) {
+    while start > 0 && is_space_or_tab(bytes[start - 1]) {
         start -= 1;
     }
     start

@@ -5,7 +5,7 @@ ghost use Rattle.std.specs.Prelude.{◌≡◌, ◌<◌, ◌≤◌, ◌==◌, ◌
 ghost use Rattle.std.specs.List.{prefix_len};
 ghost use Rattle.std.specs.Option.{option_map};
 ghost use Rattle.std.specs.Str.{IsCharBoundary};
-ghost use Rattle.markdown_options.specs.declared.configuration.Constructs.{Constructs as SeenConstructs};
+ghost use Rattle.markdown_options.specs.declared.configuration.ParseOptions.{ParseOptions as SeenOptions};
 ghost use Rattle.definition_text.specs.Columns.{is_white};
 ghost use Rattle.definition_text.specs.Content.{content_codes};
 ghost use Rattle.definition_inline.specs.Inline.{Target, Linked, Data};
@@ -39,13 +39,13 @@ use inline_leaves::searches::Searches;
 use inline_leaves::space::white_size;
 use inline_rows::InlineRow;
 use inline_runs::Run;
-use markdown_options::{Constructs, Tables};
+use markdown_options::{Constructs, ParseOptions, Tables};
 use std::alloc::{AllocError, Allocator};
 
 /// What a content is read by.
 #[derive(Drop)]
 pub(crate) struct Source<'a, T, A: Allocator + Clone> {
-    pub(crate) on: &'a Constructs,
+    pub(crate) options: &'a ParseOptions,
     pub(crate) tables: &'a T,
     pub(crate) labels: &'a LabelTable<A>,
     pub(crate) content: Content<'a>,
@@ -63,7 +63,7 @@ pub(crate) struct Scanner<'a, A: Allocator> {
 /// The inline structure of a content as rows (CommonMark 6).
 pub fn inline_rows<'a, T: Tables, A: Allocator + Clone>(
     alloc: A,
-    on: &'a Constructs,
+    options: &'a ParseOptions,
     tables: &'a T,
     labels: &'a LabelTable<A>,
     content: Content<'a>,
@@ -71,10 +71,10 @@ pub fn inline_rows<'a, T: Tables, A: Allocator + Clone>(
     ensures { (ds : List Definition) → HasLabels labels.now (labels_of ds) →
         IfOk result (λ rows. rows_view (linked_at ds) rows.items
         ≡ inline_rows (leads_to (linked_by ds))
-        (inlines (context_by on.now (T.reference_of tables.now) ds) (content_view (T.punctuation_of tables.now) content.entry))) }
+        (inlines (context_by options.now (T.reference_of tables.now) ds) (content_view (T.punctuation_of tables.now) content.entry))) }
 {
     let source = Source {
-        on,
+        options,
         tables,
         labels,
         content,
@@ -133,7 +133,7 @@ impl<'a, A: Allocator + Clone> Scanner<'a, A> {
         if size > 0 {
             return self.text(size);
         }
-        match leaf_at(source.on, source.tables, &mut self.searches, self.rest)? {
+        match leaf_at(source.options, source.tables, &mut self.searches, self.rest)? {
             Some(leaf) => self.leaf(leaf),
             None => self.run_or_label(source),
         }
@@ -176,7 +176,10 @@ impl<'a, A: Allocator + Clone> Scanner<'a, A> {
         ensures shorter { Shortens self.old result self.new }
         ensures read { GoesOn (T.reference_of source.now.tables.now) (T.punctuation_of source.now.tables.now) source.now self.old result self.new }
     {
-        match source.content.run_at(source.on, source.tables, self.rest) {
+        match source
+            .content
+            .run_at(source.options, source.tables, self.rest)
+        {
             Some(run) => self.run(run),
             None => self.label_or_byte(source),
         }
@@ -207,10 +210,10 @@ impl<'a, A: Allocator + Clone> Scanner<'a, A> {
         ensures shorter { Shortens self.old result self.new }
         ensures read { GoesOn (T.reference_of source.now.tables.now) (T.punctuation_of source.now.tables.now) source.now self.old result self.new }
     {
-        if let Some(start) = label_start_at(source.on, self.rest) {
+        if let Some(start) = label_start_at(&source.options.constructs, self.rest) {
             return self.start(start);
         }
-        if is_label_end(source.on, self.rest) {
+        if is_label_end(&source.options.constructs, self.rest) {
             self.end(source)
         } else {
             self.text(1)
@@ -240,8 +243,8 @@ impl<'a, A: Allocator + Clone> Scanner<'a, A> {
         requires no_leaf { HasNoLeaf (T.reference_of source.now.tables.now) source.now self.old.rest.now }
         requires first { IsSingle self.old.rest.now }
         requires no_run { HasNoRun (T.punctuation_of source.now.tables.now) source.now self.old.rest.now }
-        requires no_start { label_start_at source.now.on.now (content_codes self.old.rest.now) ≡ None }
-        requires bracket { (source.now.on.now.label_end && (slice_index self.old.rest.now 0 == 93)) ≡ true }
+        requires no_start { label_start_at source.now.options.now.constructs (content_codes self.old.rest.now) ≡ None }
+        requires bracket { (source.now.options.now.constructs.label_end && (slice_index self.old.rest.now 0 == 93)) ≡ true }
         ensures placed { OnOk result (IsPlaced source.now.content self.new) }
         ensures shorter { Shortens self.old result self.new }
         ensures read { GoesOn (T.reference_of source.now.tables.now) (T.punctuation_of source.now.tables.now) source.now self.old result self.new }
@@ -269,11 +272,11 @@ impl<'a, A: Allocator + Clone> Scanner<'a, A> {
     ) -> Result<Option<LabelEnd<'a>>, AllocError>
         requires placed { StartsBefore self.now.rest.now self.now.reading }
         requires bracket { self.now.rest.now ≡ 93 ∷ after.now }
-        ensures read { (leads : Target → Linked) (at : ℕ → Linked) (r : scan.Reading) (on : SeenConstructs)
+        ensures read { (leads : Target → Linked) (at : ℕ → Linked) (r : scan.Reading) (options : SeenOptions)
             (names : List ℕ → Option (List ℕ)) (ds : List Definition) →
             HasLabels labels.now (labels_of ds) → Shows leads at self.now.reading r →
             IfOk result (λ found. IsEnded (labels_of ds) after.now found
-            (ended_here (context_by on names ds) (content_codes self.now.rest.now) r.open_labels r.now)) }
+            (ended_here (context_by options names ds) (content_codes self.now.rest.now) r.open_labels r.now)) }
         ensures place { IfOk result (λ found. IfSome found (λ end. IsAfterEnd after.now end.after.now)) }
     {
         match self.reading.labels.last() {

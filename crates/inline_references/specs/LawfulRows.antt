@@ -83,7 +83,7 @@ codes_are_text bytes text h =
     joined (code_text (take_while is_ascii_hexdigit bytes)) (second_text (after_all is_ascii_hexdigit bytes)) text
     (code_is_text (take_while is_ascii_hexdigit bytes)) (second_is_text (after_all is_ascii_hexdigit bytes)) h
 
-name_is_lawful : (name : List ℕ) → is_name name ≡ true → IsReferenceName name
+pub name_is_lawful : (name : List ℕ) → is_name name ≡ true → IsReferenceName name
 name_is_lawful name h =
     let parts = and_parts (nat_le 1 (length name) && nat_le (length name) 31) (list_all is_ascii_alphanumeric name) h in
     let sizes = and_parts (nat_le 1 (length name)) (nat_le (length name) 31) parts.0 in

@@ -4,3 +4,4 @@ pub mod Places
 pub mod Groups
 pub mod Laws
 pub mod Grammar
+pub mod Printed

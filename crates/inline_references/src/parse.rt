@@ -2,6 +2,7 @@
 ghost use Rattle.std.specs.Prelude.{◌≡◌, ◌++◌, ◌∷◌, ◌≤◌, IfOk, IfErr, OnOk, length, string_bytes};
 ghost use Rattle.markdown_options.specs.Messages.{IsOutOfMemory};
 ghost use Rattle.definition_inline.specs.Decoded.{decoded};
+ghost use Rattle.inline_references.specs.Printed.{IsDecoded};
 
 use crate::decode::push_value;
 use crate::reference::character_reference;
@@ -45,7 +46,7 @@ fn push_reference<'a, A: Allocator, T: Tables>(
     after: &'a str,
     tables: &T,
 ) -> Result<&'a str, AllocError>
-    ensures printed { IfOk result (λ rest. string_bytes out.new ++ decoded (T.reference_of tables.now) rest.now ≡ string_bytes out.old ++ decoded (T.reference_of tables.now) (38 ∷ after.now)) }
+    ensures printed { IfOk result (λ rest. IsDecoded (T.reference_of tables.now) (string_bytes out.old) (38 ∷ after.now) (string_bytes out.new) rest.now) }
     ensures shorter { IfOk result (λ rest. length rest.now ≤ length after.now) }
 {
     let Some(reference) = character_reference(after) else {

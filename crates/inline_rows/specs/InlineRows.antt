@@ -1,9 +1,9 @@
 -- The rows of inline structure: what the inline parser hands to the printer.
 use Rattle.std.specs.Prelude.{List, [], ◌∷◌, ◌++◌}
-use Rattle.definition_inline.specs.Inline.{Target, Linked, Inline, Data, Escape, Character, Code, Autolink, Html, EscapedBreak, TrailingBreak, LineEnd, Emphasis, Strong, Link, Image, Inlines, Nil, Cons}
-use Rattle.definition_inline.specs.Spans.{Span, IsEmphasis, IsStrong}
+use Rattle.definition_inline.specs.Inline.{Target, Linked, Inline, Data, Escape, Character, Code, Math, Autolink, Html, EscapedBreak, TrailingBreak, LineEnd, Emphasis, Strong, Strikethrough, Link, Image, Inlines, Nil, Cons}
+use Rattle.definition_inline.specs.Spans.{Span, IsEmphasis, IsStrong, IsStrikethrough}
 
--- a part that holds no other; the start of emphasis or strong emphasis, of a link and of an image; the end of the innermost one
+-- a part that holds no other; the start of a span, of a link and of an image; the end of the innermost one
 pub data InlineRow : Type 0 where
   Part : Inline → InlineRow
   EnterSpan : Span → InlineRow
@@ -19,6 +19,7 @@ module _ (leads : Target → Linked) where
     part_rows (Escape b) = Part (Escape b) ∷ []
     part_rows (Character bytes) = Part (Character bytes) ∷ []
     part_rows (Code bytes) = Part (Code bytes) ∷ []
+    part_rows (Math bytes) = Part (Math bytes) ∷ []
     part_rows (Autolink is_email bytes) = Part (Autolink is_email bytes) ∷ []
     part_rows (Html text) = Part (Html text) ∷ []
     part_rows EscapedBreak = Part EscapedBreak ∷ []
@@ -26,6 +27,7 @@ module _ (leads : Target → Linked) where
     part_rows (LineEnd code) = Part (LineEnd code) ∷ []
     part_rows (Emphasis kids) = EnterSpan IsEmphasis ∷ (inline_rows kids ++ Leave ∷ [])
     part_rows (Strong kids) = EnterSpan IsStrong ∷ (inline_rows kids ++ Leave ∷ [])
+    part_rows (Strikethrough kids) = EnterSpan IsStrikethrough ∷ (inline_rows kids ++ Leave ∷ [])
     part_rows (Link target kids) = EnterLink (leads target) ∷ (inline_rows kids ++ Leave ∷ [])
     part_rows (Image target kids) = EnterImage (leads target) ∷ (inline_rows kids ++ Leave ∷ [])
 

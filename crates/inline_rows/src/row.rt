@@ -27,7 +27,7 @@ pub enum InlineRow<'a> {
     Text(&'a str),
     /// A construct that holds no other.
     Leaf(LeafPart<'a>),
-    /// The start of emphasis or strong emphasis (CommonMark 6.2).
+    /// The start of emphasis, strong emphasis or strikethrough (CommonMark 6.2 and GFM 6.5).
     EnterSpan(Span),
     /// The start of a link (CommonMark 6.3).
     EnterLink(LinkTarget<'a>),

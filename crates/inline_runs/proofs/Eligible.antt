@@ -1,15 +1,17 @@
 -- What an opener has to know of a closer.
-use Rattle.std.proofs.Common.{◌≡◌, ℕ, ◌+◌, ◌-◌, ◌%◌, ◌<◌, ◌≤◌, List, Bool, true, false, not, ◌&&◌, ◌||◌, map, refl, sym, ap, ◌∙◌, length, get_or, arith, subst}
+use Rattle.std.proofs.Common.{◌≡◌, ℕ, ◌+◌, ◌-◌, ◌%◌, ◌<◌, ◌≤◌, List, Bool, true, false, cond, not, ◌&&◌, ◌||◌, map, refl, sym, ap, ◌∙◌, length, get_or, arith, subst}
 use Rattle.std.specs.Prelude.{◌==◌, nat_le}
+use Rattle.std.proofs.lemmas.Grind.{common_steps}
 use Rattle.std.proofs.lemmas.Bool.{and_left, and_right, and_from}
 use Rattle.std.proofs.lemmas.List.{get_or-map, length-map}
 use Rattle.definition_inline.specs.Attention.{Run as RunOf}
+use Rattle.definition_inline.specs.GfmStrikethrough.{are_fitting}
 use Rattle.definition_inline.specs.Pairing.{Placed as PlacedOf, is_eligible, up_to_nearest, is_ruled_out_by_three}
 use Rattle.definition_inline.proofs.NearestOpener.{up_to_nearest_is}
 use Rattle.inline_runs.specs.View.{run_view}
 use Rattle.inline_runs.specs.declared.openers.Opener.{Opener}
 use Rattle.inline_runs.specs.declared.openers.Want.{Want}
-use Rattle.inline_runs.specs.Floors.{opener_view, wanted, can_close, fits, is_ruled_out}
+use Rattle.inline_runs.specs.Floors.{opener_view, tilde_count, wanted, can_close, fits, FitsAt, is_ruled_out}
 
 rest_of_sum : (a b : ℕ) → (a + b) % 3 ≡ (a + b % 3) % 3
 rest_of_sum a b = omega arith
@@ -25,11 +27,17 @@ in_other_order true false false d = refl
 in_other_order false b true d = refl
 in_other_order false b false d = refl
 
+-- tildes are counted of tildes alone
+fitting_is : (o c : RunOf) → ((o.marker == c.marker) && are_fitting o.marker o.left c.left) ≡ ((o.marker == c.marker) && are_fitting o.marker o.left (tilde_count c))
+fitting_is o c = grind (arith, common_steps)
+
 pub eligible_is : (o : Opener) (c : PlacedOf) → is_eligible (opener_view o) c ≡ (can_close c.run && fits (run_view o.placed.run) (wanted c.run))
 eligible_is o c =
     let r = run_view o.placed.run in
-    ap (λ b. (r.marker == c.run.marker) && ((r.may_open && nat_le 1 r.left) && ((c.run.may_close && nat_le 1 c.run.left) && not b))) (ruled_out r c.run)
-    ∙ in_other_order (r.marker == c.run.marker) (r.may_open && nat_le 1 r.left) (can_close c.run) (not (is_ruled_out r (wanted c.run)))
+    let same = (r.marker == c.run.marker) && are_fitting r.marker r.left c.run.left in
+    ap (λ b. same && ((r.may_open && nat_le 1 r.left) && ((c.run.may_close && nat_le 1 c.run.left) && not b))) (ruled_out r c.run)
+    ∙ ap (λ b. b && ((r.may_open && nat_le 1 r.left) && ((c.run.may_close && nat_le 1 c.run.left) && not (is_ruled_out r (wanted c.run))))) (fitting_is r c.run)
+    ∙ in_other_order ((r.marker == c.run.marker) && are_fitting r.marker r.left (tilde_count c.run)) (r.may_open && nat_le 1 r.left) (can_close c.run) (not (is_ruled_out r (wanted c.run)))
 
 any_opener : PlacedOf → Opener
 any_opener c = record { placed = record { run = record { marker = 0; size = 0; may_open = false; may_close = false }; place = 0 }; since = 0 }
@@ -40,13 +48,13 @@ eligible_at openers c k lt = ap (λ (o : PlacedOf). is_eligible o c) (get_or-map
 
 -- the nearest opener that fits
 pub nearest_fits : (openers : List Opener) (c : PlacedOf) (n : ℕ) → n ≤ length openers
-    → ((k : ℕ) (d : Opener) → n ≤ k → k < length openers → fits (run_view (get_or openers k d).placed.run) (wanted c.run) ≡ false)
-    → (0 < n → (d : Opener) → fits (run_view (get_or openers (n - 1) d).placed.run) (wanted c.run) ≡ true)
+    → ((k : ℕ) → n ≤ k → k < length openers → FitsAt openers k (wanted c.run) false)
+    → (0 < n → FitsAt openers (n - 1) (wanted c.run) true)
     → can_close c.run ≡ true → n ≡ up_to_nearest (map opener_view openers) c
 nearest_fits openers c n le none found can =
     let same = length-map openers opener_view in
     up_to_nearest_is (map opener_view openers) c n (omega arith)
-    (λ k h lt. eligible_at openers c k (omega arith) ∙ and_right (can_close c.run) (fits (run_view (get_or openers k (any_opener c)).placed.run) (wanted c.run)) (none k (any_opener c) h (omega arith)))
+    (λ k h lt. eligible_at openers c k (omega arith) ∙ and_right (can_close c.run) (fits (run_view (get_or openers k (any_opener c)).placed.run) (wanted c.run)) (none k h (omega arith) (any_opener c)))
     (λ some. eligible_at openers c (n - 1) (omega arith) ∙ and_from (can_close c.run) (fits (run_view (get_or openers (n - 1) (any_opener c)).placed.run) (wanted c.run)) can (found some (any_opener c)))
 
 -- a run that may close nothing
@@ -59,11 +67,11 @@ none_for openers c cannot =
 
 -- the same, of a slice of the openers
 pub searched : (openers slice : List Opener) (c : PlacedOf) (w : Want) (n : ℕ) → slice ≡ openers → w ≡ wanted c.run → n ≤ length slice
-    → ((k : ℕ) (d : Opener) → n ≤ k → k < length slice → fits (run_view (get_or slice k d).placed.run) w ≡ false)
-    → (0 < n → (d : Opener) → fits (run_view (get_or slice (n - 1) d).placed.run) w ≡ true)
+    → ((k : ℕ) → n ≤ k → k < length slice → FitsAt slice k w false)
+    → (0 < n → FitsAt slice (n - 1) w true)
     → can_close c.run ≡ true → n ≡ up_to_nearest (map opener_view openers) c
 searched openers slice c w n same is le none found can =
     subst (λ os. n ≡ up_to_nearest (map opener_view os) c) same
     (nearest_fits slice c n le
-    (λ k d h lt. ap (fits (run_view (get_or slice k d).placed.run)) (sym is) ∙ none k d h lt)
+    (λ k h lt d. ap (fits (run_view (get_or slice k d).placed.run)) (sym is) ∙ none k h lt d)
     (λ some d. ap (fits (run_view (get_or slice (n - 1) d).placed.run)) (sym is) ∙ found some d) can)

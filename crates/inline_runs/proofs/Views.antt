@@ -9,12 +9,11 @@ use Rattle.definition_inline.specs.Attention.{Run as RunOf}
 use Rattle.definition_inline.specs.Pairing.{Pair as PairOf, pairs}
 use Rattle.definition_inline.specs.Inline.{Data}
 use Rattle.definition_inline.specs.Spans.{Holds, Opens, Closes, span_of, bytes_taken, run_rows}
-use Rattle.inline_runs.specs.View.{pair_view, pairs_view, span_view, run_view, runs_view}
+use Rattle.inline_runs.specs.View.{pair_view, pairs_view, run_view, runs_view}
 use Rattle.inline_runs.specs.Threads.{closed_by, opened_by, IsEnds}
 use Rattle.inline_runs.specs.Laid.{pair_bytes, bytes, IsLaid, text_at}
 use Rattle.inline_runs.specs.Paired.{run_sizes}
 use Rattle.inline_runs.specs.declared.pair.Pair.{Pair}
-use Rattle.inline_runs.specs.declared.pair.Span.TheVariants.{Emphasis, Strong}
 use Rattle.inline_runs.specs.declared.pairs.Ends.{Ends}
 use Rattle.inline_runs.specs.declared.run.Run.{Run}
 use Rattle.inline_runs.specs.declared.spans.Laid.{Laid}
@@ -45,12 +44,9 @@ closes_view : (ps : List Pair) → map (λ (p : PairOf). Closes) (pairs_view ps)
 closes_view [] = refl
 closes_view (p ∷ ps) = ap (λ rows. Closes ∷ rows) (closes_view ps)
 
-span_is : (marker : ℕ) (p : Pair) → span_of marker (pair_view p) ≡ span_view p.span
-span_is marker p = elim p.span as (λ s. span_of marker (pair_view (record p { span = s })) ≡ span_view s) [ Emphasis ↦ refl | Strong ↦ refl ]
-
-opens_view : (marker : ℕ) (ps : List Pair) → map (λ (p : PairOf). Opens (span_of marker p)) (pairs_view ps) ≡ map (λ (p : Pair). Opens (span_view p.span)) ps
+opens_view : (marker : ℕ) (ps : List Pair) → map (λ (p : PairOf). Opens (span_of marker p)) (pairs_view ps) ≡ map (λ (p : Pair). Opens (span_of marker (pair_view p))) ps
 opens_view marker [] = refl
-opens_view marker (p ∷ ps) = ap₂ (λ span rows. Opens span ∷ rows) (span_is marker p) (opens_view marker ps)
+opens_view marker (p ∷ ps) = ap (λ rows. Opens (span_of marker (pair_view p)) ∷ rows) (opens_view marker ps)
 
 -- ---- of runs whose pairs are known
 
@@ -82,7 +78,8 @@ size_at runs i n d is lt =
 pub rows_are : (runs : List RunOf) (ps closed opened : List Pair) (place text : ℕ) (d : RunOf) → pairs_view ps ≡ pairs runs → place < length runs
     → pairs_view closed ≡ filter (λ (p : PairOf). p.closer == place) (pairs runs) → pairs_view opened ≡ reverse (filter (λ (p : PairOf). p.opener == place) (pairs runs))
     → text ≡ text_at ps place (slice_index (run_sizes runs) place)
-    → (map (λ (p : Pair). Closes) closed ++ replicate text (Holds (Data (get_or runs place d).marker)) ++ map (λ (p : Pair). Opens (span_view p.span)) opened) ≡ run_rows (pairs runs) place (get_or runs place d)
+    → (map (λ (p : Pair). Closes) closed ++ replicate text (Holds (Data (get_or runs place d).marker)) ++ map (λ (p : Pair). Opens (span_of (get_or runs place d).marker (pair_view p))) opened)
+    ≡ run_rows (pairs runs) place (get_or runs place d)
 rows_are runs ps closed opened place text d are lt is_closed is_opened is_text =
     let run = get_or runs place d in
     let left : slice_index (run_sizes runs) place ≡ run.left = size_of runs place d lt in

@@ -1,6 +1,7 @@
 -- Openers as the definition has them, and below which of them no search has to look.
-use Rattle.std.specs.Prelude.{◌≡◌, ◌<◌, ◌≤◌, ◌+◌, ◌%◌, ℕ, Bool, false, not, ◌==◌, ◌&&◌, ◌||◌, nat_le, List, map, length, slice_index_or, All}
+use Rattle.std.specs.Prelude.{◌≡◌, ◌<◌, ◌≤◌, ◌+◌, ◌%◌, ℕ, Bool, false, not, if◌then◌else◌, ◌==◌, ◌&&◌, ◌||◌, nat_le, List, map, length, slice_index_or, All}
 use Rattle.definition_inline.specs.Attention.{Run as RunOf}
+use Rattle.definition_inline.specs.GfmStrikethrough.{is_tilde, are_fitting}
 use Rattle.definition_inline.specs.Pairing.{Placed as PlacedOf, placed}
 use Rattle.inline_runs.specs.View.{run_view}
 use Rattle.inline_runs.specs.declared.openers.Placed.{Placed}
@@ -19,8 +20,11 @@ abbrev pub openers_view : {A : Type 0} → Openers A → List PlacedOf
 openers_view o = map opener_view o.openers.items
 
 -- what matters of a closer
+abbrev pub tilde_count : RunOf → ℕ
+tilde_count c = if is_tilde c.marker then c.left else 0
+
 abbrev pub wanted : RunOf → Want
-wanted c = record { marker = c.marker; may_open = c.may_open; rest = c.left % 3 }
+wanted c = record { marker = c.marker; may_open = c.may_open; rest = c.left % 3; tildes = tilde_count c }
 
 -- whether a run may close a span, and has a byte left
 abbrev pub can_close : RunOf → Bool
@@ -32,11 +36,16 @@ is_ruled_out o w = (o.may_close || w.may_open) && (not (w.rest == 0) && ((o.left
 
 -- whether an opener may pair with such a closer
 abbrev pub fits : RunOf → Want → Bool
-fits o w = (o.marker == w.marker) && ((o.may_open && nat_le 1 o.left) && not (is_ruled_out o w))
+fits o w = ((o.marker == w.marker) && are_fitting o.marker o.left w.tildes) && ((o.may_open && nat_le 1 o.left) && not (is_ruled_out o w))
+
+-- whether the opener at a place may pair with such a closer
+abbrev pub FitsAt : List Opener → ℕ → Want → Bool → Type 0
+FitsAt openers k w whether = (d : Opener) → fits (run_view (slice_index_or openers k d).placed.run) w ≡ whether
 
 -- no opener up to one that is older than the floor fits
 pub record IsFloor (openers : List Opener) (want : Want) (floor : ℕ) : Type 0 where
-  pub none : (k j : ℕ) (d : Opener) → k < length openers → (slice_index_or openers k d).since < floor → j ≤ k → fits (run_view (slice_index_or openers j d).placed.run) want ≡ false
+  pub none : (k j : ℕ) (d : Opener) → k < length openers → (slice_index_or openers k d).since < floor → j ≤ k
+      → fits (run_view (slice_index_or openers j d).placed.run) want ≡ false
 
 pub record IsFloorOf (openers : List Opener) (now : ℕ) (f : Floor) : Type 0 where
   pub past : f.place ≤ now

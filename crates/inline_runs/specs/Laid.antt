@@ -1,13 +1,15 @@
 -- What each run becomes.
 use Rattle.std.specs.Prelude.{◌≡◌, ◌<◌, ◌≤◌, ◌+◌, ◌-◌, ℕ, List, length, reverse, slice_index, slice_index_or, slice_range}
 use Rattle.std.specs.List.{sum_by}
-use Rattle.inline_runs.specs.View.{span_bytes}
+use Rattle.inline_runs.specs.View.{bytes_by}
 use Rattle.inline_runs.specs.Threads.{closed_by, opened_by}
 use Rattle.inline_runs.specs.declared.pair.Pair.{Pair}
+use Rattle.inline_runs.specs.declared.pairs.Pairs.{Pairs}
 use Rattle.inline_runs.specs.declared.spans.Laid.{Laid}
+use Rattle.inline_runs.specs.declared.spans.Opened.{Opened}
 
 abbrev pub pair_bytes : Pair → ℕ
-pair_bytes p = span_bytes p.span
+pair_bytes p = bytes_by p.double
 
 abbrev pub bytes : List Pair → ℕ
 bytes ps = sum_by pair_bytes ps
@@ -27,3 +29,10 @@ text_at ps place size = size - (bytes (closed_by place ps) + bytes (opened_by pl
 
 abbrev pub AreTexts : List Pair → List ℕ → List Laid → Type 0
 AreTexts ps sizes laid = (i : ℕ) (d : Laid) → i < length laid → (slice_index_or laid i d).text ≡ text_at ps i (slice_index sizes i)
+
+-- of each run so far it is known which pairs it opens, and how many of its bytes are text
+abbrev pub IsLaidOut : {A : Type 0} → Pairs A → Opened A → Type 0
+IsLaidOut ps o = AreLaid ps.pairs.items o.opened.items o.laid.items
+
+abbrev pub HasTexts : {A : Type 0} → Pairs A → List ℕ → Opened A → Type 0
+HasTexts ps sizes o = AreTexts ps.pairs.items sizes o.laid.items

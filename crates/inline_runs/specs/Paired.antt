@@ -1,15 +1,17 @@
 -- What a pairing holds.
-use Rattle.std.specs.Prelude.{◌≡◌, ℕ, List, ◌++◌, map, replicate, length}
+use Rattle.std.specs.Prelude.{◌≡◌, ℕ, ◌==◌, List, ◌++◌, map, replicate, length, slice_index_or}
+use Rattle.std.specs.List.{filter}
 use Rattle.definition_inline.specs.Attention.{Run as RunOf}
-use Rattle.definition_inline.specs.Pairing.{Pairing as PairingOf, pairing, pairs}
+use Rattle.definition_inline.specs.Pairing.{Pair as PairOf, Placed as PlacedOf, Pairing as PairingOf, pairing, pairs, nearest, taken_by, without}
 use Rattle.definition_inline.specs.Inline.{Data}
-use Rattle.definition_inline.specs.Spans.{SpanRow, Holds, Opens, Closes}
-use Rattle.inline_runs.specs.View.{pairs_view, span_view}
-use Rattle.inline_runs.specs.Floors.{Known, openers_view}
+use Rattle.definition_inline.specs.Spans.{SpanRow, Holds, Opens, Closes, span_of, run_rows}
+use Rattle.inline_runs.specs.View.{pair_view, pairs_view}
+use Rattle.inline_runs.specs.Floors.{Known, openers_view, placed_view}
 use Rattle.inline_runs.specs.Threads.{Threaded}
 use Rattle.inline_runs.specs.Laid.{AreLaid, AreTexts}
 use Rattle.inline_runs.specs.declared.pair.Pair.{Pair}
 use Rattle.inline_runs.specs.declared.spans.RunSpans.{RunSpans}
+use Rattle.inline_runs.specs.declared.openers.Placed.{Placed}
 use Rattle.inline_runs.specs.declared.pairing.Pairing.{Pairing}
 
 -- the openers and the pairs so far, as the definition has them
@@ -45,4 +47,24 @@ pub record IsPaired {A : Type 0} (p : Pairing A) (runs : List RunOf) : Type 0 wh
 -- what a run of this byte becomes, as the definition has it
 abbrev pub rows_of : ℕ → RunSpans → List SpanRow
 rows_of marker spans =
-    map (λ (p : Pair). Closes) spans.closed.now ++ replicate spans.text (Holds (Data marker)) ++ map (λ (p : Pair). Opens (span_view p.span)) spans.opened.now
+    map (λ (p : Pair). Closes) spans.closed.now
+    ++ replicate spans.text (Holds (Data marker))
+    ++ map (λ (p : Pair). Opens (span_of marker (pair_view p))) spans.opened.now
+
+-- the run at a place becomes what it does by the definition
+abbrev pub BecomesRows : List RunOf → ℕ → RunSpans → Type 0
+BecomesRows runs place spans = (d : RunOf) → rows_of (slice_index_or runs place d).marker spans ≡ run_rows (pairs runs) place (slice_index_or runs place d)
+
+-- the pairs whose closer, and whose opener, is the run at a place
+abbrev pub closed_at : ℕ → List RunOf → List PairOf
+closed_at place runs = filter (λ (p : PairOf). p.closer == place) (pairs runs)
+
+abbrev pub opened_at : ℕ → List RunOf → List PairOf
+opened_at place runs = filter (λ (p : PairOf). p.opener == place) (pairs runs)
+
+-- the opener that a run pairs with, and what is left of the run then
+abbrev pub nearest_opener : {A : Type 0} → Pairing A → Placed → PlacedOf
+nearest_opener p closer = nearest (openers_view p.openers) (placed_view closer)
+
+abbrev pub rest_of_closer : {A : Type 0} → Pairing A → Placed → PlacedOf
+rest_of_closer p closer = without (taken_by (nearest_opener p closer) (placed_view closer)) (placed_view closer)

@@ -1,7 +1,8 @@
 -- Which pairs a run is in.
-use Rattle.std.specs.Prelude.{◌≡◌, ◌<◌, ◌≤◌, ◌-◌, ℕ, ◌==◌, List, length, take, drop, slice_index_or, slice_range, All}
+use Rattle.std.specs.Prelude.{◌≡◌, ◌<◌, ◌≤◌, ◌-◌, ℕ, ◌==◌, List, [], ◌∷◌, ◌++◌, length, take, drop, slice_index_or, slice_range, All}
 use Rattle.std.specs.List.{filter}
 use Rattle.definition_inline.specs.Pairing.{Pair as PairOf}
+use Rattle.inline_runs.specs.View.{pairs_view}
 use Rattle.inline_runs.specs.declared.pair.Pair.{Pair}
 use Rattle.inline_runs.specs.declared.pairs.Ends.{Ends}
 use Rattle.inline_runs.specs.declared.pairs.Pairs.{Pairs}
@@ -49,3 +50,7 @@ pub record AreThreaded (ps : List Pair) (es : List Ends) (first : ℕ) : Type 0 
 
 abbrev pub Threaded : {A : Type 0} → Pairs A → Type 0
 Threaded p = AreThreaded p.pairs.items p.ends.items p.first
+
+-- one more pair is found
+abbrev pub Adds : {A : Type 0} → Pairs A → Pairs A → PairOf → Type 0
+Adds old new pair = pairs_view new.pairs.items ≡ pairs_view old.pairs.items ++ pair ∷ []

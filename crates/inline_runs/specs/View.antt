@@ -1,11 +1,12 @@
 -- Runs and pairs as the definition has them.
-use Rattle.std.specs.Prelude.{ℕ, List, map}
+use Rattle.std.specs.Prelude.{ℕ, Bool, if◌then◌else◌, List, map}
 use Rattle.definition_inline.specs.Attention.{Run as RunOf}
 use Rattle.definition_inline.specs.Pairing.{Pair as PairOf}
-use Rattle.definition_inline.specs.Spans.{Span as SpanOf, IsEmphasis, IsStrong}
+use Rattle.definition_inline.specs.GfmStrikethrough.{is_tilde}
+use Rattle.definition_inline.specs.Spans.{Span as SpanOf, IsEmphasis, IsStrong, IsStrikethrough}
 use Rattle.inline_runs.specs.declared.run.Run.{Run}
 use Rattle.inline_runs.specs.declared.pair.Span.{Span}
-use Rattle.inline_runs.specs.declared.pair.Span.TheVariants.{Emphasis, Strong}
+use Rattle.inline_runs.specs.declared.pair.Span.TheVariants.{Emphasis, Strong, Strikethrough}
 use Rattle.inline_runs.specs.declared.pair.Pair.{Pair}
 
 abbrev pub run_view : Run → RunOf
@@ -17,14 +18,18 @@ runs_view runs = map run_view runs
 abbrev pub span_view : Span → SpanOf
 span_view Emphasis = IsEmphasis
 span_view Strong = IsStrong
+span_view Strikethrough = IsStrikethrough
 
--- how many bytes a span takes of each run
-abbrev pub span_bytes : Span → ℕ
-span_bytes Emphasis = 1
-span_bytes Strong = 2
+-- how many bytes a pair takes of each run
+abbrev pub bytes_by : Bool → ℕ
+bytes_by double = if double then 2 else 1
+
+-- what a pair stands for, by the byte of its runs and whether it takes two
+abbrev pub span_by : ℕ → Bool → Span
+span_by marker double = if is_tilde marker then Strikethrough else (if double then Strong else Emphasis)
 
 abbrev pub pair_view : Pair → PairOf
-pair_view pair = record { opener = pair.opener; closer = pair.closer; taken = span_bytes pair.span }
+pair_view pair = record { opener = pair.opener; closer = pair.closer; taken = bytes_by pair.double }
 
 abbrev pub pairs_view : List Pair → List PairOf
 pairs_view pairs = map pair_view pairs

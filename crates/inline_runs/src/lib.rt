@@ -1,6 +1,7 @@
-//! Runs of `*` and `_`: which of them go together, and what each becomes.
+//! Runs of `*`, `_` and `~`: which of them go together, and what each becomes.
 #![tactic(auto)]
 
+mod gfm_strikethrough;
 mod openers;
 mod pair;
 mod pairing;

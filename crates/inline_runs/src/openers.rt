@@ -4,11 +4,12 @@
 //! that stood before it fits such a closer. So each opener is passed over only a few times.
 ghost use Rattle.std.specs.Prelude.{◌≡◌, ◌++◌, ◌-◌, ◌<◌, ◌≤◌, ℕ, true, false, length, take, slice_index_or, OnOk, IfOk, []};
 ghost use Rattle.definition_inline.specs.Pairing.{Placed as PlacedOf, up_to_nearest, openers_of, without};
-ghost use Rattle.inline_runs.specs.View.{run_view, span_bytes};
-ghost use Rattle.inline_runs.specs.Floors.{placed_view, wanted, can_close, fits, IsFloor};
+ghost use Rattle.inline_runs.specs.View.{run_view, bytes_by};
+ghost use Rattle.inline_runs.specs.Floors.{placed_view, tilde_count, wanted, can_close, fits, FitsAt, IsFloor};
 ghost use Rattle.inline_runs.specs.declared.openers.Opener.{Opener};
 
-use crate::pair::Span;
+use crate::gfm_strikethrough::{are_fitting, is_tilde};
+use crate::pair::bytes_by;
 use crate::run::Run;
 use std::alloc::{AllocError, Allocator};
 
@@ -21,13 +22,13 @@ pub(crate) struct Placed {
 
 impl Placed {
     /// What is left of it when it opens or closes a span.
-    pub(crate) fn without(self, span: Span) -> Placed
-        requires { span_bytes span ≤ self.run.size }
-        ensures { placed_view result ≡ without (span_bytes span) (placed_view self) }
+    pub(crate) fn without(self, double: bool) -> Placed
+        requires { bytes_by double ≤ self.run.size }
+        ensures { placed_view result ≡ without (bytes_by double) (placed_view self) }
     {
         Placed {
             run: Run {
-                size: self.run.size - span.bytes(),
+                size: self.run.size - bytes_by(double),
                 ..self.run
             },
             ..self
@@ -50,6 +51,8 @@ pub(crate) struct Want {
     may_open: bool,
     /// What is left of the size where it is divided by three.
     rest: usize,
+    /// The size of a run of tildes, and otherwise 0.
+    tildes: usize,
 }
 
 /// The place of a run: no opener that is as it is since an earlier run fits.
@@ -67,6 +70,18 @@ fn wanted(closer: &Run) -> Want
         marker: closer.marker,
         may_open: closer.may_open,
         rest: closer.size % 3,
+        tildes: tilde_count(closer),
+    }
+}
+
+/// The size of a run of tildes, which goes with as many.
+fn tilde_count(closer: &Run) -> usize
+    ensures { result ≡ tilde_count (run_view closer.now) }
+{
+    if is_tilde(closer.marker) {
+        closer.size
+    } else {
+        0
     }
 }
 
@@ -80,16 +95,22 @@ fn can_close(closer: &Run) -> bool
 fn is_same(want: &Want, other: &Want) -> bool
     ensures { result ≡ true → want.now ≡ other.now }
 {
-    want.marker == other.marker && want.may_open == other.may_open && want.rest == other.rest
+    want.marker == other.marker
+        && want.may_open == other.may_open
+        && want.rest == other.rest
+        && want.tildes == other.tildes
 }
 
 /// Whether an opener may pair with such a closer (CommonMark 6.2): of one byte, something left of it,
 /// and where one of the two may both open and close, what is left of them makes a multiple of three
-/// together only if it does so of each alone.
+/// together only if it does so of each alone. Tildes go with as many (GFM 6.5).
 fn fits(opener: &Run, want: &Want) -> bool
     ensures { result ≡ fits (run_view opener.now) want.now }
 {
     if opener.marker != want.marker || !opener.may_open || opener.size == 0 {
+        return false;
+    }
+    if !are_fitting(opener.marker, opener.size, want.tildes) {
         return false;
     }
     let both = opener.may_close || want.may_open;
@@ -101,8 +122,8 @@ fn fits(opener: &Run, want: &Want) -> bool
 fn up_to_nearest(openers: &[Opener], floor: usize, want: &Want) -> usize
     requires { IsFloor openers.now want.now floor }
     ensures within { result ≤ length openers.now }
-    ensures none { (k : ℕ) → (d : Opener) → result ≤ k → k < length openers.now → fits (run_view (slice_index_or openers.now k d).placed.run) want.now ≡ false }
-    ensures fits { 0 < result → (d : Opener) → fits (run_view (slice_index_or openers.now (result - 1) d).placed.run) want.now ≡ true }
+    ensures none { (k : ℕ) → result ≤ k → k < length openers.now → FitsAt openers.now k want.now false }
+    ensures fits { 0 < result → FitsAt openers.now (result - 1) want.now true }
 {
     let mut count = openers.len();
     while count > 0 {
@@ -204,7 +225,7 @@ impl<A: Allocator> Openers<A> {
     /// No opener fits.
     fn raise(&mut self, want: Want, now: usize) -> Result<(), AllocError>
         requires known { Known self.old now }
-        requires none { (k : ℕ) (d : Opener) → k < length self.old.openers.items → fits (run_view (slice_index_or self.old.openers.items k d).placed.run) want ≡ false }
+        requires none { (k : ℕ) → k < length self.old.openers.items → FitsAt self.old.openers.items k want false }
         ensures openers { OnOk result (self.new.openers ≡ self.old.openers) }
         ensures known { OnOk result (Known self.new now) }
     {

@@ -3,17 +3,15 @@
 //! The runs are read from left to right. Each closes what it can with the nearest opener that may
 //! pair with it, which takes the openers between away; what is left of it may open. The time is
 //! linear in the number of runs and their bytes.
-ghost use Rattle.std.specs.Prelude.{◌≡◌, ◌<◌, ◌+◌, ◌==◌, List, [], length, reverse, slice_index_or, OnOk, IfOk};
-ghost use Rattle.std.specs.List.{filter};
+ghost use Rattle.std.specs.Prelude.{◌≡◌, ◌<◌, ◌+◌, List, [], length, reverse, OnOk, IfOk};
 ghost use Rattle.definition_inline.specs.Attention.{Run as RunOf};
-ghost use Rattle.definition_inline.specs.Spans.{run_rows};
-ghost use Rattle.definition_inline.specs.Pairing.{Pair as PairOf, pairs, next_run, up_to_nearest, nearest, paired, taken_by, without};
+ghost use Rattle.definition_inline.specs.Pairing.{pairs, next_run, up_to_nearest, paired};
 ghost use Rattle.inline_runs.specs.View.{runs_view, pairs_view};
 ghost use Rattle.inline_runs.specs.Floors.{placed_view, openers_view};
-ghost use Rattle.inline_runs.specs.Paired.{IsPaired, rows_of};
+ghost use Rattle.inline_runs.specs.Paired.{IsPaired, BecomesRows, closed_at, opened_at};
 
 use crate::openers::{Openers, Placed};
-use crate::pair::{Pair, span_between};
+use crate::pair::{Pair, is_double};
 use crate::pairs::Pairs;
 use crate::run::Run;
 use crate::spans::{Opened, RunSpans};
@@ -42,7 +40,7 @@ impl<A: Allocator + Clone> Pairing<A> {
 }
 
 impl<A: Allocator> Pairing<A> {
-    ghost use Rattle.inline_runs.specs.Paired.{state, IsSound, IsComplete, run_count, run_sizes};
+    ghost use Rattle.inline_runs.specs.Paired.{nearest_opener, rest_of_closer, state, IsSound, IsComplete, run_count, run_sizes};
     ghost use Rattle.inline_runs.specs.Threads.{Threaded};
     ghost use Rattle.inline_runs.specs.Laid.{AreTexts};
 
@@ -57,9 +55,9 @@ impl<A: Allocator> Pairing<A> {
     pub fn spans(&self, place: usize) -> RunSpans<'_>
         requires complete { IsComplete self.now }
         requires place { place < run_count self.now }
-        ensures closed { (runs : List RunOf) → IsPaired self.now runs → pairs_view result.closed.now ≡ filter (λ (p : PairOf). p.closer == place) (pairs runs) }
-        ensures opened { (runs : List RunOf) → IsPaired self.now runs → pairs_view result.opened.now ≡ reverse (filter (λ (p : PairOf). p.opener == place) (pairs runs)) }
-        ensures rows { (runs : List RunOf) (d : RunOf) → IsPaired self.now runs → rows_of (slice_index_or runs place d).marker result ≡ run_rows (pairs runs) place (slice_index_or runs place d) }
+        ensures closed { (runs : List RunOf) → IsPaired self.now runs → pairs_view result.closed.now ≡ closed_at place runs }
+        ensures opened { (runs : List RunOf) → IsPaired self.now runs → pairs_view result.opened.now ≡ reverse (opened_at place runs) }
+        ensures rows { (runs : List RunOf) → IsPaired self.now runs → BecomesRows runs place result }
     {
         let ends = self.pairs.ends[place];
         let laid = self.opened.laid[place];
@@ -110,16 +108,16 @@ impl<A: Allocator> Pairing<A> {
         requires sound { IsSound self.old closer.place }
         requires nearest { count ≡ up_to_nearest (openers_view self.old.openers) (placed_view closer) }
         requires some { 0 < count }
-        ensures state { OnOk result (state self.new ≡ paired (state self.old) (nearest (openers_view self.old.openers) (placed_view closer)) (placed_view closer)) }
+        ensures state { OnOk result (state self.new ≡ paired (state self.old) (nearest_opener self.old closer) (placed_view closer)) }
         ensures sound { OnOk result (IsSound self.new closer.place) }
-        ensures closer { IfOk result (λ rest. placed_view rest ≡ without (taken_by (nearest (openers_view self.old.openers) (placed_view closer)) (placed_view closer)) (placed_view closer)) }
+        ensures closer { IfOk result (λ rest. placed_view rest ≡ rest_of_closer self.old closer) }
         ensures less { IfOk result (λ rest. rest.run.size < closer.run.size) }
     {
         let opener = self.openers.take(count);
-        let span = span_between(&opener.run, &closer.run);
-        self.pairs.close(opener.place, span)?;
-        self.openers.open(opener.without(span), closer.place)?;
-        Ok(closer.without(span))
+        let double = is_double(&opener.run, &closer.run);
+        self.pairs.close(opener.place, double)?;
+        self.openers.open(opener.without(double), closer.place)?;
+        Ok(closer.without(double))
     }
 }
 

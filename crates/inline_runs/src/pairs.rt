@@ -1,8 +1,8 @@
 //! The pairs so far, and which of them each run is in.
-ghost use Rattle.std.specs.Prelude.{◌≡◌, ◌++◌, ◌∷◌, ◌<◌, ◌+◌, [], length, OnOk};
-ghost use Rattle.inline_runs.specs.View.{pairs_view, span_bytes};
+ghost use Rattle.std.specs.Prelude.{◌≡◌, ◌<◌, ◌+◌, [], length, OnOk};
+ghost use Rattle.inline_runs.specs.View.{bytes_by};
 
-use crate::pair::{Pair, Span};
+use crate::pair::Pair;
 use std::alloc::{AllocError, Allocator};
 
 /// Which pairs a run is in, after it was read.
@@ -27,7 +27,7 @@ pub(crate) struct Pairs<A: Allocator> {
 }
 
 impl<A: Allocator> Pairs<A> {
-    ghost use Rattle.inline_runs.specs.Threads.{Threaded, pair_between};
+    ghost use Rattle.inline_runs.specs.Threads.{Adds, Threaded, pair_between};
 
     pub(crate) fn new(pairs: Vec<Pair, A>, ends: Vec<Ends, A>) -> Pairs<A>
         requires pairs { pairs.items ≡ [] }
@@ -55,17 +55,17 @@ impl<A: Allocator> Pairs<A> {
     }
 
     /// The run that is being read closes a span of this opener.
-    pub(crate) fn close(&mut self, opener: usize, span: Span) -> Result<(), AllocError>
+    pub(crate) fn close(&mut self, opener: usize, double: bool) -> Result<(), AllocError>
         requires threaded { Threaded self.old }
         requires opener { opener < length self.old.ends.items }
-        ensures pairs { OnOk result (pairs_view self.new.pairs.items ≡ pairs_view self.old.pairs.items ++ pair_between opener (length self.old.ends.items) (span_bytes span) ∷ []) }
+        ensures pairs { OnOk result (Adds self.old self.new (pair_between opener (length self.old.ends.items) (bytes_by double))) }
         ensures ends { OnOk result (length self.new.ends.items ≡ length self.old.ends.items) }
         ensures threaded { OnOk result (Threaded self.new) }
     {
         self.pairs.push(Pair {
             opener,
             closer: self.ends.len(),
-            span,
+            double,
             earlier: self.ends[opener].last_opened,
         })?;
         self.ends[opener].last_opened = self.pairs.len();

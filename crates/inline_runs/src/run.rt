@@ -1,6 +1,6 @@
 //! Runs of one byte, and whether they may open and close spans (CommonMark 6.2).
 //!
-//!     run            ::= '*'+ | '_'+, as long as it gets
+//!     run            ::= '*'+ | '_'+ | '~'+, as long as it gets
 //!     left-flanking  ::= no whitespace after the run; and where punctuation stands after it,
 //!                        whitespace or punctuation before it
 //!     right-flanking ::= the same the other way round
@@ -8,7 +8,9 @@ ghost use Rattle.std.specs.Prelude.{◌≡◌};
 ghost use Rattle.definition_inline.specs.Attention.{is_other, is_punctuation_kind, is_left_flanking, opens, run_between};
 ghost use Rattle.inline_runs.specs.View.{run_view};
 
+use crate::gfm_strikethrough::has_span_size;
 use definition_text::Kind;
+use markdown_options::ParseOptions;
 
 /// A run of one byte (CommonMark 6.2).
 #[derive(Clone, Copy)]
@@ -24,14 +26,21 @@ pub struct Run {
 }
 
 /// A run of so many of a byte between characters of these kinds (CommonMark 6.2).
-pub fn run_between(marker: u8, size: usize, before: Kind, after: Kind) -> Run
-    ensures { run_view result ≡ run_between marker size before after }
+pub fn run_between(
+    options: &ParseOptions,
+    marker: u8,
+    size: usize,
+    before: Kind,
+    after: Kind,
+) -> Run
+    ensures { run_view result ≡ run_between options.now marker size before after }
 {
+    let may_form = has_span_size(options, marker, size);
     Run {
         marker,
         size,
-        may_open: opens(marker, before, after),
-        may_close: opens(marker, after, before),
+        may_open: may_form && opens(marker, before, after),
+        may_close: may_form && opens(marker, after, before),
     }
 }
 

@@ -4,9 +4,9 @@
 ghost use Rattle.std.specs.Prelude.{◌≡◌, ◌++◌, ◌-◌, ◌<◌, ◌≤◌, ◌+◌, ℕ, List, [], length, reverse, slice_index, OnOk};
 ghost use Rattle.std.specs.List.{sum_by};
 ghost use Rattle.inline_runs.specs.Threads.{opened_by, AreLinked, IsLast, Threaded};
-ghost use Rattle.inline_runs.specs.Laid.{AreLaid, AreTexts, pair_bytes};
+ghost use Rattle.inline_runs.specs.Laid.{HasTexts, IsLaidOut, pair_bytes};
 
-use crate::pair::Pair;
+use crate::pair::{Pair, bytes_by};
 use crate::pairs::Pairs;
 use std::alloc::{AllocError, Allocator};
 
@@ -63,8 +63,9 @@ impl<A: Allocator> Opened<A> {
     pub(crate) fn add(&mut self, pairs: &Pairs<A>, size: usize) -> Result<(), AllocError>
         requires threads { Threaded pairs.now }
         requires run { length self.old.laid.items < length pairs.now.ends.items }
-        ensures laid { AreLaid pairs.now.pairs.items self.old.opened.items self.old.laid.items → OnOk result (AreLaid pairs.now.pairs.items self.new.opened.items self.new.laid.items) }
-        ensures texts { (sizes : List ℕ) → size ≡ slice_index sizes (length self.old.laid.items) → AreTexts pairs.now.pairs.items sizes self.old.laid.items → OnOk result (AreTexts pairs.now.pairs.items sizes self.new.laid.items) }
+        ensures laid { IsLaidOut pairs.now self.old → OnOk result (IsLaidOut pairs.now self.new) }
+        ensures texts { (sizes : List ℕ) → size ≡ slice_index sizes (length self.old.laid.items)
+            → HasTexts pairs.now sizes self.old → OnOk result (HasTexts pairs.now sizes self.new) }
         ensures count { OnOk result (length self.new.laid.items ≡ length self.old.laid.items + 1) }
     {
         let ends = pairs.ends[self.laid.len()];
@@ -81,7 +82,8 @@ impl<A: Allocator> Opened<A> {
     fn open(&mut self, pairs: &[Pair], count: usize) -> Result<(), AllocError>
         requires links { AreLinked pairs.now }
         requires within { count ≤ length pairs.now }
-        ensures opened { (place : ℕ) → IsLast place pairs.now count → OnOk result (self.new.opened.items ≡ self.old.opened.items ++ reverse (opened_by place pairs.now)) }
+        ensures opened { (place : ℕ) → IsLast place pairs.now count
+            → OnOk result (self.new.opened.items ≡ self.old.opened.items ++ reverse (opened_by place pairs.now)) }
         ensures laid { OnOk result (self.new.laid ≡ self.old.laid) }
     {
         let mut left = count;
@@ -100,7 +102,7 @@ fn left_after(size: usize, pairs: &[Pair]) -> usize
 {
     let mut left = size;
     for pair in pairs {
-        left = left.saturating_sub(pair.span.bytes());
+        left = left.saturating_sub(bytes_by(pair.double));
     }
     left
 }

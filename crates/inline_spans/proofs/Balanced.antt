@@ -5,7 +5,7 @@ use Rattle.std.proofs.lemmas.List.{append-nil, nil_from_length}
 use Rattle.definition_inline.specs.Inline.{Target, Linked, Inline, Inlines, Nil, Cons, followed_by}
 use Rattle.inline_rows.specs.InlineRows as rows
 use Rattle.inline_rows.specs.InlineRows.{part_rows, inline_rows}
-use Rattle.definition_inline.specs.Spans.{Span, IsEmphasis, IsStrong, SpanRow, Holds, Opens, Closes, OpenSpan, nest, spanned, nest_row, nested}
+use Rattle.definition_inline.specs.Spans.{Span, IsEmphasis, IsStrong, IsStrikethrough, SpanRow, Holds, Opens, Closes, OpenSpan, nest, spanned, nest_row, nested}
 use Rattle.inline_spans.specs.Told.{told_rows}
 
 -- from so many open spans rows lead to so many, and none of them ends a span where none is open
@@ -31,6 +31,7 @@ module _ (leads : Target → Linked) where
   span_is : (span : Span) (kids : Inlines) → part_rows leads (spanned span kids) ≡ rows.EnterSpan span ∷ (inline_rows leads kids ++ rows.Leave ∷ [])
   span_is IsEmphasis kids = refl
   span_is IsStrong kids = refl
+  span_is IsStrikethrough kids = refl
 
   -- the innermost span ends
   left : (now : Inlines) (o : OpenSpan) (others : List OpenSpan)

@@ -1,5 +1,5 @@
 -- A run has enough rows for what it becomes.
-use Rattle.std.proofs.Common.{◌≡◌, ℕ, ◌+◌, ◌-◌, ◌<◌, ◌≤◌, List, [], ◌∷◌, ◌++◌, map, refl, sym, ap, ◌∙◌, length, get_or, reverse, replicate, arith, subst}
+use Rattle.std.proofs.Common.{◌≡◌, ℕ, ◌+◌, ◌-◌, ◌<◌, ◌≤◌, List, [], ◌∷◌, ◌++◌, Bool, true, false, map, refl, sym, ap, ◌∙◌, length, get_or, reverse, replicate, arith, subst}
 use Rattle.std.specs.Prelude.{◌==◌}
 use Rattle.std.specs.List.{filter}
 use Rattle.std.proofs.lemmas.List.{length-append, length-map, length-replicate, length-reverse, reverse-append, get_or-map}
@@ -8,24 +8,22 @@ use Rattle.definition_inline.specs.Attention.{Run as RunOf}
 use Rattle.definition_inline.specs.Inline.{Data}
 use Rattle.definition_inline.specs.Pairing.{Pair as PairOf, pairs}
 use Rattle.definition_inline.specs.Spans.{SpanRow, Holds, Opens, Closes, span_of, bytes_taken, run_rows}
-use Rattle.inline_runs.specs.View.{run_view, runs_view, pairs_view, pair_view, span_view, span_bytes}
+use Rattle.inline_runs.specs.View.{run_view, runs_view, pairs_view, pair_view, bytes_by}
 use Rattle.inline_runs.specs.Paired.{rows_of}
 use Rattle.inline_runs.specs.declared.pair.Pair.{Pair}
-use Rattle.inline_runs.specs.declared.pair.Span.{Span}
-use Rattle.inline_runs.specs.declared.pair.Span.TheVariants.{Emphasis, Strong}
 use Rattle.inline_runs.specs.declared.run.Run.{Run}
 use Rattle.inline_runs.specs.declared.spans.RunSpans.{RunSpans}
 use Rattle.inline_spans.specs.Told.{rows_needed}
 use Rattle.inline_spans.proofs.Taken.{bytes_fit}
 
-some_bytes : (span : Span) → 1 ≤ span_bytes span
-some_bytes Emphasis = omega arith
-some_bytes Strong = omega arith
+some_bytes : (double : Bool) → 1 ≤ bytes_by double
+some_bytes true = omega arith
+some_bytes false = omega arith
 
 -- a pair takes a byte at least
 count_le : (ps : List Pair) → length ps ≤ bytes_taken (pairs_view ps)
 count_le [] = omega arith
-count_le (p ∷ ps) = omega (arith, some_bytes p.span, count_le ps, sum_by-cons (λ (q : PairOf). q.taken) (pair_view p) (pairs_view ps))
+count_le (p ∷ ps) = omega (arith, some_bytes p.double, count_le ps, sum_by-cons (λ (q : PairOf). q.taken) (pair_view p) (pairs_view ps))
 
 bytes-reverse : (ps : List PairOf) → bytes_taken (reverse ps) ≡ bytes_taken ps
 bytes-reverse [] = refl
@@ -52,12 +50,12 @@ needed_fits runs place d spans lt is_closed is_opened rows =
     let fit : bytes_taken closed + bytes_taken started ≤ run.left = bytes_fit runs place d lt in
     let ends : List SpanRow = map (λ (p : Pair). Closes) spans.closed.now in
     let texts : List SpanRow = replicate spans.text (Holds (Data run.marker)) in
-    let starts : List SpanRow = map (λ (p : Pair). Opens (span_view p.span)) spans.opened.now in
+    let starts : List SpanRow = map (λ (p : Pair). Opens (span_of run.marker (pair_view p))) spans.opened.now in
     let ends2 : List SpanRow = map (λ (p : PairOf). Closes) closed in
     let texts2 : List SpanRow = replicate left (Holds (Data run.marker)) in
     let starts2 : List SpanRow = map (λ (p : PairOf). Opens (span_of run.marker p)) (reverse started) in
     let a : length (ends ++ texts ++ starts) ≡ length spans.closed.now + spans.text + length spans.opened.now =
-    omega (arith, count_three ends texts starts, length-map spans.closed.now (λ (p : Pair). Closes), length-replicate spans.text (Holds (Data run.marker)), length-map spans.opened.now (λ (p : Pair). Opens (span_view p.span))) in
+    omega (arith, count_three ends texts starts, length-map spans.closed.now (λ (p : Pair). Closes), length-replicate spans.text (Holds (Data run.marker)), length-map spans.opened.now (λ (p : Pair). Opens (span_of run.marker (pair_view p)))) in
     let b : length (ends2 ++ texts2 ++ starts2) ≡ length closed + left + length started =
     omega (arith, count_three ends2 texts2 starts2, length-map closed (λ (p : PairOf). Closes), length-replicate left (Holds (Data run.marker)), length-map (reverse started) (λ (p : PairOf). Opens (span_of run.marker p)), length-reverse started) in
     let same : length (ends ++ texts ++ starts) ≡ length (ends2 ++ texts2 ++ starts2) = ap length rows in

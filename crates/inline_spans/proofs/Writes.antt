@@ -1,21 +1,24 @@
 -- Rows that are written over others.
-use Rattle.std.proofs.Common.{◌≡◌, ℕ, zero, suc, ◌+◌, ◌-◌, ◌<◌, ◌≤◌, List, [], ◌∷◌, ◌++◌, map, refl, sym, ap, ap₂, ◌∙◌, length, get_or, set, take, drop, replicate, arith, append_assoc}
+use Rattle.std.proofs.Common.{◌≡◌, ℕ, zero, suc, ◌+◌, ◌-◌, ◌<◌, ◌≤◌, List, [], ◌∷◌, ◌++◌, Bool, true, false, cond, map, refl, sym, ap, ap₂, ◌∙◌, length, get_or, set, take, drop, replicate, arith, append_assoc}
+use Rattle.std.specs.Prelude.{◌==◌}
 use Rattle.std.proofs.lemmas.List.{append-nil, length-map, length-append, length-drop, length-take-le, take_more, map-append, set-append_right, drop_more, take_at, drop_at, drop_all, take-append-drop, take-map, drop-map, take-replicate, drop-replicate}
 use Rattle.std.proofs.lemmas.List.Concat.{flat_map-append}
 use borrow.Rule.Slice.PartMut.{put_mid}
 use Rattle.definition_inline.specs.Inline.{Target, Linked, Data}
 use Rattle.inline_rows.specs.InlineRows as rows
-use Rattle.definition_inline.specs.Spans.{Holds, Opens, Closes}
+use Rattle.definition_inline.specs.GfmStrikethrough.{is_tilde}
+use Rattle.definition_inline.specs.Spans.{Holds, Opens, Closes, IsEmphasis, IsStrong, IsStrikethrough, span_of}
 use Rattle.definition_inline.proofs.DefinitionParts.{cons_nil}
-use Rattle.inline_runs.specs.View.{span_view}
+use Rattle.inline_runs.specs.View.{bytes_by, pair_view, span_by, span_view}
 use Rattle.inline_runs.specs.Paired.{rows_of}
 use Rattle.inline_runs.specs.declared.pair.Pair.{Pair}
+use Rattle.inline_runs.specs.declared.pair.Span.TheVariants.{Emphasis, Strong, Strikethrough}
 use Rattle.inline_runs.specs.declared.spans.RunSpans.{RunSpans}
 use Rattle.inline_rows.specs.View.{row_view, rows_view, data_rows}
 use Rattle.inline_rows.specs.declared.row.InlineRow.{InlineRow}
 use Rattle.inline_rows.specs.declared.row.InlineRow.TheVariants.{Text, Leaf, EnterSpan, EnterLink, EnterImage, Exit}
 use Rattle.inline_spans.specs.Container.{text_of, AreBytes}
-use Rattle.inline_spans.specs.Told.{span_row_rows, told_rows, rows_needed}
+use Rattle.inline_spans.specs.Told.{start_row, span_row_rows, told_rows, rows_needed}
 
 -- one more of the rows that are made of a list
 pub one_more : {X Y : Type 0} (f : X → Y) (xs : List X) (old rows : List Y) (i : ℕ) (d : X) → length old ≡ length xs → i < length xs
@@ -79,14 +82,25 @@ parts_are old first between last closed text opened is_closed is_opened fits is_
     ap (λ xs. put_mid (length old - opened) (length xs - (length old - opened)) xs last) second
     ∙ over_rest (front ++ between) (drop n rest) last (length old - opened) (length ((front ++ between) ++ drop n rest) - (length old - opened)) place refl
 
+-- what a pair stands for, as the definition has it
+span_is : (marker : ℕ) (p : Pair) → span_view (span_by marker p.double) ≡ span_of marker (pair_view p)
+span_is marker p = by_case (is_tilde marker) p.double
+  where
+    by_case : (tilde double : Bool)
+        → span_view (cond tilde Strikethrough (cond double Strong Emphasis)) ≡ cond tilde IsStrikethrough (cond (bytes_by double == 2) IsStrong IsEmphasis)
+    by_case true double = refl
+    by_case false true = refl
+    by_case false false = refl
+
 module _ (leads : Target → Linked) (at : ℕ → Linked) where
   ends_view : (closed : List Pair) → rows_view at (replicate (length closed) Exit) ≡ told_rows leads (map (λ (p : Pair). Closes) closed)
   ends_view [] = refl
   ends_view (p ∷ ps) = ap (λ xs. rows.Leave ∷ xs) (ends_view ps)
 
-  starts_view : (opened : List Pair) → rows_view at (map (λ (p : Pair). EnterSpan p.span) opened) ≡ told_rows leads (map (λ (p : Pair). Opens (span_view p.span)) opened)
-  starts_view [] = refl
-  starts_view (p ∷ ps) = ap (λ xs. rows.EnterSpan (span_view p.span) ∷ xs) (starts_view ps)
+  starts_view : (marker : ℕ) (opened : List Pair)
+      → rows_view at (map (start_row marker) opened) ≡ told_rows leads (map (λ (p : Pair). Opens (span_of marker (pair_view p))) opened)
+  starts_view marker [] = refl
+  starts_view marker (p ∷ ps) = ap₂ (λ span xs. rows.EnterSpan span ∷ xs) (span_is marker p) (starts_view marker ps)
 
   blank_view : (blank : InlineRow) (n : ℕ) → row_view at blank ≡ [] → rows_view at (replicate n blank) ≡ []
   blank_view blank zero none = refl
@@ -111,7 +125,7 @@ module _ (leads : Target → Linked) (at : ℕ → Linked) where
 
   -- what a run becomes
   pub told_is : (old first between last : List InlineRow) (spans : RunSpans) (blank : InlineRow) (m n marker : ℕ) → rows_needed spans ≤ length old → m ≡ length spans.closed.now
-      → (((y : InlineRow) → y ≡ Exit → y ≡ Exit) → first ≡ replicate m Exit) → (((y : InlineRow) → y ≡ blank → y ≡ blank) → between ≡ replicate n blank) → last ≡ map (λ (p : Pair). EnterSpan p.span) spans.opened.now
+      → (((y : InlineRow) → y ≡ Exit → y ≡ Exit) → first ≡ replicate m Exit) → (((y : InlineRow) → y ≡ blank → y ≡ blank) → between ≡ replicate n blank) → last ≡ map (start_row marker) spans.opened.now
       → row_view at blank ≡ [] → AreBytes marker (length old) old
       → rows_view at (((first ++ take spans.text (drop (length spans.closed.now) old)) ++ between) ++ last) ≡ told_rows leads (rows_of marker spans)
   told_is old first between last spans blank m n marker fits is_m is_first is_between is_last none bytes =
@@ -119,7 +133,7 @@ module _ (leads : Target → Linked) (at : ℕ → Linked) where
       let kept = take spans.text (drop closed old) in
       let ends = map (λ (p : Pair). Closes) spans.closed.now in
       let texts = replicate spans.text (Holds (Data marker)) in
-      let starts = map (λ (p : Pair). Opens (span_view p.span)) spans.opened.now in
+      let starts = map (λ (p : Pair). Opens (span_of marker (pair_view p))) spans.opened.now in
       let are_bytes : map text_of kept ≡ replicate spans.text (marker ∷ []) =
       sym (take-map text_of spans.text (drop closed old)) ∙ ap (take spans.text) (sym (drop-map text_of closed old) ∙ ap (drop closed) bytes ∙ drop-replicate closed (length old) (marker ∷ []))
       ∙ take-replicate spans.text (length old - closed) (marker ∷ []) (omega arith) in
@@ -131,5 +145,5 @@ module _ (leads : Target → Linked) (at : ℕ → Linked) where
       let middle : rows_view at ((first ++ kept) ++ between) ≡ told_rows leads (ends ++ texts) =
       flat_map-append (row_view at) (first ++ kept) between ∙ ap₂ (λ xs ys. xs ++ ys) front nothing ∙ append-nil (told_rows leads (ends ++ texts)) in
       flat_map-append (row_view at) ((first ++ kept) ++ between) last
-      ∙ ap₂ (λ xs ys. xs ++ ys) middle (ap (rows_view at) is_last ∙ starts_view spans.opened.now)
+      ∙ ap₂ (λ xs ys. xs ++ ys) middle (ap (rows_view at) is_last ∙ starts_view marker spans.opened.now)
       ∙ sym (flat_map-append (span_row_rows leads) (ends ++ texts) starts)

@@ -6,12 +6,10 @@ ghost use Rattle.std.specs.Prelude.{◌≡◌, ◌≤◌, ◌++◌, ℕ, List, l
 ghost use Rattle.definition_inline.specs.Inline.{Target, Linked};
 ghost use Rattle.definition_inline.specs.Spans.{Token};
 ghost use Rattle.inline_runs.specs.Paired.{rows_of};
-ghost use Rattle.inline_runs.specs.declared.pair.Pair.{Pair};
 ghost use Rattle.inline_rows.specs.View.{rows_view};
 ghost use Rattle.inline_rows.specs.declared.row.InlineRow.{InlineRow};
-ghost use Rattle.inline_rows.specs.declared.row.InlineRow.TheVariants.{EnterSpan};
 ghost use Rattle.inline_spans.specs.Container.{AreBytes, IsContainer, AreWithin, AreTold};
-ghost use Rattle.inline_spans.specs.Told.{told_rows, rows_needed};
+ghost use Rattle.inline_spans.specs.Told.{start_row, told_rows, rows_needed};
 
 use inline_rows::InlineRow;
 use inline_runs::{Pair, Pairing, Run, RunSpans, pair_runs};
@@ -27,37 +25,43 @@ pub fn tell_apart<A: Allocator>(
 ) -> Result<(), AllocError>
     requires { AreWithin runs.now slots.now (length rows.old) }
     ensures length { length rows.new ≡ length rows.old }
-    ensures told { (leads : Target → Linked) (at : ℕ → Linked) (outer inner : List InlineRow) (tokens : List Token) → rows.old ≡ outer ++ inner → IsContainer leads at inner (length outer) runs.now slots.now tokens → OnOk result (AreTold leads at outer tokens rows.new) }
+    ensures told { (leads : Target → Linked) (at : ℕ → Linked) (outer inner : List InlineRow) (tokens : List Token) → rows.old ≡ outer ++ inner
+        → IsContainer leads at inner (length outer) runs.now slots.now tokens → OnOk result (AreTold leads at outer tokens rows.new) }
     ensures refused { OnErr result (rows.new ≡ rows.old) }
 {
     pair_runs(runs, pairing)?;
     for (place, run) in runs.iter().enumerate() {
         let start = slots[place];
-        tell_run(&mut rows[start..start + run.size], pairing.spans(place));
+        tell_run(
+            &mut rows[start..start + run.size],
+            run.marker,
+            pairing.spans(place),
+        );
     }
     Ok(())
 }
 
-/// Writes what a run becomes over its rows.
-fn tell_run(rows: &mut [InlineRow<'_>], spans: RunSpans<'_>)
+/// Writes what a run of this byte becomes over its rows.
+fn tell_run(rows: &mut [InlineRow<'_>], marker: u8, spans: RunSpans<'_>)
     requires { rows_needed spans ≤ length rows.old }
     ensures length { length rows.new ≡ length rows.old }
-    ensures told { (leads : Target → Linked) (at : ℕ → Linked) (marker : ℕ) → AreBytes marker (length rows.old) rows.old → rows_view at rows.new ≡ told_rows leads (rows_of marker spans.entry) }
+    ensures told { (leads : Target → Linked) (at : ℕ → Linked) → AreBytes marker (length rows.old) rows.old
+        → rows_view at rows.new ≡ told_rows leads (rows_of marker spans.entry) }
 {
     let text = spans.closed.len();
     let left_over = text + spans.text;
     let opened = rows.len() - spans.opened.len();
     rows[..text].fill(InlineRow::Exit);
     rows[left_over..opened].fill(InlineRow::Text(""));
-    start_spans(&mut rows[opened..], spans.opened);
+    start_spans(&mut rows[opened..], marker, spans.opened);
 }
 
-/// Writes the starts of the spans of these pairs over rows.
-fn start_spans(rows: &mut [InlineRow<'_>], opened: &[Pair])
+/// Writes the starts of the spans of these pairs of runs of one byte over rows.
+fn start_spans(rows: &mut [InlineRow<'_>], marker: u8, opened: &[Pair])
     requires { length rows.old ≡ length opened.now }
-    ensures { rows.new ≡ map (λ (p : Pair). EnterSpan p.span) opened.now }
+    ensures { rows.new ≡ map (start_row marker) opened.now }
 {
     for (place, pair) in opened.iter().enumerate() {
-        rows[place] = InlineRow::EnterSpan(pair.span);
+        rows[place] = InlineRow::EnterSpan(pair.span(marker));
     }
 }

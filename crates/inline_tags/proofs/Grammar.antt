@@ -4,6 +4,7 @@ use Rattle.std.proofs.lemmas.Bool.{cases_Bool, cond-true, cond-false, ne_eqb, or
 use Rattle.std.proofs.lemmas.List.{take_rest}
 use Rattle.std.specs.Prelude.{codes}
 use Rattle.std.specs.List.{prefix_len}
+use Rattle.definition_text.specs.Columns.{tab_column}
 use Rattle.definition_text.specs.Bytes.{is_letter, begins_with, after_all, without_slash}
 use Rattle.definition_inline.specs.HtmlTags.{followed_by, is_tag_space, tag_space, is_tag_name_byte, begins_attribute, is_attribute_byte, is_unquoted, quoted, value, value_or, specification, attribute, begins_with_attribute, has_attribute, attributes, tag_end, open_end, closing_end, open_rest, closing_rest, open_tag, closing_tag}
 use Rattle.inline_tags.specs.Places.{Place, NameStart, Name, Space, Attribute, AttributeSpace, Equals, Unquoted, DoubleQuoted, SingleQuoted, Quoted, Slash, ClosingStart, ClosingName, ClosingSpace, End, Nowhere, at_end, after_part, after_attribute, after_equals, after_closing_name, tag_rest, rest_after}
@@ -26,9 +27,12 @@ fails test b bs h = ap (λ k. drop k (b ∷ bs)) (cond-false (test b) (1 + prefi
 -- an attribute begins with no white space, and with no `=`
 no_space : (b : ℕ) → begins_attribute b ≡ true → is_tag_space b ≡ false
 no_space b h =
-    or_from (eqb b 32 || eqb b 9) (eqb b 10)
-    (or_from (eqb b 32) (eqb b 9) (ne_eqb b 32 (λ e. true≢false (sym h ∙ ap begins_attribute e))) (ne_eqb b 9 (λ e. true≢false (sym h ∙ ap begins_attribute e))))
-    (ne_eqb b 10 (λ e. true≢false (sym h ∙ ap begins_attribute e)))
+    or_from (eqb b 32 || eqb b 9 || eqb b tab_column) (eqb b 10)
+    (or_from (eqb b 32 || eqb b 9) (eqb b tab_column) (or_from (eqb b 32) (eqb b 9) (is_none 32 refl) (is_none 9 refl)) (is_none tab_column refl))
+    (is_none 10 refl)
+  where
+    is_none : (white : ℕ) → begins_attribute white ≡ false → eqb b white ≡ false
+    is_none white other = ne_eqb b white (λ e. true≢false (sym h ∙ ap begins_attribute e ∙ other))
 
 no_equals : (b : ℕ) → begins_attribute b ≡ true → eqb b 61 ≡ false
 no_equals b h = ne_eqb b 61 (λ e. true≢false (sym h ∙ ap begins_attribute e))

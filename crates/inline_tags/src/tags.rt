@@ -9,7 +9,8 @@
 //!     unquoted       ::= not white space, '"', "'", '=', '<', '>' or '`'
 //!     white_space    ::= (space | tab | line_ending)+
 ghost use Rattle.std.specs.Prelude.{◌≡◌};
-ghost use Rattle.definition_inline.specs.HtmlTags.{is_tag_space, is_tag_name_byte, begins_attribute, is_attribute_byte, is_unquoted, open_tag, closing_tag, tag_name};
+ghost use Rattle.definition_inline.specs.HtmlTags.{is_tag_space, is_tag_name_byte, begins_attribute, is_attribute_byte, is_unquoted};
+ghost use Rattle.definition_inline.specs.HtmlTags.{open_tag, closing_tag, tag_name};
 ghost use Rattle.inline_tags.specs.Places.{at_end, after_part, after_attribute, after_equals, after_closing_name, next, rest_after};
 ghost use Rattle.inline_tags.specs.Views.{rest_of, place_of};
 

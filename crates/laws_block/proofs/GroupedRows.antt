@@ -3,7 +3,7 @@ use Rattle.std.proofs.Common.{◌≡◌, ◌≢◌, ℕ, eqb, [], ◌∷◌, ◌
 use Rattle.std.proofs.lemmas.Bool.{cases_Bool, cond-true, cond-false, eqb-true, eqb-false}
 use Rattle.definition_block.specs.Tree.{Block, Holds, Items, Blocks, Nil, Cons, join, is_ending}
 use Rattle.definition_block.specs.Lists.{endings_of, after_endings, item_marker, list_marker, list_items, rest_of, before_list, before, grouped_block, grouped}
-use Rattle.block_rows.specs.Rows.{Exit, entered, block_rows, rows_of}
+use Rattle.block_rows.specs.Rows.{Exit, start_row, block_rows, rows_of}
 use Rattle.laws_block.specs.GroupedRows.{ListsOnlyGroup}
 
 rows-join : (bs cs : Blocks) → rows_of (join bs cs) ≡ rows_of bs ++ rows_of cs
@@ -52,7 +52,7 @@ rows_before b bs = elim (cases_Bool (eqb (item_marker b) 0)) [
 
 mutual
   block_only_groups : (b : Block) → block_rows (grouped_block b) ≡ block_rows b
-  block_only_groups (Holds c kids) = ap (λ rows. entered c ∷ (rows ++ Exit ∷ [])) (lists_only_group kids)
+  block_only_groups (Holds c kids) = ap (λ rows. start_row c ∷ (rows ++ Exit ∷ [])) (lists_only_group kids)
   block_only_groups b = refl
 
   pub lists_only_group : ListsOnlyGroup

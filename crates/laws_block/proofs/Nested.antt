@@ -4,7 +4,7 @@ use Rattle.std.proofs.lemmas.List.{append-nil}
 use Rattle.definition_block.specs.declared.container.Container.{Container}
 use Rattle.definition_block.specs.declared.container.Container.TheVariants.{Quote, Item}
 use Rattle.definition_block.specs.Tree.{Block, Holds, Items, Blocks, Nil, Cons, blocks}
-use Rattle.block_rows.specs.Rows.{BlockRow, Exit, entered, block_rows, rows_of}
+use Rattle.block_rows.specs.Rows.{BlockRow, Exit, start_row, block_rows, rows_of}
 use Rattle.laws_block.specs.Nested.{depth_after, RowsAreNested, RowsOfTextAreNested}
 
 -- rows that leave the depth as it was, whatever follows them
@@ -12,7 +12,7 @@ abbrev LeavesDepth : List BlockRow → Type 0
 LeavesDepth rows = (depth : ℕ) (others : List BlockRow) → depth_after depth (rows ++ others) ≡ depth_after depth others
 
 -- a container's start adds one
-enters : (c : Container) (depth : ℕ) (rows : List BlockRow) → depth_after depth (entered c ∷ rows) ≡ depth_after (suc depth) rows
+enters : (c : Container) (depth : ℕ) (rows : List BlockRow) → depth_after depth (start_row c ∷ rows) ≡ depth_after (suc depth) rows
 enters Quote depth rows = refl
 enters (Item item) depth rows = refl
 

@@ -1,7 +1,11 @@
 -- Which blocks a text can have.
-use Rattle.std.proofs.Common.{◌≡◌, ℕ, suc, zero, Bool, true, false, cond, not, ◌&&◌, ◌||◌, leb, List, [], ◌∷◌, Option, None, Some, length, take, drop, refl, ap, ◌∙◌, eqb, ◌⊎◌, inl, inr}
-use Rattle.std.specs.List.{prefix_len}
-use Rattle.std.proofs.lemmas.Bool.{cond_both, and_parts, or_parts, or_from, or_left, or_right, or_cases, both_ways, not_from_true}
+use Rattle.std.proofs.Common.{◌≡◌, ℕ, suc, zero, Bool, true, false, cond, not, ◌&&◌, ◌||◌, leb, List, [], ◌∷◌, Option, None, Some, length, take, drop, refl, ap, ◌∙◌, eqb, ◌⊎◌, inl, inr, arith}
+use Rattle.std.specs.Prelude.{◌==◌, ◌<◌}
+use Rattle.std.specs.List.{prefix_len, position_or_len, list_all}
+use Rattle.std.proofs.lemmas.List.{get_or-take}
+use Rattle.std.proofs.lemmas.List.Folds.{length-prefix_len}
+use Rattle.std.proofs.lemmas.List.Sums.{list_all-from_AllPass, prefix_len_passes}
+use Rattle.std.proofs.lemmas.Bool.{cond-false, and_left, cond_both, and_parts, or_parts, or_from, or_left, or_right, or_cases, both_ways, not_from_true}
 use Rattle.markdown_options.specs.declared.line_ending.LineEnding.{LineEnding}
 use Rattle.markdown_options.specs.declared.configuration.Constructs.{Constructs}
 use Rattle.definition_text.specs.declared.beside.Beside.{Beside}
@@ -10,27 +14,29 @@ use Rattle.definition_text.specs.declared.beside.Kind.TheVariants.{Whitespace}
 use Rattle.definition_block.specs.declared.container.Container.{Container}
 use Rattle.definition_block.specs.declared.container.Container.TheVariants.{Quote, Item}
 use Rattle.definition_text.specs.Lines.{TextLine, lines}
-use Rattle.definition_text.specs.Columns.{Rest, whole, is_blank, indent, bare, bytes_of}
+use Rattle.definition_text.specs.Columns.{Rest, whole, is_blank, is_white, trimmed, indent, bare, bytes_of}
 use Rattle.definition_text.specs.Indents.{small_indent}
 use Rattle.definition_block.specs.Started.{Started}
 use Rattle.definition_block.specs.Containers.{continues, starts, quote_or}
 use Rattle.definition_block.specs.BlockQuote.{quote_prefix}
 use Rattle.definition_block.specs.ListItem.{Marker, is_digit, number_of, bullet, delimiter, marker, is_item, item_after, item_start}
 use Rattle.definition_block.specs.CodeIndented.{starts_code_indented}
-use Rattle.definition_block.specs.CodeFenced.{Fence, is_fence_end, fence_start}
+use Rattle.definition_block.specs.CodeFenced.{Fence, first_word, is_fence_end, fence_start}
+use Rattle.definition_block.specs.MathFlow.{math_start}
+use Rattle.definition_block.specs.Frontmatter.{is_metadata_fence, after_frontmatter}
 use Rattle.definition_block.specs.HtmlFlow.{html_start, html_ends_here, ends_before_blank}
 use Rattle.definition_block.specs.HeadingAtx.{Atx, heading_atx}
 use Rattle.definition_block.specs.HeadingSetext.{underline, underline_of}
-use Rattle.definition_text.specs.Runs.{is_run}
+use Rattle.definition_text.specs.Runs.{run, after_run, is_run}
 use Rattle.definition_block.specs.ThematicBreak.{is_break}
 use Rattle.definition_inline.specs.Definition.{Definition as LinkDefinition, definition_at}
 use Rattle.definition_text.specs.Content.{content_of}
 use Rattle.definition_block.specs.Definitions.{lines_before, Cut, cut_into, cut_after, cut_most, cut}
 use Rattle.definition_text.specs.BlockLines.{own_lines, BlockLine}
-use Rattle.definition_block.specs.Tree.{one, ended, empty_tree, nothing, tree, blanks, paragraph_of, close_leaf, is_ending, all_endings, front, trailing, without_last, last_of, holds, close, has_text, leaf_with_line, with_line, rest_line, indented_takes, fenced_takes, html_with, html_takes, takes, or_heading, or_fence, or_html, begins, after, text_line_of, break_or_text, text_here, heading_of, underlined, turns, begun, taken, leaf_line, beside_in, start, new, began_blank, goes_on, grow, beside_line, step, steps, closed, Block, Paragraph, Heading, Break, IndentedCode, FencedCode, Html, Definition, Holds, Items, Ending, Blank, Blocks, Nil, Cons, join, blocks, OpenLeaf, Text, Indented, Fenced, OpenHtml, Opening, Leaf, Inside, Tree as BlockTree}
+use Rattle.definition_block.specs.Tree.{one, ended, empty_tree, nothing, tree, blanks, paragraph_of, close_leaf, is_ending, all_endings, front, trailing, without_last, last_of, holds, close, has_text, leaf_with_line, with_line, rest_line, indented_takes, fenced_takes, html_with, html_takes, takes, or_heading, or_fence, or_html, begins, after, text_line_of, break_or_text, text_here, heading_of, underlined, turns, begun, taken, leaf_line, beside_in, start, new, began_blank, goes_on, grow, beside_line, step, steps, closed, children, children_after, Block, Paragraph, Heading, Break, IndentedCode, FencedCode, Html, Definition, Holds, Items, Ending, Blank, Blocks, Nil, Cons, join, blocks, OpenLeaf, Text, Indented, Fenced, OpenHtml, Opening, Leaf, Inside, Tree as BlockTree}
 use Rattle.definition_block.specs.Lists.{before, grouped_block, grouped}
 use Rattle.laws_block.specs.ItemMarkers.{is_item_marker, is_unmarked, ItemsAreMarked}
-use Rattle.laws_block.specs.Occurs.{block_has, has, is_quote, is_list_item, is_indented_code, is_fenced_code, is_html, is_thematic_break, is_definition, is_heading, is_one_line, is_long_heading, is_deep_heading, NoQuotes, NoItems, NoIndentedCode, NoFencedCode, NoHtml, NoBreaks, NoDefinitions, NoHeadings, NoLongHeadings, NoDeepHeadings, NoLists}
+use Rattle.laws_block.specs.Occurs.{block_has, has, is_word, is_math, NoMath, NoFrontmatter, is_quote, is_list_item, is_indented_code, is_fenced_code, is_html, is_thematic_break, is_definition, is_heading, is_one_line, is_long_heading, is_deep_heading, NoQuotes, NoItems, NoIndentedCode, NoFencedCode, NoHtml, NoBreaks, NoDefinitions, NoHeadings, NoLongHeadings, NoDeepHeadings, NoLists}
 
 -- ---- what may stand in a text
 
@@ -42,6 +48,10 @@ abbrev pub ContainerMayStand : Constructs → Container → Type 0
 ContainerMayStand on Quote = on.block_quote ≡ true
 ContainerMayStand on (Item item) = (on.list_item ≡ true) × (is_item_marker item.marker ≡ true)
 
+-- code whose info is a word, or math
+abbrev pub InfoMayStand : Constructs → List ℕ → Type 0
+InfoMayStand on info = ((on.code_fenced ≡ true) × (is_word info ≡ true)) ⊎ ((on.math_flow ≡ true) × (is_word info ≡ false))
+
 -- the construct of each block is on, at any depth, and items aren't in lists yet
 abbrev mutual
   pub BlockMayStand : Constructs → Block → Type 0
@@ -49,7 +59,7 @@ abbrev mutual
   BlockMayStand on (Heading rank ls) = HeadingMayStand on rank ls
   BlockMayStand on Break = on.thematic_break ≡ true
   BlockMayStand on (IndentedCode ls) = on.code_indented ≡ true
-  BlockMayStand on (FencedCode info closed ls) = on.code_fenced ≡ true
+  BlockMayStand on (FencedCode info closed ls) = InfoMayStand on info
   BlockMayStand on (Html ls) = on.html_flow ≡ true
   BlockMayStand on (Definition label destination title) = on.definition ≡ true
   BlockMayStand on (Holds c kids) = ContainerMayStand on c × MayStand on kids
@@ -64,7 +74,7 @@ abbrev mutual
 abbrev LeafMayStand : Constructs → OpenLeaf → Type 0
 LeafMayStand on (Text ls) = Unit {0}
 LeafMayStand on (Indented ls pending) = on.code_indented ≡ true
-LeafMayStand on (Fenced fence ending ls) = on.code_fenced ≡ true
+LeafMayStand on (Fenced fence ending ls) = InfoMayStand on fence.info
 LeafMayStand on (OpenHtml kind ls) = on.html_flow ≡ true
 
 abbrev OpeningMayStand : Constructs → Opening → Type 0
@@ -86,6 +96,16 @@ where_any P (Some x) p = p
 -- what only stands where a construct is on, and more holds
 guarded : {A : Type 0} (on more : Bool) (o : Option A) → WhereSome {A = A} (λ x. on ≡ true) (cond (on && more) o None)
 guarded on more o = cond_both (on && more) o None (WhereSome (λ x. on ≡ true)) (λ e. where_any (on ≡ true) o (and_parts on more e).0) (λ e. tt)
+
+-- no white space stands in a first word
+is_word-first : (text : List ℕ) → is_word (first_word text) ≡ true
+is_word-first text =
+    let t = trimmed text in
+    let p : ℕ → Bool = λ b. not (is_white b) in
+    let n = position_or_len is_white t in
+    list_all-from_AllPass p (take n t) (λ k d lt.
+    let within : k < n = omega (arith, length-prefix_len p t) in
+    ap p (get_or-take n t k d within) ∙ prefix_len_passes p t k d within)
 
 -- the byte of a marker, where there is one
 abbrev IsMarked : Option Marker → Type 0
@@ -184,7 +204,7 @@ module _ (on : Constructs) where
       cond_both (is_blank rest) _ _ SomeTreeMayStand (λ _. (tt, h))
       (λ _. cond_both (starts_code_indented on rest) _ _ SomeTreeMayStand (λ _. (tt, h)) (λ _. tt))
 
-  may_take_fenced : (fence : Fence) (opening : Option LineEnding) (ls : List BlockLine) (rest : Rest) (beside : Beside) → on.code_fenced ≡ true
+  may_take_fenced : (fence : Fence) (opening : Option LineEnding) (ls : List BlockLine) (rest : Rest) (beside : Beside) → InfoMayStand on fence.info
       → SomeTreeMayStand (fenced_takes on fence opening ls rest beside)
   may_take_fenced fence opening ls rest beside h =
       cond_both (is_fence_end on fence rest) _ _ SomeTreeMayStand (λ _. ((h, (tt, tt)), tt)) (λ _. (tt, h))
@@ -208,7 +228,27 @@ module _ (on : Constructs) where
   may_or_heading ending None p = tt
   may_or_heading ending (Some a) p = ((inl (p, refl), (tt, tt)), tt)
 
-  may_or_fence : (ending : Option LineEnding) (o : Option Fence) (other : Option BlockTree) → WhereSome (λ (f : Fence). on.code_fenced ≡ true) o
+  -- the info of code is a word, that of math isn't
+  may_code_fence : (rest : Rest) → WhereSome (λ (f : Fence). InfoMayStand on f.info) (fence_start on rest)
+  may_code_fence rest =
+      let P : Option Fence → Type 0 = WhereSome (λ (f : Fence). InfoMayStand on f.info) in
+      let text = bytes_of (bare rest) in
+      cond_both (on.code_fenced && small_indent on rest) _ _ P
+      (λ e. let h = (and_parts on.code_fenced (small_indent on rest) e).0 in
+      cond_both (leb 3 (run 96 text) && list_all (λ b. not (b == 96)) (after_run 96 text)) _ _ P (λ _. inl (h, is_word-first (after_run 96 text)))
+      (λ _. cond_both (leb 3 (run 126 text)) _ _ P (λ _. inl (h, is_word-first (after_run 126 text))) (λ _. tt)))
+      (λ _. tt)
+
+  may_math_fence : (rest : Rest) → WhereSome (λ (f : Fence). InfoMayStand on f.info) (math_start on rest)
+  may_math_fence rest =
+      let P : Option Fence → Type 0 = WhereSome (λ (f : Fence). InfoMayStand on f.info) in
+      let text = bytes_of (bare rest) in
+      cond_both (on.math_flow && small_indent on rest) _ _ P
+      (λ e. let h = (and_parts on.math_flow (small_indent on rest) e).0 in
+      cond_both (leb 2 (run 36 text) && list_all (λ b. not (b == 36)) (after_run 36 text)) _ _ P (λ _. inr (h, refl)) (λ _. tt))
+      (λ _. tt)
+
+  may_or_fence : (ending : Option LineEnding) (o : Option Fence) (other : Option BlockTree) → WhereSome (λ (f : Fence). InfoMayStand on f.info) o
       → SomeTreeMayStand other → SomeTreeMayStand (or_fence ending o other)
   may_or_fence ending None other p q = q
   may_or_fence ending (Some f) other p q = (tt, p)
@@ -222,9 +262,10 @@ module _ (on : Constructs) where
   may_begin paragraph rest beside =
       cond_both (starts_code_indented on rest && not paragraph) _ _ SomeTreeMayStand
       (λ e. (tt, (and_parts on.code_indented _ (and_parts (starts_code_indented on rest) (not paragraph) e).0).0))
-      (λ _. may_or_fence beside.ending (fence_start on rest) _ (guarded on.code_fenced (small_indent on rest) _)
+      (λ _. may_or_fence beside.ending (fence_start on rest) _ (may_code_fence rest)
+      (may_or_fence beside.ending (math_start on rest) _ (may_math_fence rest)
       (may_or_html rest beside (html_start on paragraph rest) _ (guarded on.html_flow (small_indent on rest) _)
-      (may_or_heading beside.ending (heading_atx on rest) (guarded on.heading_atx (small_indent on rest) _))))
+      (may_or_heading beside.ending (heading_atx on rest) (guarded on.heading_atx (small_indent on rest) _)))))
 
   may_after : (away : Opening) (t : BlockTree) → OpeningMayStand on away → TreeMayStand on t → TreeMayStand on (after on away t)
   may_after away t p q = (may-join (close on away) t.done (may_close away p) q.0, q.1)
@@ -352,11 +393,18 @@ module _ (on : Constructs) where
   may_steps kind [] t p = p
   may_steps kind (line ∷ ls) t p = may_steps Whitespace ls (step on kind t line) (may_step kind t line p)
 
-  pub may_stand : (kind : Kind) (text : List ℕ) → MayStand on (blocks on kind text)
-  may_stand kind text =
-      let t = steps on kind empty_tree (lines text) in
-      let p : TreeMayStand on t = may_steps kind (lines text) empty_tree (tt, tt) in
+  may_children : (kind : Kind) (ls : List TextLine) → MayStand on (children on kind ls)
+  may_children kind ls =
+      let t = steps on kind empty_tree ls in
+      let p : TreeMayStand on t = may_steps kind ls empty_tree (tt, tt) in
       may-join t.done (close on t.now) p.0 (may_close t.now p.1)
+
+  may_children_after : (kind : Kind) (ls : List TextLine) (o : Option (List TextLine)) → MayStand on (children_after on kind ls o)
+  may_children_after kind ls None = may_children kind ls
+  may_children_after kind ls (Some others) = may_children Whitespace others
+
+  pub may_stand : (kind : Kind) (text : List ℕ) → MayStand on (blocks on kind text)
+  may_stand kind text = may_children_after kind (lines text) (after_frontmatter on (lines text))
 
   -- ---- what passes no test
 
@@ -389,8 +437,12 @@ not_indented on off (IndentedCode ls) p = absurd (both_ways on.code_indented off
 not_indented on off b p = refl
 
 not_fenced : (on : Constructs) → on.code_fenced ≡ false → (b : Block) → BlockMayStand on b → is_fenced_code b ≡ false
-not_fenced on off (FencedCode info closed ls) p = absurd (both_ways on.code_fenced off p)
+not_fenced on off (FencedCode info closed ls) p = elim p [ inl h ↦ absurd (both_ways on.code_fenced off h.0) | inr h ↦ h.1 ]
 not_fenced on off b p = refl
+
+not_math : (on : Constructs) → on.math_flow ≡ false → (b : Block) → BlockMayStand on b → is_math b ≡ false
+not_math on off (FencedCode info closed ls) p = elim p [ inl h ↦ ap not h.1 | inr h ↦ absurd (both_ways on.math_flow off h.0) ]
+not_math on off b p = refl
 
 not_html : (on : Constructs) → on.html_flow ≡ false → (b : Block) → BlockMayStand on b → is_html b ≡ false
 not_html on off (Html ls) p = absurd (both_ways on.html_flow off p)
@@ -431,6 +483,9 @@ no_indented_code on kind text off = never on is_indented_code (not_indented on o
 
 pub no_fenced_code : NoFencedCode
 no_fenced_code on kind text off = never on is_fenced_code (not_fenced on off) kind text
+
+pub no_math : NoMath
+no_math on kind text off = never on is_math (not_math on off) kind text
 
 pub no_html : NoHtml
 no_html on kind text off = never on is_html (not_html on off) kind text
@@ -475,3 +530,13 @@ module _ (on : Constructs) (off : on.list_item ≡ false) where
 
 pub no_lists : NoLists
 no_lists on kind text off = as_they_are on off (blocks on kind text) (may_stand on kind text)
+
+-- without frontmatter each line is read
+no_lines_out : (on : Constructs) (ls : List TextLine) → on.frontmatter ≡ false → after_frontmatter on ls ≡ None
+no_lines_out on [] off = refl
+no_lines_out on (line ∷ others) off =
+    cond-false (on.frontmatter && is_metadata_fence 45 line.content) _ _ (and_left on.frontmatter (is_metadata_fence 45 line.content) off)
+    ∙ cond-false (on.frontmatter && is_metadata_fence 43 line.content) _ _ (and_left on.frontmatter (is_metadata_fence 43 line.content) off)
+
+pub no_frontmatter : NoFrontmatter
+no_frontmatter on kind text off = ap (children_after on kind (lines text)) (no_lines_out on (lines text) off)

@@ -13,6 +13,7 @@ record AreOff (on : Constructs) : Type 0 where
   list_item : on.list_item ≡ false
   code_indented : on.code_indented ≡ false
   code_fenced : on.code_fenced ≡ false
+  math_flow : on.math_flow ≡ false
   html_flow : on.html_flow ≡ false
   thematic_break : on.thematic_break ≡ false
   definition : on.definition ≡ false
@@ -26,7 +27,8 @@ are_off on off =
     let to_definition = or_parts _ on.definition to_atx.0 in
     let to_break = or_parts _ on.thematic_break to_definition.0 in
     let to_html = or_parts _ on.html_flow to_break.0 in
-    let to_fenced = or_parts _ on.code_fenced to_html.0 in
+    let to_math = or_parts _ on.math_flow to_html.0 in
+    let to_fenced = or_parts _ on.code_fenced to_math.0 in
     let to_indented = or_parts _ on.code_indented to_fenced.0 in
     let to_item = or_parts on.block_quote on.list_item to_indented.0 in
     record {
@@ -34,6 +36,7 @@ are_off on off =
       list_item = to_item.1;
       code_indented = to_indented.1;
       code_fenced = to_fenced.1;
+      math_flow = to_math.1;
       html_flow = to_html.1;
       thematic_break = to_break.1;
       definition = to_definition.1;
@@ -47,7 +50,8 @@ plain on off (Heading rank ls) p =
     elim p [ inl h ↦ absurd (both_ways on.heading_atx off.heading_atx h.0) | inr h ↦ absurd (both_ways on.heading_setext off.heading_setext h.0) ]
 plain on off Break p = absurd (both_ways on.thematic_break off.thematic_break p)
 plain on off (IndentedCode ls) p = absurd (both_ways on.code_indented off.code_indented p)
-plain on off (FencedCode info closed ls) p = absurd (both_ways on.code_fenced off.code_fenced p)
+plain on off (FencedCode info closed ls) p =
+    elim p [ inl h ↦ absurd (both_ways on.code_fenced off.code_fenced h.0) | inr h ↦ absurd (both_ways on.math_flow off.math_flow h.0) ]
 plain on off (Html ls) p = absurd (both_ways on.html_flow off.html_flow p)
 plain on off (Definition label destination title) p = absurd (both_ways on.definition off.definition p)
 plain on off (Holds Quote kids) p = absurd (both_ways on.block_quote off.block_quote p.0)

@@ -4,7 +4,10 @@ use Rattle.markdown_options.specs.declared.configuration.Constructs.{Constructs}
 use Rattle.definition_text.specs.declared.beside.Kind.{Kind}
 use Rattle.definition_block.specs.declared.container.Container.TheVariants.{Quote, Item}
 use Rattle.definition_text.specs.BlockLines.{BlockLine}
-use Rattle.definition_block.specs.Tree.{Block, Heading, Break, IndentedCode, FencedCode, Html, Definition, Holds, Items, Blocks, Nil, Cons, blocks}
+use Rattle.definition_text.specs.Columns.{is_white}
+use Rattle.definition_text.specs.Lines.{lines}
+use Rattle.std.specs.List.{list_all}
+use Rattle.definition_block.specs.Tree.{Block, Heading, Break, IndentedCode, FencedCode, Html, Definition, Holds, Items, Blocks, Nil, Cons, blocks, children}
 use Rattle.definition_block.specs.Lists.{grouped}
 
 -- whether one of these blocks passes a test, at any depth
@@ -39,10 +42,19 @@ abbrev pub is_indented_code : Block → Bool
 is_indented_code (IndentedCode ls) = true
 is_indented_code b = false
 
+-- an info that can be written: no space or tab stands in it
+abbrev pub is_word : List ℕ → Bool
+is_word info = list_all (λ b. not (is_white b)) info
+
 -- fenced code (CommonMark 4.5)
 abbrev pub is_fenced_code : Block → Bool
-is_fenced_code (FencedCode info closed ls) = true
+is_fenced_code (FencedCode info closed ls) = is_word info
 is_fenced_code b = false
+
+-- math (in neither standard): code whose info can't be written
+abbrev pub is_math : Block → Bool
+is_math (FencedCode info closed ls) = not (is_word info)
+is_math b = false
 
 -- an HTML block (CommonMark 4.6)
 abbrev pub is_html : Block → Bool
@@ -97,6 +109,10 @@ NoIndentedCode = Never (λ on. on.code_indented) is_indented_code
 abbrev pub NoFencedCode : Type 0
 NoFencedCode = Never (λ on. on.code_fenced) is_fenced_code
 
+-- without math none (in neither standard)
+abbrev pub NoMath : Type 0
+NoMath = Never (λ on. on.math_flow) is_math
+
 -- without HTML blocks none (CommonMark 4.6)
 abbrev pub NoHtml : Type 0
 NoHtml = Never (λ on. on.html_flow) is_html
@@ -126,3 +142,7 @@ abbrev pub NoLists : Type 0
 NoLists =
     (on : Constructs) (before : Kind) (text : List ℕ) → on.list_item ≡ false
     → let bs = blocks on before text in grouped bs ≡ bs
+
+-- without frontmatter no line of a text is left out (in neither standard)
+abbrev pub NoFrontmatter : Type 0
+NoFrontmatter = (on : Constructs) (before : Kind) (text : List ℕ) → on.frontmatter ≡ false → blocks on before text ≡ children on before (lines text)

@@ -7,7 +7,7 @@ use Rattle.laws_block.specs.Occurs.{Never}
 -- some construct that makes blocks is on
 abbrev pub has_blocks : Constructs → Bool
 has_blocks on =
-    on.block_quote || on.list_item || on.code_indented || on.code_fenced || on.html_flow || on.thematic_break
+    on.block_quote || on.list_item || on.code_indented || on.code_fenced || on.math_flow || on.html_flow || on.thematic_break
     || on.definition || on.heading_atx || on.heading_setext
 
 -- a paragraph, or an ending

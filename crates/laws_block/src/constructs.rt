@@ -1,5 +1,6 @@
 //! A construct that is off never occurs, at any depth.
-ghost use Rattle.laws_block.specs.Occurs.{NoQuotes, NoItems, NoIndentedCode, NoFencedCode, NoHtml, NoBreaks, NoDefinitions, NoHeadings, NoLongHeadings, NoDeepHeadings, NoLists};
+ghost use Rattle.laws_block.specs.Occurs.{NoQuotes, NoItems, NoIndentedCode, NoFencedCode, NoMath, NoHtml, NoBreaks};
+ghost use Rattle.laws_block.specs.Occurs.{NoDefinitions, NoHeadings, NoLongHeadings, NoDeepHeadings, NoLists, NoFrontmatter};
 ghost use Rattle.laws_block.specs.Plain.{OnlyPlain};
 
 /// Where block quotes are off, no text has a quote.
@@ -24,6 +25,12 @@ pub fn code_indented_law()
 #[tactic(auto, using(crate::proofs::Occurs::no_fenced_code))]
 pub fn code_fenced_law()
     ensures { NoFencedCode }
+{}
+
+/// Where math is off, no text has it.
+#[tactic(auto, using(crate::proofs::Occurs::no_math))]
+pub fn math_flow_law()
+    ensures { NoMath }
 {}
 
 /// Where HTML blocks are off, no text has one.
@@ -66,6 +73,12 @@ pub fn heading_atx_law()
 #[tactic(auto, using(crate::proofs::Occurs::no_lists))]
 pub fn list_law()
     ensures { NoLists }
+{}
+
+/// Where frontmatter is off, each line of a text is one of its blocks' lines, from the first on.
+#[tactic(auto, using(crate::proofs::Occurs::no_frontmatter))]
+pub fn frontmatter_law()
+    ensures { NoFrontmatter }
 {}
 
 /// Where all constructs that make blocks are off, a text has only paragraphs, endings and blank lines.

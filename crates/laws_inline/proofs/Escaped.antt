@@ -15,7 +15,9 @@ use Rattle.definition_text.specs.InlineCode.{InlineCode, codes_of}
 use Rattle.definition_inline.specs.Inline.{Inline, Data, Escape, Leaf, leaf, or_else}
 use Rattle.definition_inline.specs.CharacterEscape.{escape_at}
 use Rattle.definition_inline.specs.CharacterReference.{reference_after, reference_form, reference_of, reference_at}
-use Rattle.definition_inline.specs.CodeText.{code_text_at}
+use Rattle.definition_inline.specs.CodeText.{raw_at, code_text_at}
+use Rattle.definition_inline.specs.MathText.{may_open_math, math_text_at}
+use Rattle.definition_inline.specs.GfmStrikethrough.{is_tilde}
 use Rattle.definition_inline.specs.Autolink.{autolink_at}
 use Rattle.definition_inline.specs.HtmlText.{html_text_at}
 use Rattle.definition_inline.specs.HardBreak.{ends_inner_line, ends_here, line_end_at, escaped_break_at, line_spaces_at}
@@ -30,10 +32,10 @@ use Rattle.laws_inline.specs.Escaped.{escaped, is_line_byte, begins_with_space, 
 
 -- ---- a byte that isn't ASCII punctuation begins nothing
 
-no_and : (x y : Bool) → x ≡ false → (x && y) ≡ false
+pub no_and : (x y : Bool) → x ≡ false → (x && y) ≡ false
 no_and x y e = ap (λ b. b && y) e
 
-other : (b x : ℕ) → is_ascii_punctuation b ≡ false → is_ascii_punctuation x ≡ true → (b == x) ≡ false
+pub other : (b x : ℕ) → is_ascii_punctuation b ≡ false → is_ascii_punctuation x ≡ true → (b == x) ≡ false
 other b x off on =
     elim (cases_Bool (b == x)) [
       | inl e ↦ absurd (both_ways (is_ascii_punctuation b) off (ap is_ascii_punctuation (eqb-true b x e) ∙ on))
@@ -47,12 +49,12 @@ other_way b x off on =
       | inr e ↦ e
     ]
 
-line_byte : (b : ℕ) → is_line_byte b ≡ true → ((b == 9) ≡ false) × (is_eol b ≡ false)
+pub line_byte : (b : ℕ) → is_line_byte b ≡ true → ((b == 9) ≡ false) × (is_eol b ≡ false)
 line_byte b h =
     let none : ((b == 9) || is_eol b) ≡ false = not-true _ (and_parts (nat_lt b 256) (not ((b == 9) || is_eol b)) h).1 in
     or_parts (b == 9) (is_eol b) none
 
-no_column : (b : ℕ) → is_line_byte b ≡ true → (b == 256) ≡ false
+pub no_column : (b : ℕ) → is_line_byte b ≡ true → (b == 256) ≡ false
 no_column b h = grind (arith, common_steps)
 
 pub or_none : (a b : Option Leaf) → a ≡ None → b ≡ None → or_else a b ≡ None
@@ -74,27 +76,36 @@ module _ (on : Constructs) (b : ℕ) (off : is_ascii_punctuation b ≡ false) wh
       ∙ cond_both on.character_reference None None (λ o. o ≡ None) (λ _. refl) (λ _. refl)
 
 module _ (context : InlineContext) (b : ℕ) (off : is_ascii_punctuation b ≡ false) (line : is_line_byte b ≡ true) where
-  no_break : (rest : List ℕ) → escaped_break_at context.on (b ∷ rest) ≡ None
-  no_break rest = cond-false _ _ _ (and_no context.on.hard_break_escape _ (no_and (b == 92) (ends_inner_line rest) (other b 92 off refl)))
+  abbrev constructs : Constructs
+  constructs = context.options.constructs
 
-  no_code : (rest : List ℕ) → code_text_at context.on (b ∷ rest) ≡ None
-  no_code rest =
-      let none : run 96 (b ∷ rest) ≡ 0 = cond-false (b == 96) _ 0 (other b 96 off refl) in
-      cond-false _ _ _ (and_no context.on.code_text (not (run 96 (b ∷ rest) == 0)) (ap (λ n. not (n == 0)) none))
+  no_break : (rest : List ℕ) → escaped_break_at constructs (b ∷ rest) ≡ None
+  no_break rest = cond-false _ _ _ (and_no constructs.hard_break_escape _ (no_and (b == 92) (ends_inner_line rest) (other b 92 off refl)))
+
+  no_raw : (marker : ℕ) (may_open : Bool) (rest : List ℕ) → is_ascii_punctuation marker ≡ true → raw_at marker may_open (b ∷ rest) ≡ None
+  no_raw marker may_open rest on =
+      let none : run marker (b ∷ rest) ≡ 0 = cond-false (b == marker) _ 0 (other b marker off on) in
+      cond-false _ _ _ (and_no may_open (not (run marker (b ∷ rest) == 0)) (ap (λ n. not (n == 0)) none))
+
+  no_code : (rest : List ℕ) → code_text_at constructs (b ∷ rest) ≡ None
+  no_code rest = no_raw 96 constructs.code_text rest refl
+
+  no_math : (rest : List ℕ) → math_text_at context.options (b ∷ rest) ≡ None
+  no_math rest = no_raw 36 (may_open_math context.options (run 36 (b ∷ rest))) rest refl
 
   no_angle : (rest : List ℕ) → begins_with (codes "<") (b ∷ rest) ≡ false
   no_angle rest = no_and (60 == b) _ (other_way b 60 off refl)
 
-  no_autolink : (rest : List ℕ) → autolink_at context.on (b ∷ rest) ≡ None
-  no_autolink rest = cond-false _ _ _ (and_no context.on.autolink (begins_with (codes "<") (b ∷ rest)) (no_angle rest))
+  no_autolink : (rest : List ℕ) → autolink_at constructs (b ∷ rest) ≡ None
+  no_autolink rest = cond-false _ _ _ (and_no constructs.autolink (begins_with (codes "<") (b ∷ rest)) (no_angle rest))
 
-  no_html : (rest : List ℕ) → html_text_at context.on (b ∷ rest) ≡ None
-  no_html rest = cond-false _ _ _ (and_no context.on.html_text (begins_with (codes "<") (b ∷ rest)) (no_angle rest))
+  no_html : (rest : List ℕ) → html_text_at constructs (b ∷ rest) ≡ None
+  no_html rest = cond-false _ _ _ (and_no constructs.html_text (begins_with (codes "<") (b ∷ rest)) (no_angle rest))
 
   no_line_end : (rest : List ℕ) → line_end_at (b ∷ rest) ≡ None
   no_line_end rest = cond-false _ _ _ (line_byte b line).1
 
-  no_spaces : (rest : List ℕ) → (is_white b ≡ true → ends_here (bare (b ∷ rest)) ≡ false) → line_spaces_at context.on (b ∷ rest) ≡ None
+  no_spaces : (rest : List ℕ) → (is_white b ≡ true → ends_here (bare (b ∷ rest)) ≡ false) → line_spaces_at constructs (b ∷ rest) ≡ None
   no_spaces rest goes_on =
       elim (cases_Bool (is_white b)) [
         | inl white ↦ cond-false _ _ _ (and_no (nat_le 1 (indent (b ∷ rest))) (ends_here (bare (b ∷ rest))) (goes_on white))
@@ -105,25 +116,29 @@ module _ (context : InlineContext) (b : ℕ) (off : is_ascii_punctuation b ≡ f
 
   no_leaf : (rest : List ℕ) → (is_white b ≡ true → ends_here (bare (b ∷ rest)) ≡ false) → leaf_at context (b ∷ rest) ≡ None
   no_leaf rest goes_on =
-      or_none (escape_at context.on (b ∷ rest)) _ (no_escape context.on b off rest)
-      (or_none (escaped_break_at context.on (b ∷ rest)) _ (no_break rest)
-      (or_none (reference_at context.on context.names (b ∷ rest)) _ (no_reference context.on b off context.names rest)
-      (or_none (code_text_at context.on (b ∷ rest)) _ (no_code rest)
-      (or_none (autolink_at context.on (b ∷ rest)) _ (no_autolink rest)
-      (or_none (html_text_at context.on (b ∷ rest)) _ (no_html rest)
-      (or_none (line_end_at (b ∷ rest)) _ (no_line_end rest) (no_spaces rest goes_on)))))))
+      or_none (escape_at constructs (b ∷ rest)) _ (no_escape constructs b off rest)
+      (or_none (escaped_break_at constructs (b ∷ rest)) _ (no_break rest)
+      (or_none (reference_at constructs context.names (b ∷ rest)) _ (no_reference constructs b off context.names rest)
+      (or_none (code_text_at constructs (b ∷ rest)) _ (no_code rest)
+      (or_none (math_text_at context.options (b ∷ rest)) _ (no_math rest)
+      (or_none (autolink_at constructs (b ∷ rest)) _ (no_autolink rest)
+      (or_none (html_text_at constructs (b ∷ rest)) _ (no_html rest)
+      (or_none (line_end_at (b ∷ rest)) _ (no_line_end rest) (no_spaces rest goes_on))))))))
 
-  no_run : (c : InlineCode) (cs : List InlineCode) → c.code ≡ b → run_at context.on (c ∷ cs) ≡ None
-  no_run c cs is =
+  no_marker : is_marker context.options b ≡ false
+  no_marker =
       let none : ((b == 42) || (b == 95)) ≡ false = or_from (b == 42) (b == 95) (other b 42 off refl) (other b 95 off refl) in
-      let not_marker : is_marker context.on c.code ≡ false = ap (is_marker context.on) is ∙ and_no context.on.attention _ none in
-      cond-false _ _ _ not_marker
+      or_from (constructs.attention && ((b == 42) || (b == 95))) (constructs.gfm_strikethrough && is_tilde b) (and_no constructs.attention _ none)
+      (and_no constructs.gfm_strikethrough (is_tilde b) (other b 126 off refl))
 
-  no_start : (rest : List ℕ) → label_start_at context.on (b ∷ rest) ≡ None
+  no_run : (c : InlineCode) (cs : List InlineCode) → c.code ≡ b → run_at context.options (c ∷ cs) ≡ None
+  no_run c cs is = cond-false _ _ _ (ap (is_marker context.options) is ∙ no_marker)
+
+  no_start : (rest : List ℕ) → label_start_at constructs (b ∷ rest) ≡ None
   no_start rest =
       let image : begins_with (codes "![") (b ∷ rest) ≡ false = no_and (33 == b) _ (other_way b 33 off refl) in
       let link : begins_with (codes "[") (b ∷ rest) ≡ false = no_and (91 == b) _ (other_way b 91 off refl) in
-      cond-false _ _ _ (and_no context.on.label_start_image _ image) ∙ cond-false _ _ _ (and_no context.on.label_start_link _ link)
+      cond-false _ _ _ (and_no constructs.label_start_image _ image) ∙ cond-false _ _ _ (and_no constructs.label_start_link _ link)
 
 -- ---- spaces in an escaped line
 
@@ -133,14 +148,15 @@ escaped_punctuation b bs on = ap (λ xs. xs ++ escaped bs) (cond-true (is_ascii_
 pub escaped_other : (b : ℕ) (bs : List ℕ) → is_ascii_punctuation b ≡ false → escaped (b ∷ bs) ≡ b ∷ escaped bs
 escaped_other b bs off = ap (λ xs. xs ++ escaped bs) (cond-false (is_ascii_punctuation b) (92 ∷ b ∷ []) (b ∷ []) off)
 
+-- what is no space is no white space
+pub not_white : (b : ℕ) → is_line_byte b ≡ true → (b == 32) ≡ false → is_white b ≡ false
+not_white b line first = or_from ((b == 32) || (b == 9)) (b == 256) (or_from (b == 32) (b == 9) first (line_byte b line).0) (no_column b line)
+
 white_is_space : (b : ℕ) → is_line_byte b ≡ true → is_white b ≡ true → (b == 32) ≡ true
 white_is_space b line white =
     elim (cases_Bool (b == 32)) [
       | inl e ↦ e
-      | inr other_byte ↦
-          let tab = (line_byte b line).0 in
-          let column = no_column b line in
-          absurd (both_ways (is_white b) (or_from ((b == 32) || (b == 9)) (b == 256) (or_from (b == 32) (b == 9) other_byte tab) column) white)
+      | inr other_byte ↦ absurd (both_ways (is_white b) (not_white b line other_byte) white)
     ]
 
 -- after spaces something else follows
@@ -184,12 +200,13 @@ tokens_of bytes = map Item (map part_of bytes)
 read_more : (t : Token) (ts : List Token) (r : Reading) → read_tokens ts (read_tokens (t ∷ []) r) ≡ read_tokens (t ∷ ts) r
 read_more t ts r = ap (λ us. reading (text us r.now.holds_link) r.open_labels) (append_assoc r.now.tokens (t ∷ []) ts)
 
-module _ (context : InlineContext) (on : context.on.character_escape ≡ true) where
+module _ (context : InlineContext) (on : context.options.constructs.character_escape ≡ true) where
   escape_leaf : (b : ℕ) (rest : List ℕ) → is_ascii_punctuation b ≡ true → leaf_at context (92 ∷ b ∷ rest) ≡ Some (leaf (Escape b ∷ []) 2)
   escape_leaf b rest punctuation =
-      let both : (context.on.character_escape && ((92 == 92) && is_ascii_punctuation b)) ≡ true = ap (λ x. x && is_ascii_punctuation b) on ∙ punctuation in
-      let found : escape_at context.on (92 ∷ b ∷ rest) ≡ Some (leaf (Escape b ∷ []) 2) = cond-true _ _ _ both in
-      or_first (escape_at context.on (92 ∷ b ∷ rest)) _ (leaf (Escape b ∷ []) 2) found
+      let both : (context.options.constructs.character_escape && ((92 == 92) && is_ascii_punctuation b)) ≡ true =
+      ap (λ x. x && is_ascii_punctuation b) on ∙ punctuation in
+      let found : escape_at context.options.constructs (92 ∷ b ∷ rest) ≡ Some (leaf (Escape b ∷ []) 2) = cond-true _ _ _ both in
+      or_first (escape_at context.options.constructs (92 ∷ b ∷ rest)) _ (leaf (Escape b ∷ []) 2) found
 
   data_place : (b : ℕ) (rest : List ℕ) (r : Reading) (c : InlineCode) (cs : List InlineCode) → is_ascii_punctuation b ≡ false → is_line_byte b ≡ true
       → (is_white b ≡ true → ends_here (bare (b ∷ rest)) ≡ false) → codes_of (c ∷ cs) ≡ b ∷ rest
@@ -198,9 +215,10 @@ module _ (context : InlineContext) (on : context.on.character_escape ≡ true) w
       let is : c.code ≡ b = ap (λ xs. get_or xs 0 0) e in
       let no_label : (c.code == 93) ≡ false = ap (λ x. x == 93) is ∙ other b 93 off refl in
       step_last context r c cs (ap (leaf_at context) e ∙ no_leaf context b off line rest spaces) (no_run context b off line c cs is)
-      (ap (label_start_at context.on) e ∙ no_start context b off line rest)
-      ∙ cond-false (context.on.label_end && (c.code == 93)) (label_end_step context (codes_of (c ∷ cs)) r.now r.open_labels) (data_step c.code r)
-      (and_no context.on.label_end (c.code == 93) no_label)
+      (ap (label_start_at context.options.constructs) e ∙ no_start context b off line rest)
+      ∙ cond-false (context.options.constructs.label_end && (c.code == 93))
+      (label_end_step context (codes_of (c ∷ cs)) r.now r.open_labels) (data_step c.code r)
+      (and_no context.options.constructs.label_end (c.code == 93) no_label)
       ∙ ap (λ x. Next 0 (read_tokens (Item (Data x) ∷ []) r)) is
 
   scan_escaped : (bytes : List ℕ) (content : List InlineCode) (r : Reading) → list_all is_line_byte bytes ≡ true → ends_with_space bytes ≡ false
@@ -263,9 +281,7 @@ no_white_first (b ∷ bs) lines first =
       | inl on ↦ ap (prefix_len is_white) (escaped_punctuation b bs on)
       | inr off ↦
           let line = (and_parts (is_line_byte b) (list_all is_line_byte bs) lines).0 in
-          let not_white : is_white b ≡ false =
-          or_from ((b == 32) || (b == 9)) (b == 256) (or_from (b == 32) (b == 9) first (line_byte b line).0) (no_column b line) in
-          ap (prefix_len is_white) (escaped_other b bs off) ∙ cond-false (is_white b) _ 0 not_white
+          ap (prefix_len is_white) (escaped_other b bs off) ∙ cond-false (is_white b) _ 0 (not_white b line first)
     ]
 
 module _ (meaning : InlineMeaning) where
@@ -282,10 +298,10 @@ module _ (meaning : InlineMeaning) where
   html_of_tokens bytes = html_of_parts meaning (map part_of bytes) ∙ html_of_bytes bytes
 
 pub escape_law : EscapeLaw
-escape_law context meaning content bytes on lines first last e =
+escape_law context meaning content bytes on line e =
     let start = prefix_len (λ (c : InlineCode). is_white c.code) content in
-    let none : start ≡ 0 = white_codes content ∙ ap (prefix_len is_white) e ∙ no_white_first bytes lines first in
+    let none : start ≡ 0 = white_codes content ∙ ap (prefix_len is_white) e ∙ no_white_first bytes line.0 line.1 in
     let r : Reading = reading (text [] false) [] in
-    let read : scan context 0 r content ≡ read_tokens (tokens_of bytes) r = scan_escaped context on bytes content r lines last e in
+    let read : scan context 0 r content ≡ read_tokens (tokens_of bytes) r = scan_escaped context on bytes content r line.0 line.2 e in
     ap (λ n. inline_html meaning (emphasized (whole_text (scan context 0 r (drop n content))).tokens)) none
     ∙ ap (λ x. inline_html meaning (emphasized (whole_text x).tokens)) read ∙ html_of_tokens meaning bytes

@@ -8,17 +8,18 @@ use Rattle.definition_text.specs.Columns.{is_white, indent}
 use Rattle.definition_text.specs.Content.{Part, before, up_to}
 use Rattle.definition_text.specs.Runs.{run, after_run}
 use Rattle.definition_text.specs.InlineCode.{InlineCode, codes_of}
-use Rattle.definition_inline.specs.Inline.{Target, Inline, Data, Escape, Autolink, EscapedBreak, TrailingBreak, LineEnd, Emphasis, Strong, Link, Image, Inlines, Nil, Cons, followed_by, Leaf, leaf, or_else}
+use Rattle.definition_inline.specs.Inline.{Target, Inline, Data, Escape, Code, Math, Autolink, EscapedBreak, TrailingBreak, LineEnd, Emphasis, Strong, Strikethrough, Link, Image, Inlines, Nil, Cons, followed_by, Leaf, leaf, or_else}
 use Rattle.definition_inline.specs.CharacterEscape.{escape_at}
 use Rattle.definition_inline.specs.CharacterReference.{CharacterReference, reference_form, reference_text, reference_leaf, reference_of, reference_at}
-use Rattle.definition_inline.specs.CodeText.{run_of, code_leaf, code_text_at}
+use Rattle.definition_inline.specs.CodeText.{run_of, code_text, raw_leaf, raw_at, code_text_at}
+use Rattle.definition_inline.specs.MathText.{may_open_math, math_text_at}
 use Rattle.definition_inline.specs.Autolink.{uri_end, email_end, closed_autolink, autolink_after, autolink_at}
 use Rattle.definition_inline.specs.HtmlText.{html_byte, html_end, html_leaf, html_text_at}
 use Rattle.definition_inline.specs.HardBreak.{line_end_at, escaped_break_at, is_trailing_break, line_spaces_at}
 use Rattle.definition_inline.specs.LabelEnd.{Ended, label_end_at}
 use Rattle.definition_inline.specs.Attention.{Run, run_at}
 use Rattle.definition_inline.specs.Pairing.{Pair, pairs}
-use Rattle.definition_inline.specs.Spans.{Token, Item, Delimiters, runs_of, Span, IsEmphasis, IsStrong, span_of, SpanRow, Holds, Opens, Closes, bytes_taken, run_rows, rows_from, OpenSpan, Nest, nest, spanned, leave, nest_row, emphasized}
+use Rattle.definition_inline.specs.Spans.{Token, Item, Delimiters, runs_of, Span, IsEmphasis, IsStrong, IsStrikethrough, span_of, SpanRow, Holds, Opens, Closes, bytes_taken, run_rows, rows_from, OpenSpan, Nest, nest, spanned, leave, nest_row, emphasized}
 use Rattle.definition_inline.specs.Scan.{InlineContext, leaf_at, LabelStart, LinkStart, ImageStart, label_start_at, start_bytes, start_tokens, may_form, Text, text, OpenLabel, Reading, reading, read_tokens, unformed, formed, Step, Next, data_step, ended_step, label_end_step, last_step, label_step, run_step, leaf_step, step, and_then, scan, whole_text}
 use Rattle.laws_inline.specs.Occurs.{part_has, has, is_link}
 use Rattle.laws_inline.specs.NestedLinks.{is_nesting, LinksHoldNoLinks}
@@ -69,6 +70,7 @@ module _ (test : Inline → Bool) (data_fails : (b : ℕ) → test (Data b) ≡ 
   span_lacks : (span : Span) (kids : Inlines) → has test kids ≡ false → part_has test (spanned span kids) ≡ false
   span_lacks IsEmphasis kids p = or_from (test (Emphasis kids)) (has test kids) (span_fails IsEmphasis kids) p
   span_lacks IsStrong kids p = or_from (test (Strong kids)) (has test kids) (span_fails IsStrong kids) p
+  span_lacks IsStrikethrough kids p = or_from (test (Strikethrough kids)) (has test kids) (span_fails IsStrikethrough kids) p
 
   leave_lacks : (now : Inlines) (around : List OpenSpan) → has test now ≡ false → Each SpanLacks around → NestLacks (leave now around)
   leave_lacks now [] p h = (p, tt)
@@ -93,6 +95,7 @@ module _ (test : Inline → Bool) (data_fails : (b : ℕ) → test (Data b) ≡ 
 abbrev pub IsPlain : Inline → Type 0
 IsPlain (Emphasis kids) = ⊥
 IsPlain (Strong kids) = ⊥
+IsPlain (Strikethrough kids) = ⊥
 IsPlain (Link target kids) = ⊥
 IsPlain (Image target kids) = ⊥
 IsPlain i = Unit {0}
@@ -130,16 +133,17 @@ plain_reference on names content =
     cond_both on.character_reference (reference_of names content (reference_form content)) None PlainLeaf
     (λ _. plain_reference_of names content (reference_form content)) (λ _. tt)
 
-plain_code_leaf : (n : ℕ) (content : List ℕ) (found : Option Part) → Each IsPlain (code_leaf n content found).parts
-plain_code_leaf n content None = each_map IsPlain Data (take n content) (λ b. tt)
-plain_code_leaf n content (Some found) = (tt, tt)
+plain_raw_leaf : (marker n : ℕ) (content : List ℕ) (found : Option Part) → Each IsPlain (raw_leaf marker n content found).parts
+plain_raw_leaf marker n content None = each_map IsPlain Data (take n content) (λ b. tt)
+plain_raw_leaf marker n content (Some found) =
+    (cond_both (marker == 36) (Math (code_text found.text)) (Code (code_text found.text)) IsPlain (λ _. tt) (λ _. tt), tt)
 
-plain_code : (on : Constructs) (content : List ℕ) → PlainLeaf (code_text_at on content)
-plain_code on content =
-    let n = run 96 content in
-    let rest = after_run 96 content in
-    let found : Option Part = up_to rest (run_of 96 n false rest) in
-    plain_if (on.code_text && not (n == 0)) (code_leaf n content found) (plain_code_leaf n content found)
+plain_raw : (marker : ℕ) (may_open : Bool) (content : List ℕ) → PlainLeaf (raw_at marker may_open content)
+plain_raw marker may_open content =
+    let n = run marker content in
+    let rest = after_run marker content in
+    let found : Option Part = up_to rest (run_of marker n false rest) in
+    plain_if (may_open && not (n == 0)) (raw_leaf marker n content found) (plain_raw_leaf marker n content found)
 
 plain_closed : (is_email : Bool) (content : List ℕ) (rest : Option (List ℕ)) → PlainLeaf (closed_autolink is_email content rest)
 plain_closed is_email content None = tt
@@ -173,13 +177,15 @@ plain_spaces on content =
 
 pub plain_leaf : (context : InlineContext) (content : List ℕ) → PlainLeaf (leaf_at context content)
 plain_leaf context content =
-    plain_or (escape_at context.on content) _ (plain_escape context.on content)
-    (plain_or (escaped_break_at context.on content) _ (plain_break context.on content)
-    (plain_or (reference_at context.on context.names content) _ (plain_reference context.on context.names content)
-    (plain_or (code_text_at context.on content) _ (plain_code context.on content)
-    (plain_or (autolink_at context.on content) _ (plain_autolink context.on content)
-    (plain_or (html_text_at context.on content) _ (plain_html context.on content)
-    (plain_or (line_end_at content) (line_spaces_at context.on content) (plain_line_end content) (plain_spaces context.on content)))))))
+    let on = context.options.constructs in
+    plain_or (escape_at on content) _ (plain_escape on content)
+    (plain_or (escaped_break_at on content) _ (plain_break on content)
+    (plain_or (reference_at on context.names content) _ (plain_reference on context.names content)
+    (plain_or (code_text_at on content) _ (plain_raw 96 on.code_text content)
+    (plain_or (math_text_at context.options content) _ (plain_raw 36 (may_open_math context.options (run 36 content)) content)
+    (plain_or (autolink_at on content) _ (plain_autolink on content)
+    (plain_or (html_text_at on content) _ (plain_html on content)
+    (plain_or (line_end_at content) (line_spaces_at on content) (plain_line_end content) (plain_spaces on content))))))))
 
 -- ---- texts
 
@@ -189,6 +195,7 @@ no_data_nests b = refl
 no_span_nests : (span : Span) (kids : Inlines) → is_nesting (spanned span kids) ≡ false
 no_span_nests IsEmphasis kids = refl
 no_span_nests IsStrong kids = refl
+no_span_nests IsStrikethrough kids = refl
 
 no_data_links : (b : ℕ) → is_link (Data b) ≡ false
 no_data_links b = refl
@@ -196,6 +203,7 @@ no_data_links b = refl
 no_span_links : (span : Span) (kids : Inlines) → is_link (spanned span kids) ≡ false
 no_span_links IsEmphasis kids = refl
 no_span_links IsStrong kids = refl
+no_span_links IsStrikethrough kids = refl
 
 abbrev NestsNothing : Token → Type 0
 NestsNothing t = Lacks is_nesting no_data_nests no_span_nests t
@@ -211,6 +219,7 @@ record IsGood (t : Text) : Type 0 where
 plain_nests : (i : Inline) → IsPlain i → part_has is_nesting i ≡ false
 plain_nests (Emphasis kids) h = absurd h
 plain_nests (Strong kids) h = absurd h
+plain_nests (Strikethrough kids) h = absurd h
 plain_nests (Link target kids) h = absurd h
 plain_nests (Image target kids) h = absurd h
 plain_nests i h = refl
@@ -218,6 +227,7 @@ plain_nests i h = refl
 plain_links : (i : Inline) → IsPlain i → part_has is_link i ≡ false
 plain_links (Emphasis kids) h = absurd h
 plain_links (Strong kids) h = absurd h
+plain_links (Strikethrough kids) h = absurd h
 plain_links (Link target kids) h = absurd h
 plain_links (Image target kids) h = absurd h
 plain_links i h = refl
@@ -327,7 +337,7 @@ module _ (context : InlineContext) where
 
   good_last : (code : ℕ) (content : List ℕ) (r : Reading) → IsGoodReading r → IsGoodStep (last_step context code content r)
   good_last code content r h =
-      cond_both (context.on.label_end && (code == 93)) (label_end_step context content r.now r.open_labels) (data_step code r) IsGoodStep
+      cond_both (context.options.constructs.label_end && (code == 93)) (label_end_step context content r.now r.open_labels) (data_step code r) IsGoodStep
       (λ _. good_label_end content r.now r.open_labels h.now h.open_labels)
       (λ _. good_read (Item (Data code) ∷ []) r (refl, tt) (refl, tt) h)
 
@@ -336,7 +346,7 @@ module _ (context : InlineContext) where
   good_label code content r (Some start) h = record { now = good_empty; open_labels = (h.now, h.open_labels) }
 
   good_run : (code : ℕ) (content : List ℕ) (r : Reading) (found : Option Run) → IsGoodReading r → IsGoodStep (run_step context code content r found)
-  good_run code content r None h = good_label code content r (label_start_at context.on content) h
+  good_run code content r None h = good_label code content r (label_start_at context.options.constructs content) h
   good_run code content r (Some found) h = good_read (Delimiters found ∷ []) r (tt, tt) (tt, tt) h
 
   good_leaf : (code : ℕ) (content : List ℕ) (r : Reading) (found_run : Option Run) (found : Option Leaf) → IsGoodReading r → PlainLeaf found
@@ -348,7 +358,7 @@ module _ (context : InlineContext) where
   good_step : (r : Reading) (c : InlineCode) (cs : List InlineCode) → IsGoodReading r → IsGoodStep (step context r c cs)
   good_step r c cs h =
       let content = codes_of (c ∷ cs) in
-      good_leaf c.code content r (run_at context.on (c ∷ cs)) (leaf_at context content) h (plain_leaf context content)
+      good_leaf c.code content r (run_at context.options (c ∷ cs)) (leaf_at context content) h (plain_leaf context content)
 
   good_then : (s : Step) (rest : ℕ → Reading → Reading) → IsGoodStep s → ((k : ℕ) (r : Reading) → IsGoodReading r → IsGoodReading (rest k r))
       → IsGoodReading (and_then s rest)

@@ -1,28 +1,30 @@
 -- Which parts a content can have.
-use Rattle.std.proofs.Common.{◌≡◌, ℕ, suc, zero, Bool, true, false, cond, not, ◌&&◌, ◌==◌, List, [], ◌∷◌, ◌++◌, map, Option, None, Some, length, take, drop, refl, ◌+◌, ◌-◌}
+use Rattle.std.proofs.Common.{inl, inr, ◌≡◌, ℕ, suc, zero, Bool, true, false, cond, not, ◌&&◌, ◌||◌, ◌==◌, List, [], ◌∷◌, ◌++◌, map, Option, None, Some, length, take, drop, refl, ap, ◌+◌, ◌-◌}
 use Rattle.std.specs.Prelude.{replicate, reverse, codes}
 use Rattle.std.specs.List.{fold, prefix_len, filter}
-use Rattle.std.proofs.lemmas.Bool.{cond_both, and_parts, or_from, both_ways}
+use Rattle.std.proofs.lemmas.Bool.{cond_both, and_parts, or_from, or_cases, both_ways, eqb-true}
 use Rattle.markdown_options.specs.declared.configuration.Constructs.{Constructs}
 use Rattle.definition_text.specs.Columns.{is_white, indent}
 use Rattle.definition_text.specs.Bytes.{begins_with}
 use Rattle.definition_text.specs.Content.{Part, before, up_to}
 use Rattle.definition_text.specs.Runs.{run, after_run}
 use Rattle.definition_text.specs.InlineCode.{InlineCode, codes_of}
-use Rattle.definition_inline.specs.Inline.{Target, Inline, Data, Escape, Character, Code, Autolink, Html, EscapedBreak, TrailingBreak, LineEnd, Emphasis, Strong, Link, Image, Inlines, Nil, Cons, followed_by, Leaf, leaf, or_else}
+use Rattle.definition_inline.specs.Inline.{Target, Inline, Data, Escape, Character, Code, Math, Autolink, Html, EscapedBreak, TrailingBreak, LineEnd, Emphasis, Strong, Strikethrough, Link, Image, Inlines, Nil, Cons, followed_by, Leaf, leaf, or_else}
 use Rattle.definition_inline.specs.CharacterEscape.{escape_at}
 use Rattle.definition_inline.specs.CharacterReference.{CharacterReference, reference_form, reference_text, reference_leaf, reference_of, reference_at}
-use Rattle.definition_inline.specs.CodeText.{run_of, code_leaf, code_text_at}
+use Rattle.definition_inline.specs.CodeText.{run_of, raw_leaf, code_text_at}
+use Rattle.definition_inline.specs.MathText.{may_open_math, math_text_at}
+use Rattle.definition_inline.specs.GfmStrikethrough.{is_tilde}
 use Rattle.definition_inline.specs.Autolink.{uri_end, email_end, closed_autolink, autolink_after, autolink_at}
 use Rattle.definition_inline.specs.HtmlText.{html_byte, html_end, html_leaf, html_text_at}
 use Rattle.definition_inline.specs.HardBreak.{line_end_at, escaped_break_at, is_trailing_break, line_spaces_at}
 use Rattle.definition_inline.specs.LabelEnd.{Ended}
 use Rattle.definition_inline.specs.Attention.{Run, run_at, is_marker}
 use Rattle.definition_inline.specs.Pairing.{Pair, pairs}
-use Rattle.definition_inline.specs.Spans.{Token, Item, Delimiters, runs_of, Span, IsEmphasis, IsStrong, span_of, SpanRow, Holds, Opens, Closes, bytes_taken, run_rows, rows_from, OpenSpan, Nest, nest, spanned, leave, nest_row, emphasized}
+use Rattle.definition_inline.specs.Spans.{Token, Item, Delimiters, runs_of, Span, IsEmphasis, IsStrong, IsStrikethrough, span_of, SpanRow, Holds, Opens, Closes, bytes_taken, run_rows, rows_from, OpenSpan, Nest, nest, spanned, leave, nest_row, emphasized}
 use Rattle.definition_inline.specs.Scan.{InlineContext, leaf_at, LabelStart, LinkStart, ImageStart, label_start_at, start_bytes, start_tokens, label_part, Text, text, OpenLabel, Reading, reading, read_tokens, unformed, formed, Step, Next, data_step, ended_step, ended_by, label_end_step, last_step, label_step, run_step, leaf_step, step, and_then, scan, whole_text, inlines}
-use Rattle.laws_inline.specs.Occurs.{part_has, has, is_escape, is_character, is_code, is_autolink, is_html, is_escaped_break, is_trailing_break as is_trailing, is_span, is_link, is_image, is_labelled}
-use Rattle.laws_inline.specs.Occurs.{NoEscapes, NoCharacters, NoCode, NoAutolinks, NoHtml, NoEscapedBreaks, NoTrailingBreaks, NoSpans, NoLinks, NoImages, NoLabelEnds}
+use Rattle.laws_inline.specs.Occurs.{part_has, has, is_escape, is_character, is_code, is_math, is_autolink, is_html, is_escaped_break, is_trailing_break as is_trailing, is_span, is_strikethrough, is_link, is_image, is_labelled}
+use Rattle.laws_inline.specs.Occurs.{NoEscapes, NoCharacters, NoCode, NoMath, NoAutolinks, NoHtml, NoEscapedBreaks, NoTrailingBreaks, NoSpans, NoStrikethrough, NoLinks, NoImages, NoLabelEnds}
 use Rattle.laws_inline.proofs.Each.{Each, each-append, each_map, each_same}
 
 -- ---- what may stand in a content
@@ -34,6 +36,7 @@ abbrev mutual
   PartMayStand on (Escape b) = on.character_escape ≡ true
   PartMayStand on (Character bytes) = on.character_reference ≡ true
   PartMayStand on (Code bytes) = on.code_text ≡ true
+  PartMayStand on (Math bytes) = on.math_text ≡ true
   PartMayStand on (Autolink is_email bytes) = on.autolink ≡ true
   PartMayStand on (Html text) = on.html_text ≡ true
   PartMayStand on EscapedBreak = on.hard_break_escape ≡ true
@@ -41,6 +44,7 @@ abbrev mutual
   PartMayStand on (LineEnd code) = Unit {0}
   PartMayStand on (Emphasis kids) = (on.attention ≡ true) × MayStand on kids
   PartMayStand on (Strong kids) = (on.attention ≡ true) × MayStand on kids
+  PartMayStand on (Strikethrough kids) = (on.gfm_strikethrough ≡ true) × MayStand on kids
   PartMayStand on (Link target kids) = (on.label_start_link ≡ true) × (on.label_end ≡ true) × MayStand on kids
   PartMayStand on (Image target kids) = (on.label_start_image ≡ true) × (on.label_end ≡ true) × MayStand on kids
 
@@ -93,16 +97,20 @@ module _ (on : Constructs) where
       cond_both on.character_reference (reference_of names content (reference_form content)) None MayBegin
       (may_refer_to names content (reference_form content)) (λ _. tt)
 
-  may_be_code : (n : ℕ) (content : List ℕ) (found : Option Part) → on.code_text ≡ true → LeafMayStand (code_leaf n content found)
+  may_be_code : (n : ℕ) (content : List ℕ) (found : Option Part) → on.code_text ≡ true → LeafMayStand (raw_leaf 96 n content found)
   may_be_code n content None e = each_map (PartMayStand on) Data (take n content) (λ b. tt)
   may_be_code n content (Some found) e = (e, tt)
+
+  may_be_math : (n : ℕ) (content : List ℕ) (found : Option Part) → on.math_text ≡ true → LeafMayStand (raw_leaf 36 n content found)
+  may_be_math n content None e = each_map (PartMayStand on) Data (take n content) (λ b. tt)
+  may_be_math n content (Some found) e = (e, tt)
 
   may_code : (content : List ℕ) → MayBegin (code_text_at on content)
   may_code content =
       let n = run 96 content in
       let rest = after_run 96 content in
       let found : Option Part = up_to rest (run_of 96 n false rest) in
-      guarded LeafMayStand on.code_text (not (n == 0)) (code_leaf n content found) (may_be_code n content found)
+      guarded LeafMayStand on.code_text (not (n == 0)) (raw_leaf 96 n content found) (may_be_code n content found)
 
   may_close_autolink : (is_email : Bool) (content : List ℕ) (rest : Option (List ℕ)) → on.autolink ≡ true → MayBegin (closed_autolink is_email content rest)
   may_close_autolink is_email content None e = tt
@@ -144,20 +152,25 @@ module _ (on : Constructs) where
 
   -- ---- runs
 
+  abbrev KindMayStand : Span → Type 0
+  KindMayStand IsEmphasis = on.attention ≡ true
+  KindMayStand IsStrong = on.attention ≡ true
+  KindMayStand IsStrikethrough = on.gfm_strikethrough ≡ true
+
+  -- whatever a run forms may stand
+  abbrev RunMayStand : Run → Type 0
+  RunMayStand r = (p : Pair) → KindMayStand (span_of r.marker p)
+
   abbrev TokenMayStand : Token → Type 0
   TokenMayStand (Item i) = PartMayStand on i
-  TokenMayStand (Delimiters run) = on.attention ≡ true
-
-  may_run : (content : List InlineCode) → WhereSome {A = Run} (λ r. on.attention ≡ true) (run_at on content)
-  may_run [] = tt
-  may_run (c ∷ cs) = cond_both (is_marker on c.code) _ None (WhereSome {A = Run} (λ r. on.attention ≡ true)) (λ e. (and_parts on.attention _ e).0) (λ _. tt)
+  TokenMayStand (Delimiters run) = RunMayStand run
 
   abbrev RowMayStand : SpanRow → Type 0
   RowMayStand (Holds i) = PartMayStand on i
-  RowMayStand (Opens span) = on.attention ≡ true
+  RowMayStand (Opens span) = KindMayStand span
   RowMayStand Closes = Unit {0}
 
-  may_run_rows : (ps : List Pair) (place : ℕ) (r : Run) → on.attention ≡ true → Each RowMayStand (run_rows ps place r)
+  may_run_rows : (ps : List Pair) (place : ℕ) (r : Run) → RunMayStand r → Each RowMayStand (run_rows ps place r)
   may_run_rows ps place r e =
       let closed = filter (λ (p : Pair). p.closer == place) ps in
       let started = filter (λ (p : Pair). p.opener == place) ps in
@@ -167,7 +180,7 @@ module _ (on : Constructs) where
       each-append RowMayStand (closing ++ rest) opening
       (each-append RowMayStand closing rest (each_map RowMayStand (λ (p : Pair). Closes) closed (λ p. tt))
       (each_same RowMayStand (r.left - (bytes_taken closed + bytes_taken started)) (Holds (Data r.marker)) tt))
-      (each_map RowMayStand (λ (p : Pair). Opens (span_of r.marker p)) (reverse started) (λ p. e))
+      (each_map RowMayStand (λ (p : Pair). Opens (span_of r.marker p)) (reverse started) e)
 
   may_rows : (ps : List Pair) (place : ℕ) (tokens : List Token) → Each TokenMayStand tokens → Each RowMayStand (rows_from ps place tokens)
   may_rows ps place [] h = tt
@@ -176,7 +189,7 @@ module _ (on : Constructs) where
       each-append RowMayStand (run_rows ps place r) (rows_from ps (place + 1) ts) (may_run_rows ps place r h.0) (may_rows ps (place + 1) ts h.1)
 
   abbrev SpanMayStand : OpenSpan → Type 0
-  SpanMayStand s = (on.attention ≡ true) × MayStand on s.before
+  SpanMayStand s = KindMayStand s.span × MayStand on s.before
 
   abbrev NestMayStand : Nest → Type 0
   NestMayStand n = MayStand on n.now × Each SpanMayStand n.around
@@ -185,9 +198,10 @@ module _ (on : Constructs) where
   may_follow Nil last p q = (q, tt)
   may_follow (Cons i is) last p q = (p.0, may_follow is last p.1 q)
 
-  may_span : (span : Span) (kids : Inlines) → on.attention ≡ true → MayStand on kids → PartMayStand on (spanned span kids)
+  may_span : (span : Span) (kids : Inlines) → KindMayStand span → MayStand on kids → PartMayStand on (spanned span kids)
   may_span IsEmphasis kids e p = (e, p)
   may_span IsStrong kids e p = (e, p)
+  may_span IsStrikethrough kids e p = (e, p)
 
   may_leave : (now : Inlines) (around : List OpenSpan) → MayStand on now → Each SpanMayStand around → NestMayStand (leave now around)
   may_leave now [] p h = (p, tt)
@@ -271,69 +285,103 @@ module _ (on : Constructs) where
 
 -- a place at which something that may stand begins
 module _ (context : InlineContext) where
-  may_last : (code : ℕ) (content : List ℕ) (r : Reading) → ReadingMayStand context.on r → StepMayStand context.on (last_step context code content r)
-  may_last code content r p =
-      cond_both (context.on.label_end && (code == 93)) (label_end_step context content r.now r.open_labels) (data_step code r) (StepMayStand context.on)
-      (λ e. may_label_end context.on context content r.now r.open_labels (and_parts context.on.label_end (code == 93) e).0 p.0 p.1)
-      (λ _. may_read context.on (Item (Data code) ∷ []) r (tt, tt) p)
+  abbrev constructs : Constructs
+  constructs = context.options.constructs
 
-  may_label_step : (code : ℕ) (content : List ℕ) (r : Reading) (start : Option LabelStart) → ReadingMayStand context.on r
-      → WhereSome (StartMayStand context.on) start → StepMayStand context.on (label_step context code content r start)
+  may_math : (content : List ℕ) → MayBegin constructs (math_text_at context.options content)
+  may_math content =
+      let n = run 36 content in
+      let rest = after_run 36 content in
+      let found : Option Part = up_to rest (run_of 36 n false rest) in
+      guarded (LeafMayStand constructs) (may_open_math context.options n) (not (n == 0)) (raw_leaf 36 n content found)
+      (λ e. may_be_math constructs n content found (and_parts constructs.math_text _ e).0)
+
+  -- a byte whose runs may form spans forms those that are on
+  may_mark : (code : ℕ) → is_marker context.options code ≡ true → (p : Pair) → KindMayStand constructs (span_of code p)
+  may_mark code e p =
+      let asked = (code == 42) || (code == 95) in
+      let either = or_cases (constructs.attention && asked) (constructs.gfm_strikethrough && is_tilde code) e in
+      cond_both (is_tilde code) IsStrikethrough (cond (p.taken == 2) IsStrong IsEmphasis) (KindMayStand constructs)
+      (λ tilde. elim either [
+        | inl h ↦ absurd (both_ways asked (ap (λ x. (x == 42) || (x == 95)) (eqb-true code 126 tilde)) (and_parts constructs.attention asked h).1)
+        | inr h ↦ (and_parts constructs.gfm_strikethrough (is_tilde code) h).0
+      ])
+      (λ none. elim either [
+        | inl h ↦
+            let attention = (and_parts constructs.attention asked h).0 in
+            cond_both (p.taken == 2) IsStrong IsEmphasis (KindMayStand constructs) (λ _. attention) (λ _. attention)
+        | inr h ↦ absurd (both_ways (is_tilde code) none (and_parts constructs.gfm_strikethrough (is_tilde code) h).1)
+      ])
+
+  may_run : (content : List InlineCode) → WhereSome (RunMayStand constructs) (run_at context.options content)
+  may_run [] = tt
+  may_run (c ∷ cs) = cond_both (is_marker context.options c.code) _ None (WhereSome (RunMayStand constructs)) (λ e. may_mark c.code e) (λ _. tt)
+
+  may_last : (code : ℕ) (content : List ℕ) (r : Reading) → ReadingMayStand constructs r → StepMayStand constructs (last_step context code content r)
+  may_last code content r p =
+      cond_both (constructs.label_end && (code == 93)) (label_end_step context content r.now r.open_labels) (data_step code r) (StepMayStand constructs)
+      (λ e. may_label_end constructs context content r.now r.open_labels (and_parts constructs.label_end (code == 93) e).0 p.0 p.1)
+      (λ _. may_read constructs (Item (Data code) ∷ []) r (tt, tt) p)
+
+  may_label_step : (code : ℕ) (content : List ℕ) (r : Reading) (start : Option LabelStart) → ReadingMayStand constructs r
+      → WhereSome (StartMayStand constructs) start → StepMayStand constructs (label_step context code content r start)
   may_label_step code content r None p h = may_last code content r p
   may_label_step code content r (Some start) p h = (tt, ((h, p.0), p.1))
 
-  may_run_step : (code : ℕ) (content : List ℕ) (r : Reading) (found : Option Run) → ReadingMayStand context.on r
-      → WhereSome {A = Run} (λ f. context.on.attention ≡ true) found → StepMayStand context.on (run_step context code content r found)
+  may_run_step : (code : ℕ) (content : List ℕ) (r : Reading) (found : Option Run) → ReadingMayStand constructs r
+      → WhereSome (RunMayStand constructs) found → StepMayStand constructs (run_step context code content r found)
   may_run_step code content r None p h =
-      may_label_step code content r (label_start_at context.on content) p (may_start context.on content)
-  may_run_step code content r (Some found) p h = may_read context.on (Delimiters found ∷ []) r (h, tt) p
+      may_label_step code content r (label_start_at constructs content) p (may_start constructs content)
+  may_run_step code content r (Some found) p h = may_read constructs (Delimiters found ∷ []) r (h, tt) p
 
-  items_stand : (parts : List Inline) → Each (PartMayStand context.on) parts → Each (TokenMayStand context.on) (map Item parts)
+  items_stand : (parts : List Inline) → Each (PartMayStand constructs) parts → Each (TokenMayStand constructs) (map Item parts)
   items_stand [] h = tt
   items_stand (i ∷ is) h = (h.0, items_stand is h.1)
 
-  may_leaf_step : (code : ℕ) (content : List ℕ) (r : Reading) (run : Option Run) (found : Option Leaf) → ReadingMayStand context.on r
-      → WhereSome {A = Run} (λ f. context.on.attention ≡ true) run → MayBegin context.on found
-      → StepMayStand context.on (leaf_step context code content r run found)
+  may_leaf_step : (code : ℕ) (content : List ℕ) (r : Reading) (run : Option Run) (found : Option Leaf) → ReadingMayStand constructs r
+      → WhereSome (RunMayStand constructs) run → MayBegin constructs found
+      → StepMayStand constructs (leaf_step context code content r run found)
   may_leaf_step code content r run None p h q = may_run_step code content r run p h
-  may_leaf_step code content r run (Some found) p h q = may_read context.on (map Item found.parts) r (items_stand found.parts q) p
+  may_leaf_step code content r run (Some found) p h q = may_read constructs (map Item found.parts) r (items_stand found.parts q) p
 
-  may_leaf : (content : List ℕ) → MayBegin context.on (leaf_at context content)
+  may_leaf : (content : List ℕ) → MayBegin constructs (leaf_at context content)
   may_leaf content =
-      begin_or context.on (escape_at context.on content) _ (may_escape context.on content)
-      (begin_or context.on (escaped_break_at context.on content) _ (may_break context.on content)
-      (begin_or context.on (reference_at context.on context.names content) _ (may_refer context.on context.names content)
-      (begin_or context.on (code_text_at context.on content) _ (may_code context.on content)
-      (begin_or context.on (autolink_at context.on content) _ (may_autolink context.on content)
-      (begin_or context.on (html_text_at context.on content) _ (may_html context.on content)
-      (begin_or context.on (line_end_at content) (line_spaces_at context.on content) (may_end_line context.on content) (may_space_line context.on content)))))))
+      begin_or constructs (escape_at constructs content) _ (may_escape constructs content)
+      (begin_or constructs (escaped_break_at constructs content) _ (may_break constructs content)
+      (begin_or constructs (reference_at constructs context.names content) _ (may_refer constructs context.names content)
+      (begin_or constructs (code_text_at constructs content) _ (may_code constructs content)
+      (begin_or constructs (math_text_at context.options content) _ (may_math content)
+      (begin_or constructs (autolink_at constructs content) _ (may_autolink constructs content)
+      (begin_or constructs (html_text_at constructs content) _ (may_html constructs content)
+      (begin_or constructs (line_end_at content) (line_spaces_at constructs content)
+      (may_end_line constructs content) (may_space_line constructs content))))))))
 
-  may_step : (r : Reading) (c : InlineCode) (cs : List InlineCode) → ReadingMayStand context.on r → StepMayStand context.on (step context r c cs)
+  may_step : (r : Reading) (c : InlineCode) (cs : List InlineCode) → ReadingMayStand constructs r → StepMayStand constructs (step context r c cs)
   may_step r c cs p =
       let content = codes_of (c ∷ cs) in
-      may_leaf_step c.code content r (run_at context.on (c ∷ cs)) (leaf_at context content) p (may_run context.on (c ∷ cs)) (may_leaf content)
+      may_leaf_step c.code content r (run_at context.options (c ∷ cs)) (leaf_at context content) p (may_run (c ∷ cs)) (may_leaf content)
 
-  may_then : (s : Step) (rest : ℕ → Reading → Reading) → StepMayStand context.on s
-      → ((k : ℕ) (r : Reading) → ReadingMayStand context.on r → ReadingMayStand context.on (rest k r)) → ReadingMayStand context.on (and_then s rest)
+  may_then : (s : Step) (rest : ℕ → Reading → Reading) → StepMayStand constructs s
+      → ((k : ℕ) (r : Reading) → ReadingMayStand constructs r → ReadingMayStand constructs (rest k r)) → ReadingMayStand constructs (and_then s rest)
   may_then (Next more r) rest p h = h more r p
 
-  may_scan : (k : ℕ) (r : Reading) (content : List InlineCode) → ReadingMayStand context.on r → ReadingMayStand context.on (scan context k r content)
+  may_scan : (k : ℕ) (r : Reading) (content : List InlineCode) → ReadingMayStand constructs r → ReadingMayStand constructs (scan context k r content)
   may_scan k r [] p = p
   may_scan zero r (c ∷ cs) p =
       may_then (step context r c cs) (λ k next. scan context k next cs) (may_step r c cs p) (λ k next q. may_scan k next cs q)
   may_scan (suc k) r (c ∷ cs) p = may_scan k r cs p
 
-  may_close : (inner : Text) (open_labels : List OpenLabel) → TextMayStand context.on inner → Each (LabelMayStand context.on) open_labels
-      → TextMayStand context.on (fold (λ inner label. unformed label inner) inner open_labels)
+  may_close : (inner : Text) (open_labels : List OpenLabel) → TextMayStand constructs inner → Each (LabelMayStand constructs) open_labels
+      → TextMayStand constructs (fold (λ inner label. unformed label inner) inner open_labels)
   may_close inner [] p h = p
-  may_close inner (label ∷ others) p h = may_close (unformed label inner) others (may_unform context.on label inner h.0 p) h.1
+  may_close inner (label ∷ others) p h = may_close (unformed label inner) others (may_unform constructs label inner h.0 p) h.1
 
-  may_stand : (content : List InlineCode) → MayStand context.on (inlines context content)
+  may_stand : (content : List InlineCode) → MayStand constructs (inlines context content)
   may_stand content =
       let start = prefix_len (λ (c : InlineCode). is_white c.code) content in
       let r = scan context 0 (reading (text [] false) []) (drop start content) in
-      let h : ReadingMayStand context.on r = may_scan 0 (reading (text [] false) []) (drop start content) (tt, tt) in
-      may_emphasize context.on (whole_text r).tokens (may_close r.now r.open_labels h.0 h.1)
+      let h : ReadingMayStand constructs r = may_scan 0 (reading (text [] false) []) (drop start content) (tt, tt) in
+      may_emphasize constructs (whole_text r).tokens (may_close r.now r.open_labels h.0 h.1)
 
 -- ---- what never occurs
 
@@ -344,6 +392,7 @@ module _ (on : Constructs) (test : Inline → Bool) (fails : (i : Inline) → Pa
     part_never (Escape b) h = fails (Escape b) h
     part_never (Character bytes) h = fails (Character bytes) h
     part_never (Code bytes) h = fails (Code bytes) h
+    part_never (Math bytes) h = fails (Math bytes) h
     part_never (Autolink is_email bytes) h = fails (Autolink is_email bytes) h
     part_never (Html text) h = fails (Html text) h
     part_never EscapedBreak h = fails EscapedBreak h
@@ -351,6 +400,7 @@ module _ (on : Constructs) (test : Inline → Bool) (fails : (i : Inline) → Pa
     part_never (LineEnd code) h = fails (LineEnd code) h
     part_never (Emphasis kids) h = or_from (test (Emphasis kids)) (has test kids) (fails (Emphasis kids) h) (never kids h.1)
     part_never (Strong kids) h = or_from (test (Strong kids)) (has test kids) (fails (Strong kids) h) (never kids h.1)
+    part_never (Strikethrough kids) h = or_from (test (Strikethrough kids)) (has test kids) (fails (Strikethrough kids) h) (never kids h.1)
     part_never (Link target kids) h = or_from (test (Link target kids)) (has test kids) (fails (Link target kids) h) (never kids h.2)
     part_never (Image target kids) h = or_from (test (Image target kids)) (has test kids) (fails (Image target kids) h) (never kids h.2)
 
@@ -369,6 +419,10 @@ no_character on off i h = refl
 not_code : (on : Constructs) → on.code_text ≡ false → (i : Inline) → PartMayStand on i → is_code i ≡ false
 not_code on off (Code bytes) h = absurd (both_ways on.code_text off h)
 not_code on off i h = refl
+
+not_math : (on : Constructs) → on.math_text ≡ false → (i : Inline) → PartMayStand on i → is_math i ≡ false
+not_math on off (Math bytes) h = absurd (both_ways on.math_text off h)
+not_math on off i h = refl
 
 no_autolink : (on : Constructs) → on.autolink ≡ false → (i : Inline) → PartMayStand on i → is_autolink i ≡ false
 no_autolink on off (Autolink is_email bytes) h = absurd (both_ways on.autolink off h)
@@ -391,6 +445,10 @@ no_span on off (Emphasis kids) h = absurd (both_ways on.attention off h.0)
 no_span on off (Strong kids) h = absurd (both_ways on.attention off h.0)
 no_span on off i h = refl
 
+not_strikethrough : (on : Constructs) → on.gfm_strikethrough ≡ false → (i : Inline) → PartMayStand on i → is_strikethrough i ≡ false
+not_strikethrough on off (Strikethrough kids) h = absurd (both_ways on.gfm_strikethrough off h.0)
+not_strikethrough on off i h = refl
+
 no_link : (on : Constructs) → on.label_start_link ≡ false → (i : Inline) → PartMayStand on i → is_link i ≡ false
 no_link on off (Link target kids) h = absurd (both_ways on.label_start_link off h.0)
 no_link on off i h = refl
@@ -404,37 +462,47 @@ no_labelled on off (Link target kids) h = absurd (both_ways on.label_end off h.1
 no_labelled on off (Image target kids) h = absurd (both_ways on.label_end off h.1)
 no_labelled on off i h = refl
 
+-- a test that fails where a construct is off
+module _ (context : InlineContext) (test : Inline → Bool) where
+  never_in : ((i : Inline) → PartMayStand context.options.constructs i → test i ≡ false) → (content : List InlineCode)
+      → has test (inlines context content) ≡ false
+  never_in fails content = never context.options.constructs test fails (inlines context content) (may_stand context content)
+
 pub no_escapes : NoEscapes
-no_escapes context content off = never context.on is_escape (no_escape context.on off) (inlines context content) (may_stand context content)
+no_escapes context content off = never_in context is_escape (no_escape context.options.constructs off) content
 
 pub no_characters : NoCharacters
-no_characters context content off = never context.on is_character (no_character context.on off) (inlines context content) (may_stand context content)
+no_characters context content off = never_in context is_character (no_character context.options.constructs off) content
 
 pub no_code : NoCode
-no_code context content off = never context.on is_code (not_code context.on off) (inlines context content) (may_stand context content)
+no_code context content off = never_in context is_code (not_code context.options.constructs off) content
+
+pub no_math : NoMath
+no_math context content off = never_in context is_math (not_math context.options.constructs off) content
 
 pub no_autolinks : NoAutolinks
-no_autolinks context content off = never context.on is_autolink (no_autolink context.on off) (inlines context content) (may_stand context content)
+no_autolinks context content off = never_in context is_autolink (no_autolink context.options.constructs off) content
 
 pub no_html : NoHtml
-no_html context content off = never context.on is_html (not_html context.on off) (inlines context content) (may_stand context content)
+no_html context content off = never_in context is_html (not_html context.options.constructs off) content
 
 pub no_escaped_breaks : NoEscapedBreaks
-no_escaped_breaks context content off =
-    never context.on is_escaped_break (no_escaped_break context.on off) (inlines context content) (may_stand context content)
+no_escaped_breaks context content off = never_in context is_escaped_break (no_escaped_break context.options.constructs off) content
 
 pub no_trailing_breaks : NoTrailingBreaks
-no_trailing_breaks context content off =
-    never context.on is_trailing (no_trailing_break context.on off) (inlines context content) (may_stand context content)
+no_trailing_breaks context content off = never_in context is_trailing (no_trailing_break context.options.constructs off) content
 
 pub no_spans : NoSpans
-no_spans context content off = never context.on is_span (no_span context.on off) (inlines context content) (may_stand context content)
+no_spans context content off = never_in context is_span (no_span context.options.constructs off) content
+
+pub no_strikethrough : NoStrikethrough
+no_strikethrough context content off = never_in context is_strikethrough (not_strikethrough context.options.constructs off) content
 
 pub no_links : NoLinks
-no_links context content off = never context.on is_link (no_link context.on off) (inlines context content) (may_stand context content)
+no_links context content off = never_in context is_link (no_link context.options.constructs off) content
 
 pub no_images : NoImages
-no_images context content off = never context.on is_image (no_image context.on off) (inlines context content) (may_stand context content)
+no_images context content off = never_in context is_image (no_image context.options.constructs off) content
 
 pub no_label_ends : NoLabelEnds
-no_label_ends context content off = never context.on is_labelled (no_labelled context.on off) (inlines context content) (may_stand context content)
+no_label_ends context content off = never_in context is_labelled (no_labelled context.options.constructs off) content

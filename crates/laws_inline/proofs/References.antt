@@ -5,12 +5,12 @@ use Rattle.std.proofs.lemmas.Bool.{cond_both, and_parts, or_from, not_from_true}
 use Rattle.definition_text.specs.Columns.{is_white}
 use Rattle.definition_text.specs.Content.{Part, before}
 use Rattle.definition_text.specs.InlineCode.{InlineCode, codes_of}
-use Rattle.definition_inline.specs.Inline.{Target, Reference, Inline, Data, Emphasis, Strong, Link, Image, Inlines, Leaf}
+use Rattle.definition_inline.specs.Inline.{Target, Reference, Inline, Data, Emphasis, Strong, Strikethrough, Link, Image, Inlines, Leaf}
 use Rattle.definition_inline.specs.Label.{label_at}
 use Rattle.definition_inline.specs.Resource.{LinkResource, resource_at}
 use Rattle.definition_inline.specs.LabelEnd.{Ended, ended, is_label_text, by_text, by_label, by_resource, label_end_at}
 use Rattle.definition_inline.specs.Attention.{Run, run_at}
-use Rattle.definition_inline.specs.Spans.{Token, Item, Delimiters, Span, IsEmphasis, IsStrong, spanned, emphasized}
+use Rattle.definition_inline.specs.Spans.{Token, Item, Delimiters, Span, IsEmphasis, IsStrong, IsStrikethrough, spanned, emphasized}
 use Rattle.definition_inline.specs.Scan.{InlineContext, leaf_at, LabelStart, LinkStart, ImageStart, label_start_at, start_bytes, start_tokens, may_form, label_part, Text, text, OpenLabel, Reading, reading, read_tokens, unformed, formed, Step, Next, data_step, ended_step, ended_by, label_end_step, last_step, label_step, run_step, leaf_step, step, and_then, scan, whole_text}
 use Rattle.laws_inline.specs.Occurs.{part_has, has}
 use Rattle.laws_inline.specs.References.{is_undefined, leads_nowhere, ReferencesAreDefined}
@@ -47,6 +47,7 @@ module _ (is_defined : List ℕ → Bool) where
   no_span : (span : Span) (kids : Inlines) → leads_nowhere is_defined (spanned span kids) ≡ false
   no_span IsEmphasis kids = refl
   no_span IsStrong kids = refl
+  no_span IsStrikethrough kids = refl
 
   abbrev IsSound : Token → Type 0
   IsSound t = Lacks (leads_nowhere is_defined) no_data no_span t
@@ -66,6 +67,7 @@ module _ (is_defined : List ℕ → Bool) where
   plain_leads : (i : Inline) → IsPlain i → part_has (leads_nowhere is_defined) i ≡ false
   plain_leads (Emphasis kids) h = absurd h
   plain_leads (Strong kids) h = absurd h
+  plain_leads (Strikethrough kids) h = absurd h
   plain_leads (Link target kids) h = absurd h
   plain_leads (Image target kids) h = absurd h
   plain_leads i h = refl
@@ -134,7 +136,7 @@ module _ (context : InlineContext) where
 
   sound_last : (code : ℕ) (content : List ℕ) (r : Reading) → Sound r → SoundStep (last_step context code content r)
   sound_last code content r p =
-      cond_both (context.on.label_end && (code == 93)) (label_end_step context content r.now r.open_labels) (data_step code r) SoundStep
+      cond_both (context.options.constructs.label_end && (code == 93)) (label_end_step context content r.now r.open_labels) (data_step code r) SoundStep
       (λ _. sound_label_end content r.now r.open_labels p.0 p.1)
       (λ _. sound_read context.is_defined (Item (Data code) ∷ []) r (refl, tt) p)
 
@@ -143,7 +145,7 @@ module _ (context : InlineContext) where
   sound_label code content r (Some start) p = (tt, (p.0, p.1))
 
   sound_run : (code : ℕ) (content : List ℕ) (r : Reading) (found : Option Run) → Sound r → SoundStep (run_step context code content r found)
-  sound_run code content r None p = sound_label code content r (label_start_at context.on content) p
+  sound_run code content r None p = sound_label code content r (label_start_at context.options.constructs content) p
   sound_run code content r (Some found) p = sound_read context.is_defined (Delimiters found ∷ []) r (tt, tt) p
 
   sound_leaf : (code : ℕ) (content : List ℕ) (r : Reading) (run : Option Run) (found : Option Leaf) → Sound r → PlainLeaf found
@@ -155,7 +157,7 @@ module _ (context : InlineContext) where
   sound_step : (r : Reading) (c : InlineCode) (cs : List InlineCode) → Sound r → SoundStep (step context r c cs)
   sound_step r c cs p =
       let content = codes_of (c ∷ cs) in
-      sound_leaf c.code content r (run_at context.on (c ∷ cs)) (leaf_at context content) p (plain_leaf context content)
+      sound_leaf c.code content r (run_at context.options (c ∷ cs)) (leaf_at context content) p (plain_leaf context content)
 
   sound_then : (s : Step) (rest : ℕ → Reading → Reading) → SoundStep s → ((k : ℕ) (r : Reading) → Sound r → Sound (rest k r)) → Sound (and_then s rest)
   sound_then (Next more r) rest p h = h more r p

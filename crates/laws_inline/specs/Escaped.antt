@@ -35,11 +35,15 @@ ends_with_space [] = false
 ends_with_space (b ∷ []) = b == 32
 ends_with_space (b ∷ next ∷ bs) = ends_with_space (next ∷ bs)
 
+-- the bytes of a line without tabs and without a space at either end
+abbrev pub IsTrimmedLine : List ℕ → Type 0
+IsTrimmedLine text = (list_all is_line_byte text ≡ true) × (begins_with_space text ≡ false) × (ends_with_space text ≡ false)
+
 -- a line without tabs and without a space at either end, escaped, prints itself as text, whatever stands beside it and whatever is on besides escapes
 abbrev pub EscapeLaw : Type 0
 EscapeLaw =
-    (context : InlineContext) (meaning : InlineMeaning) (content : List InlineCode) (text : List ℕ) → context.on.character_escape ≡ true
-    → list_all is_line_byte text ≡ true → begins_with_space text ≡ false → ends_with_space text ≡ false → codes_of content ≡ escaped text
+    (context : InlineContext) (meaning : InlineMeaning) (content : List InlineCode) (text : List ℕ)
+    → context.options.constructs.character_escape ≡ true → IsTrimmedLine text → codes_of content ≡ escaped text
     → inline_html meaning (inlines context content) ≡ encode text
 
 -- a byte

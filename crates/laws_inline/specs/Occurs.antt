@@ -2,7 +2,7 @@
 use Rattle.std.specs.Prelude.{◌≡◌, Bool, true, false, ◌||◌, List}
 use Rattle.markdown_options.specs.declared.configuration.Constructs.{Constructs}
 use Rattle.definition_text.specs.InlineCode.{InlineCode}
-use Rattle.definition_inline.specs.Inline.{Inline, Escape, Character, Code, Autolink, Html, EscapedBreak, TrailingBreak, Emphasis, Strong, Link, Image, Inlines, Nil, Cons}
+use Rattle.definition_inline.specs.Inline.{Inline, Escape, Character, Code, Math, Autolink, Html, EscapedBreak, TrailingBreak, Emphasis, Strong, Strikethrough, Link, Image, Inlines, Nil, Cons}
 use Rattle.definition_inline.specs.Scan.{InlineContext, inlines}
 
 -- whether one of these parts passes a test, at any depth
@@ -10,6 +10,7 @@ abbrev mutual
   pub part_has : (Inline → Bool) → Inline → Bool
   part_has test (Emphasis kids) = test (Emphasis kids) || has test kids
   part_has test (Strong kids) = test (Strong kids) || has test kids
+  part_has test (Strikethrough kids) = test (Strikethrough kids) || has test kids
   part_has test (Link target kids) = test (Link target kids) || has test kids
   part_has test (Image target kids) = test (Image target kids) || has test kids
   part_has test i = test i
@@ -21,7 +22,7 @@ abbrev mutual
 -- where this construct is off, no content has a part that passes this test
 abbrev pub Never : (Constructs → Bool) → (Inline → Bool) → Type 0
 Never construct test =
-    (context : InlineContext) (content : List InlineCode) → construct context.on ≡ false → has test (inlines context content) ≡ false
+    (context : InlineContext) (content : List InlineCode) → construct context.options.constructs ≡ false → has test (inlines context content) ≡ false
 
 -- ---- tests
 
@@ -39,6 +40,11 @@ is_character i = false
 abbrev pub is_code : Inline → Bool
 is_code (Code bytes) = true
 is_code i = false
+
+-- math (in neither standard)
+abbrev pub is_math : Inline → Bool
+is_math (Math bytes) = true
+is_math i = false
 
 -- an autolink (CommonMark 6.5)
 abbrev pub is_autolink : Inline → Bool
@@ -65,6 +71,11 @@ abbrev pub is_span : Inline → Bool
 is_span (Emphasis kids) = true
 is_span (Strong kids) = true
 is_span i = false
+
+-- strikethrough (GFM 6.5)
+abbrev pub is_strikethrough : Inline → Bool
+is_strikethrough (Strikethrough kids) = true
+is_strikethrough i = false
 
 -- a link (CommonMark 6.3)
 abbrev pub is_link : Inline → Bool
@@ -96,6 +107,10 @@ NoCharacters = Never (λ on. on.character_reference) is_character
 abbrev pub NoCode : Type 0
 NoCode = Never (λ on. on.code_text) is_code
 
+-- without math in texts none (in neither standard)
+abbrev pub NoMath : Type 0
+NoMath = Never (λ on. on.math_text) is_math
+
 -- without autolinks none (CommonMark 6.5)
 abbrev pub NoAutolinks : Type 0
 NoAutolinks = Never (λ on. on.autolink) is_autolink
@@ -115,6 +130,10 @@ NoTrailingBreaks = Never (λ on. on.hard_break_trailing) is_trailing_break
 -- without attention no emphasis and no strong emphasis (CommonMark 6.2)
 abbrev pub NoSpans : Type 0
 NoSpans = Never (λ on. on.attention) is_span
+
+-- without strikethrough none (GFM 6.5)
+abbrev pub NoStrikethrough : Type 0
+NoStrikethrough = Never (λ on. on.gfm_strikethrough) is_strikethrough
 
 -- without starts of links no link (CommonMark 6.3)
 abbrev pub NoLinks : Type 0

@@ -7,7 +7,8 @@ pub fn escape_law()
     ensures { EscapeLaw }
 {}
 
-/// A text in which no space or tab stands beside a line ending, with a backslash before each ASCII punctuation byte, gives itself back as a title, a destination or an info.
+/// A text in which no space or tab stands beside a line ending, with a backslash before each ASCII
+/// punctuation byte, gives itself back as a title, a destination or an info.
 #[tactic(auto, using(crate::proofs::EscapedString::string_escape_law))]
 pub fn string_escape_law()
     ensures { StringEscapeLaw }

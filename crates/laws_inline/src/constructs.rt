@@ -1,5 +1,6 @@
 //! A construct that is off never occurs, at any depth.
-ghost use Rattle.laws_inline.specs.Occurs.{NoEscapes, NoCharacters, NoCode, NoAutolinks, NoHtml, NoEscapedBreaks, NoTrailingBreaks, NoSpans, NoLinks, NoImages, NoLabelEnds};
+ghost use Rattle.laws_inline.specs.Occurs.{NoEscapes, NoCharacters, NoCode, NoMath, NoAutolinks, NoHtml, NoEscapedBreaks};
+ghost use Rattle.laws_inline.specs.Occurs.{NoTrailingBreaks, NoSpans, NoStrikethrough, NoLinks, NoImages, NoLabelEnds};
 
 /// Where backslash escapes are off, no content has one.
 #[tactic(auto, using(crate::proofs::Occurs::no_escapes))]
@@ -17,6 +18,12 @@ pub fn character_reference_law()
 #[tactic(auto, using(crate::proofs::Occurs::no_code))]
 pub fn code_text_law()
     ensures { NoCode }
+{}
+
+/// Where math in texts is off, no content has it.
+#[tactic(auto, using(crate::proofs::Occurs::no_math))]
+pub fn math_text_law()
+    ensures { NoMath }
 {}
 
 /// Where autolinks are off, no content has one.
@@ -47,6 +54,12 @@ pub fn hard_break_trailing_law()
 #[tactic(auto, using(crate::proofs::Occurs::no_spans))]
 pub fn attention_law()
     ensures { NoSpans }
+{}
+
+/// Where strikethrough is off, no content has it.
+#[tactic(auto, using(crate::proofs::Occurs::no_strikethrough))]
+pub fn gfm_strikethrough_law()
+    ensures { NoStrikethrough }
 {}
 
 /// Where starts of links are off, no content has a link.

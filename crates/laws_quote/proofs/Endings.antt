@@ -18,7 +18,7 @@ join-without_last (Cons b Nil) = join-alone (is_ending b) b
 join-without_last (Cons b (Cons c bs)) = ap (Cons b) (join-without_last (Cons c bs))
 
 -- that is nothing, or one ending
-at_last : (P : Blocks → Type 0) (bs : Blocks) → P Nil → ((b : Block) → is_ending b ≡ true → P (one b)) → P (last_of bs)
+pub at_last : (P : Blocks → Type 0) (bs : Blocks) → P Nil → ((b : Block) → is_ending b ≡ true → P (one b)) → P (last_of bs)
 at_last P Nil none some = none
 at_last P (Cons b Nil) none some = cond_both (is_ending b) (one b) Nil P (λ e. some b e) (λ _. none)
 at_last P (Cons b (Cons c bs)) none some = at_last P (Cons c bs) none some

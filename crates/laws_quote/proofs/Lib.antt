@@ -1,6 +1,6 @@
 mod Starting
 mod Grown
-mod Tabs
-mod Endings
+pub mod Tabs
+pub mod Endings
 pub mod Lines
 pub mod Quotes

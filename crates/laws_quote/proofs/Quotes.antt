@@ -1,13 +1,14 @@
 -- A text with `> ` before every line is a quote.
-use Rattle.std.proofs.Common.{◌≡◌, ℕ, zero, suc, List, [], ◌∷◌, true, refl, sym, ap, ◌∙◌}
-use Rattle.std.specs.Prelude.{map}
+use Rattle.std.proofs.Common.{◌≡◌, ℕ, zero, suc, List, [], ◌∷◌, None, ◌&&◌, true, false, refl, sym, ap, ◌∙◌}
+use Rattle.std.specs.Prelude.{if◌then◌else◌, map}
 use Rattle.std.specs.Fn.{iterate}
 use Rattle.markdown_options.specs.declared.configuration.Constructs.{Constructs}
 use Rattle.definition_text.specs.declared.beside.Kind.{Kind}
 use Rattle.definition_text.specs.declared.beside.Kind.TheVariants.{Whitespace}
 use Rattle.definition_block.specs.declared.container.Container.TheVariants.{Quote}
 use Rattle.definition_text.specs.Lines.{TextLine, lines}
-use Rattle.definition_block.specs.Tree.{join, without_last, last_of, holds, empty_tree, step, steps, closed, blocks}
+use Rattle.definition_block.specs.Frontmatter.{is_metadata_fence, after_metadata_fence, after_frontmatter}
+use Rattle.definition_block.specs.Tree.{join, without_last, last_of, holds, empty_tree, step, steps, closed, children, children_after, blocks}
 use Rattle.definition_block.specs.Definitions.{definitions}
 use Rattle.laws_quote.specs.Quoted.{marked_after_endings, quoted}
 use Rattle.laws_quote.specs.Laws.{quoted_line, quote_of, QuoteLaw, QuotesLaw, QuoteDefinitionsLaw}
@@ -16,7 +17,22 @@ use Rattle.laws_quote.proofs.Lines.{HasLine, lines_some, quoted_lines_law}
 use Rattle.laws_quote.proofs.Grown.{in_quote, step-quoted, steps-in_quote}
 use Rattle.laws_quote.proofs.Endings.{join-without_last, without_last-quote, last_of-quote, definitions-holds}
 
-module _ (on : Constructs) (quotes : on.block_quote ≡ true) where
+-- ---- without frontmatter the children of a document are those of all its lines
+
+after_frontmatter-off : (on : Constructs) (ls : List TextLine) → on.frontmatter ≡ false → after_frontmatter on ls ≡ None
+after_frontmatter-off on [] off = refl
+after_frontmatter-off on (line ∷ ls) off =
+    ap (λ matters.
+    if matters && is_metadata_fence 45 line.content then after_metadata_fence 45 ls
+    else (if matters && is_metadata_fence 43 line.content then after_metadata_fence 43 ls else None))
+    off
+
+blocks-children : (on : Constructs) (before : Kind) (text : List ℕ) → on.frontmatter ≡ false → blocks on before text ≡ children on before (lines text)
+blocks-children on before text off = ap (children_after on before (lines text)) (after_frontmatter-off on (lines text) off)
+
+-- ---- one quote
+
+module _ (on : Constructs) (quotes : on.block_quote ≡ true) (off : on.frontmatter ≡ false) where
   -- the tree of lines with `> ` before their contents
   lines_quote : (before : Kind) (ls : List TextLine) → HasLine ls → LinesTabless ls
       → steps on before empty_tree (map quoted_line ls) ≡ in_quote (steps on Whitespace empty_tree ls)
@@ -29,8 +45,10 @@ module _ (on : Constructs) (quotes : on.block_quote ≡ true) where
   text_quote : (before : Kind) (b : ℕ) (bs : List ℕ) → Tabless (b ∷ bs)
       → blocks on before (quoted (b ∷ bs)) ≡ holds Quote (blocks on Whitespace (b ∷ bs))
   text_quote before b bs no_tab =
-      ap (λ ls. closed on (steps on before empty_tree ls)) (quoted_lines_law (b ∷ bs))
+      blocks-children on before (quoted (b ∷ bs)) off
+      ∙ ap (children on before) (quoted_lines_law (b ∷ bs))
       ∙ ap (closed on) (lines_quote before (lines (b ∷ bs)) (lines_some b bs) (lines_tabless (b ∷ bs) no_tab))
+      ∙ sym (ap (holds Quote) (blocks-children on Whitespace (b ∷ bs) off))
 
   -- the same with `> ` n times
   text_quotes : (n b : ℕ) (bs : List ℕ) → Tabless (b ∷ bs)
@@ -50,12 +68,12 @@ module _ (on : Constructs) (quotes : on.block_quote ≡ true) where
   text_definitions before (b ∷ bs) no_tab = ap definitions (text_quote before b bs no_tab) ∙ definitions-holds (blocks on Whitespace (b ∷ bs))
 
 pub quote_law : QuoteLaw
-quote_law on before [] quotes some no_tab = absurd (some refl)
-quote_law on before (b ∷ bs) quotes some no_tab = text_quote on quotes before b bs (Tabless-from_All (b ∷ bs) no_tab)
+quote_law on before [] quotes off some no_tab = absurd (some refl)
+quote_law on before (b ∷ bs) quotes off some no_tab = text_quote on quotes off before b bs (Tabless-from_All (b ∷ bs) no_tab)
 
 pub quotes_law : QuotesLaw
-quotes_law on [] n quotes some no_tab = absurd (some refl)
-quotes_law on (b ∷ bs) n quotes some no_tab = text_quotes on quotes n b bs (Tabless-from_All (b ∷ bs) no_tab)
+quotes_law on [] n quotes off some no_tab = absurd (some refl)
+quotes_law on (b ∷ bs) n quotes off some no_tab = text_quotes on quotes off n b bs (Tabless-from_All (b ∷ bs) no_tab)
 
 pub quote_definitions_law : QuoteDefinitionsLaw
-quote_definitions_law on before text quotes no_tab = text_definitions on quotes before text (Tabless-from_All text no_tab)
+quote_definitions_law on before text quotes off no_tab = text_definitions on quotes off before text (Tabless-from_All text no_tab)

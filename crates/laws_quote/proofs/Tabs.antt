@@ -2,8 +2,8 @@
 use Rattle.std.proofs.Common.{◌≡◌, ℕ, ◌+◌, List, [], ◌∷◌, ◌++◌, Some, false, cond, eqb, refl, ap, ◌∙◌, drop, arith}
 use Rattle.std.specs.Prelude.{◌≢◌, replicate}
 use Rattle.std.specs.List.{All}
-use Rattle.std.proofs.lemmas.Bool.{cond-false, cond_both, ne_eqb}
-use Rattle.std.proofs.lemmas.List.Elements.{All-tail}
+use Rattle.std.proofs.lemmas.Bool.{cond-false, cond_both, ne_eqb, eqb-false}
+use Rattle.std.proofs.lemmas.List.Elements.{All-nil, All-cons, All-tail}
 use Rattle.markdown_options.specs.declared.line_ending.LineEnding.TheVariants.{CarriageReturnLineFeed, CarriageReturn, LineFeed}
 use Rattle.definition_text.specs.Lines.{TextLine, text_line, in_first_line, after_return, lines}
 use Rattle.definition_text.specs.Columns.{codes_from, tab_column, columns_after_tab}
@@ -17,6 +17,10 @@ Tabless (b ∷ bs) = (eqb b 9 ≡ false) × Tabless bs
 pub Tabless-from_All : (bs : List ℕ) → All (λ b. b ≢ 9) bs → Tabless bs
 Tabless-from_All [] p = tt
 Tabless-from_All (b ∷ bs) p = (ne_eqb b 9 (p 0 b (omega arith)), Tabless-from_All bs (All-tail (λ x. x ≢ 9) b bs p))
+
+pub Tabless-to_All : (bs : List ℕ) → Tabless bs → All (λ b. b ≢ 9) bs
+Tabless-to_All [] p = All-nil (λ b. b ≢ 9)
+Tabless-to_All (b ∷ bs) p = All-cons (λ x. x ≢ 9) b bs (eqb-false b 9 p.0) (Tabless-to_All bs p.1)
 
 -- the codes of such bytes are the bytes
 pub codes_from-Tabless : (column : ℕ) (bs : List ℕ) → Tabless bs → codes_from column bs ≡ bs

@@ -1,5 +1,5 @@
 -- The laws of a text with `> ` before every line.
-use Rattle.std.specs.Prelude.{◌≡◌, ◌≢◌, ℕ, true, List, [], ◌∷◌, map}
+use Rattle.std.specs.Prelude.{◌≡◌, ◌≢◌, ℕ, true, false, List, [], ◌∷◌, map}
 use Rattle.std.specs.List.{All}
 use Rattle.std.specs.Fn.{iterate}
 use Rattle.markdown_options.specs.declared.configuration.Constructs.{Constructs}
@@ -27,20 +27,21 @@ HasNoTab text = All (λ b. b ≢ 9) text
 abbrev pub quote_of : Blocks → Blocks
 quote_of kids = one (Holds Quote kids)
 
--- the blocks of a text are in one quote, where `> ` stands before every line, whatever character stands before that; the ending of the last line stands after it
+-- without frontmatter the blocks of a text are in one quote, where `> ` stands before every line, whatever character stands before that;
+-- the ending of the last line stands after it
 abbrev pub QuoteLaw : Type 0
 QuoteLaw =
-    (on : Constructs) (before : Kind) (text : List ℕ) → on.block_quote ≡ true → text ≢ [] → HasNoTab text
+    (on : Constructs) (before : Kind) (text : List ℕ) → on.block_quote ≡ true → on.frontmatter ≡ false → text ≢ [] → HasNoTab text
     → let kids = blocks on Whitespace text in blocks on before (quoted text) ≡ join (quote_of (without_last kids)) (last_of kids)
 
 -- the same where `> ` stands n times before every line: the blocks are in n quotes, one in another
 abbrev pub QuotesLaw : Type 0
 QuotesLaw =
-    (on : Constructs) (text : List ℕ) (n : ℕ) → on.block_quote ≡ true → text ≢ [] → HasNoTab text
+    (on : Constructs) (text : List ℕ) (n : ℕ) → on.block_quote ≡ true → on.frontmatter ≡ false → text ≢ [] → HasNoTab text
     → let kids = blocks on Whitespace text in blocks on Whitespace (iterate quoted n text) ≡ join (iterate quote_of n (without_last kids)) (last_of kids)
 
 -- the link reference definitions are the same in a quote
 abbrev pub QuoteDefinitionsLaw : Type 0
 QuoteDefinitionsLaw =
-    (on : Constructs) (before : Kind) (text : List ℕ) → on.block_quote ≡ true → HasNoTab text
+    (on : Constructs) (before : Kind) (text : List ℕ) → on.block_quote ≡ true → on.frontmatter ≡ false → HasNoTab text
     → definitions (blocks on before (quoted text)) ≡ definitions (blocks on Whitespace text)

@@ -7,7 +7,7 @@ pub fn quoted_lines_law()
     ensures { QuotedLinesLaw }
 {}
 
-/// Where block quotes are on, a text that has a byte and no tab, with `> ` before every line,
+/// Where block quotes are on and frontmatter is off, a text that has a byte and no tab, with `> ` before every line,
 /// is one quote: it holds the text's blocks, and the ending of the last line stands after it.
 #[tactic(auto, using(crate::proofs::Quotes::quote_law))]
 pub fn quote_law()

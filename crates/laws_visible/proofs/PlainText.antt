@@ -9,6 +9,8 @@ use Rattle.std.proofs.lemmas.List.Folds.{prefix_len-append}
 use Rattle.std.proofs.lemmas.List.Sums.{suffix_len-le-length}
 use Rattle.markdown_options.specs.declared.line_ending.LineEnding.{LineEnding}
 use Rattle.markdown_options.specs.declared.line_ending.LineEnding.TheVariants.{CarriageReturnLineFeed, CarriageReturn, LineFeed}
+use Rattle.markdown_options.specs.declared.configuration.Constructs.{Constructs}
+use Rattle.markdown_options.specs.declared.configuration.ParseOptions.{ParseOptions}
 use Rattle.markdown_options.specs.Defaults.{no_constructs}
 use Rattle.definition_text.specs.declared.beside.Kind.{Kind}
 use Rattle.definition_text.specs.declared.beside.Kind.TheVariants.{Whitespace}
@@ -77,9 +79,9 @@ parts_byte c cs is = ap (λ o. (or_byte c o).parts ++ parts ((or_byte c o).size 
 
 -- ---- the scan
 
-module _ (names : List ℕ → Option (List ℕ)) (is_defined : List ℕ → Bool) where
+module _ (options : ParseOptions) (names : List ℕ → Option (List ℕ)) (is_defined : List ℕ → Bool) where
   abbrev all_off : InlineContext
-  all_off = record { on = no_constructs; names = names; is_defined = is_defined }
+  all_off = record { options = record options { constructs = no_constructs }; names = names; is_defined = is_defined }
 
   plain_leaf : (c : ℕ) (cs : List ℕ) → leaf_at all_off (c ∷ cs) ≡ found_at (c ∷ cs)
   plain_leaf c [] = refl
@@ -120,12 +122,12 @@ module _ (meaning : InlineMeaning) where
   abbrev printed : List ℕ → List ℕ
   printed content = flat_map (part_html meaning) (parts 0 content)
 
-  html_of_codes : (names : List ℕ → Option (List ℕ)) (is_defined : List ℕ → Bool) (content : List InlineCode)
-      → inline_html meaning (inlines (all_off names is_defined) content) ≡ printed (bare (codes_of content))
-  html_of_codes names is_defined content =
+  html_of_codes : (options : ParseOptions) (names : List ℕ → Option (List ℕ)) (is_defined : List ℕ → Bool) (content : List InlineCode)
+      → inline_html meaning (inlines (all_off options names is_defined) content) ≡ printed (bare (codes_of content))
+  html_of_codes options names is_defined content =
       let start = prefix_len (λ (c : InlineCode). is_white c.code) content in
       let nothing : Reading = reading (text [] false) [] in
-      ap (λ r. inline_html meaning (emphasized (whole_text r).tokens)) (plain_scan names is_defined 0 nothing (drop start content))
+      ap (λ r. inline_html meaning (emphasized (whole_text r).tokens)) (plain_scan options names is_defined 0 nothing (drop start content))
       ∙ html_of_parts meaning (parts 0 (codes_of (drop start content)))
       ∙ ap printed (drop-codes_of start content ∙ ap (λ n. drop n (codes_of content)) (white_codes content))
 
@@ -381,7 +383,7 @@ same_codes line h =
     ∙ ap (λ x. x ++ map code_byte (ending_code line.ending)) (same_bytes line.codes h)
     ∙ ap (λ x. line.codes ++ x) (same_ending line.ending)
 
-content_codes : (is_punctuation : ℕ → Bool) (after : Kind) (ls : List BlockLine) → AreText ls → codes_of (inline_content is_punctuation after ls) ≡ content_of ls
+pub content_codes : (is_punctuation : ℕ → Bool) (after : Kind) (ls : List BlockLine) → AreText ls → codes_of (inline_content is_punctuation after ls) ≡ content_of ls
 content_codes is_punctuation after [] h = refl
 content_codes is_punctuation after (line ∷ others) h =
     map-append (λ (c : InlineCode). c.code) (line_content is_punctuation after line) (inline_content is_punctuation after others)
@@ -391,13 +393,16 @@ content_codes is_punctuation after (line ∷ others) h =
 
 -- ---- the text
 
+-- what a document's texts are read by, were these constructs on
+abbrev read_by : Document → Constructs → InlineContext
+read_by d on = record { options = record d.options.parse { constructs = on }; names = d.tables.names; is_defined = is_label_of d.definitions }
+
 -- where every construct is off, lines print what they hold, trimmed and encoded, with their endings
 pub text_is_plain : (d : Document) → d.options.parse.constructs ≡ no_constructs → (ls : List BlockLine) → AreText ls → text_of d ls ≡ plain_text ls
 text_is_plain d off ls h =
     let meaning = meaning_of d in
-    let is_defined = is_label_of d.definitions in
     let content = inline_content d.tables.is_punctuation Whitespace ls in
-    ap (λ on. inline_html meaning (inlines (record { on = on; names = d.tables.names; is_defined = is_defined }) content)) off
-    ∙ html_of_codes meaning d.tables.names is_defined content
+    ap (λ on. inline_html meaning (inlines (read_by d on) content)) off
+    ∙ html_of_codes meaning d.options.parse d.tables.names (is_label_of d.definitions) content
     ∙ ap (λ x. printed meaning (bare x)) (content_codes d.tables.is_punctuation Whitespace ls h)
     ∙ lines_printed meaning ls h

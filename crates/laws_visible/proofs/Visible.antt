@@ -18,7 +18,8 @@ use Rattle.definition_text.specs.Lines.{TextLine, text_line, in_first_line, afte
 use Rattle.definition_text.specs.Columns.{Rest, codes_from, whole, is_white, is_blank, is_byte, is_tab_column, bytes_of, block_codes, trimmed, tab_column, columns_after_tab}
 use Rattle.definition_text.specs.Encode.{replacement_character, encoded_byte, encode}
 use Rattle.definition_text.specs.BlockLines.{BlockLine, own_lines}
-use Rattle.definition_block.specs.Tree.{beside_line, Block, Paragraph, Ending, Blank, Blocks, Nil, Cons, join, one, Text, Opening, Leaf, Tree, tree, empty_tree, close_leaf, close, rest_line, grow, step, steps, closed, blocks}
+use Rattle.definition_block.specs.Tree.{beside_line, Block, Paragraph, Ending, Blank, Blocks, Nil, Cons, join, one, Text, Opening, Leaf, Tree, tree, empty_tree, close_leaf, close, rest_line, grow, step, steps, closed, children_after, blocks}
+use Rattle.definition_block.specs.Frontmatter.{after_frontmatter}
 use Rattle.definition_block.specs.Lists.{before, grouped_block, grouped}
 use Rattle.definition_page.specs.Pieces.{is_fresh}
 use Rattle.html_bytes.specs.Pieces.{Piece, Bytes, Fresh, print, layout}
@@ -466,6 +467,10 @@ steps_say before e (line ∷ next ∷ others) t said p q =
 
 -- ---- the page
 
+no_frontmatter : (ls : List TextLine) → after_frontmatter no_constructs ls ≡ None
+no_frontmatter [] = refl
+no_frontmatter (line ∷ others) = refl
+
 -- what is said at the end, by blocks that are text
 said_at_end : (ending : Option LineEnding) (t : Tree) (said : List ℕ) → TreeSays ending t said → said_in_blocks (closed no_constructs t) ≡ said
 said_at_end ending t said p =
@@ -499,7 +504,9 @@ page_shows tables options before text ending off p =
     let all = steps_say before LineFeed (lines text) empty_tree [] (record { done = tt; now = tt; says = refl }) p in
     let bs = closed no_constructs t in
     let d = document options tables (document_definitions bs) in
-    shows_alone (blocks_html tables options ending bs) (said_in_blocks bs)
+    let shown = λ (bs : Blocks). visible false (blocks_html tables options ending bs) in
+    ap (λ others. shown (children_after no_constructs before (lines text) others)) (no_frontmatter (lines text))
+    ∙ shows_alone (blocks_html tables options ending bs) (said_in_blocks bs)
     (document_shows d off (ending_bytes ending) bs (shows_ending ending) (text_at_end all.0 t said all.1))
     ∙ said_at_end all.0 t said all.1
 

@@ -1,5 +1,5 @@
--- The page of a text after its byte order mark is the page of the text.
-use Rattle.std.proofs.Common.{◌≡◌, ℕ, List, ap, sym, ◌∙◌}
+-- The page of a text after its byte order mark is the page of the text, and keeps the laws of pages.
+use Rattle.std.proofs.Common.{◌≡◌, ℕ, List, ap, sym, ◌∙◌, subst}
 use Rattle.markdown_options.specs.declared.configuration.Options.{Options}
 use Rattle.definition_text.specs.declared.beside.Kind.{Kind}
 use Rattle.definition_text.specs.Lines.{kind_before_text, without_mark}
@@ -7,6 +7,14 @@ use Rattle.markdown_definition.specs.Html.{html}
 use Rattle.markdown_definition.specs.TextTables.{TextTables}
 use Rattle.html_bytes.specs.Html.{marked_html}
 use Rattle.html_bytes.proofs.SamePage.{html_is}
+use Rattle.laws_safe_page.specs.SafeHtml.{AreSafe, HasOneReading}
+use Rattle.laws_safe_page.proofs.SafeHtml.{safe_page_law}
+use Rattle.laws_quote.specs.Quoted.{quoted}
+use Rattle.laws_quote_page.specs.Squeeze.{squeeze}
+use Rattle.laws_quote_page.proofs.Law.{quote_page_law}
+use Rattle.laws_escape.proofs.EscapedPage.{escaped_page_law}
+use Rattle.laws_inline.specs.Escaped.{escaped}
+use Rattle.markdown.specs.PageLaws.{QuotesPage, SaysEscapedLine}
 
 pub marked_page : (tables : TextTables) (options : Options) (text : List ℕ) (before : Kind) (rest page : List ℕ)
     → before ≡ kind_before_text text → rest ≡ without_mark text → page ≡ marked_html tables before rest options → page ≡ html tables text options
@@ -15,3 +23,16 @@ marked_page tables options text before rest page kind left is =
     ∙ ap (λ k. marked_html tables k rest options) kind
     ∙ ap (λ t. marked_html tables (kind_before_text text) t options) left
     ∙ sym (html_is tables text options)
+
+pub safe_page : (tables : TextTables) (options : Options) (text page : List ℕ) → page ≡ html tables text options → AreSafe options.compile
+    → HasOneReading page
+safe_page tables options text page is safe = subst HasOneReading (sym is) (safe_page_law tables text options safe)
+
+pub quotes_page : (tables : TextTables) (options : Options) (value page : List ℕ) → page ≡ html tables value options → QuotesPage tables options value page
+quotes_page tables options value page is text same quotable =
+    ap squeeze (is ∙ ap (λ t. html tables t options) same) ∙ quote_page_law tables text options quotable
+
+pub says_escaped_line : (tables : TextTables) (options : Options) (value page : List ℕ) → page ≡ html tables value options
+    → SaysEscapedLine options value page
+says_escaped_line tables options value page is line same escapes some trimmed no_mark =
+    is ∙ ap (λ t. html tables t options) same ∙ escaped_page_law tables line options escapes some trimmed no_mark

@@ -5,3 +5,4 @@ pub mod Transfer
 pub mod Tables
 pub mod Endings
 pub mod Statuses
+pub mod PageLaws

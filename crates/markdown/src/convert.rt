@@ -5,14 +5,16 @@ ghost use Rattle.markdown_options.specs.Messages.{IsOutOfMemory};
 ghost use Rattle.markdown_options.specs.Defaults.{default_options};
 ghost use Rattle.markdown_definition.specs.Html.{html};
 ghost use Rattle.html_bytes.specs.Html.{marked_html, default_ending};
+ghost use Rattle.laws_safe_page.specs.SafeHtml.{AreSafe, HasOneReading};
+ghost use Rattle.markdown.specs.PageLaws.{QuotesPage, SaysEscapedLine};
 ghost use Rattle.markdown_tables.specs.Builtin.{builtin_tables};
 ghost use Rattle.markdown_definition.specs.TextTables.{text_tables};
 
 use block_parser::block_rows;
 use block_targets::{definition_contents, document_definitions};
 use definition_text::Kind;
+use html_contents::Texts;
 use html_page::print_rows;
-use html_text::Texts;
 use markdown_options::{LineEnding, Message, Options, Tables};
 use markdown_tables::Builtin;
 use std::alloc::{AllocError, Allocator};
@@ -30,10 +32,15 @@ pub fn fits(value: &str) -> bool
 
 /// The HTML of a text, with the default options and the tables that are built in.
 ///
-/// The text fits. The only error is want of memory.
+/// The text fits. The only error is want of memory. The HTML is a safe page, and has one reading
+/// as such. A text with `> ` before every line gives the quote of that text's HTML, and an escaped
+/// line a paragraph that says it.
 pub fn to_html<A: Allocator + Clone>(alloc: A, value: &str) -> Result<String<A>, Message>
     requires size { length value.now ≤ SIZE_MAX }
     ensures page { IfOk result (λ page. string_bytes page ≡ html builtin_tables value.now default_options) }
+    ensures safe { IfOk result (λ page. HasOneReading (string_bytes page)) }
+    ensures quotes { IfOk result (λ page. QuotesPage builtin_tables default_options value.now (string_bytes page)) }
+    ensures escaped { IfOk result (λ page. SaysEscapedLine default_options value.now (string_bytes page)) }
     ensures memory { IfErr result (λ message. IsOutOfMemory message) }
 {
     to_html_with_options(alloc, value, &Options::default())
@@ -42,7 +49,9 @@ pub fn to_html<A: Allocator + Clone>(alloc: A, value: &str) -> Result<String<A>,
 /// The HTML of a text, with the tables that are built in.
 ///
 /// The text fits, and the options turn on only constructs that are built, which
-/// `ParseOptions::built` tests. The only error is want of memory.
+/// `ParseOptions::built` tests. The only error is want of memory. Under safe options the HTML is
+/// a safe page, and has one reading as such. A text with `> ` before every line gives the quote of
+/// that text's HTML, and an escaped line a paragraph that says it.
 pub fn to_html_with_options<A: Allocator + Clone>(
     alloc: A,
     value: &str,
@@ -51,6 +60,9 @@ pub fn to_html_with_options<A: Allocator + Clone>(
     requires size { length value.now ≤ SIZE_MAX }
     requires built { is_built options.now.parse.constructs ≡ true }
     ensures page { IfOk result (λ page. string_bytes page ≡ html builtin_tables value.now options.now) }
+    ensures safe { IfOk result (λ page. AreSafe options.now.compile → HasOneReading (string_bytes page)) }
+    ensures quotes { IfOk result (λ page. QuotesPage builtin_tables options.now value.now (string_bytes page)) }
+    ensures escaped { IfOk result (λ page. SaysEscapedLine options.now value.now (string_bytes page)) }
     ensures memory { IfErr result (λ message. IsOutOfMemory message) }
 {
     to_html_with_tables(alloc, value, options, &Builtin)
@@ -59,7 +71,9 @@ pub fn to_html_with_options<A: Allocator + Clone>(
 /// The HTML of a text, with tables of named references and punctuation.
 ///
 /// The text fits, and the options turn on only constructs that are built, which
-/// `ParseOptions::built` tests. The only error is want of memory.
+/// `ParseOptions::built` tests. The only error is want of memory. Under safe options the HTML is
+/// a safe page, and has one reading as such. A text with `> ` before every line gives the quote of
+/// that text's HTML, and an escaped line a paragraph that says it.
 pub fn to_html_with_tables<T: Tables, A: Allocator + Clone>(
     alloc: A,
     value: &str,
@@ -70,6 +84,10 @@ pub fn to_html_with_tables<T: Tables, A: Allocator + Clone>(
     requires built { is_built options.now.parse.constructs ≡ true }
     ensures page { IfOk result (λ page.
         string_bytes page ≡ html (text_tables (T.reference_of tables.now) (T.punctuation_of tables.now)) value.now options.now) }
+    ensures safe { IfOk result (λ page. AreSafe options.now.compile → HasOneReading (string_bytes page)) }
+    ensures quotes { IfOk result (λ page.
+        QuotesPage (text_tables (T.reference_of tables.now) (T.punctuation_of tables.now)) options.now value.now (string_bytes page)) }
+    ensures escaped { IfOk result (λ page. SaysEscapedLine options.now value.now (string_bytes page)) }
     ensures memory { IfErr result (λ message. IsOutOfMemory message) }
 {
     let (before, text) = without_mark(value);

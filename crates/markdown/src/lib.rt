@@ -14,6 +14,7 @@ mod watched;
 pub use command::program;
 pub use convert::{fits, to_html, to_html_with_options, to_html_with_tables};
 pub use entry::start;
+pub use html_safe_page::is_safe_page;
 pub use markdown_options::{
     CompileOptions, Constructs, LineEnding, LineEndingError, Message, Options, ParseOptions, Place,
     Tables, configuration, constants as constant, line_ending, message, unist,

@@ -1,23 +1,31 @@
 -- The options that a sum of flags asks for.
 use Rattle.std.specs.Prelude.{ℕ, Bool, nat_lt, ◌==◌, ◌/◌, ◌%◌, if◌then◌else◌, Option, Some, None}
+use Rattle.markdown_options.specs.declared.configuration.Constructs.{Constructs}
 use Rattle.markdown_options.specs.declared.configuration.Options.{Options}
 use Rattle.markdown_options.specs.Defaults.{no_constructs, default_constructs, default_parse_options, default_compile_options, default_options}
 
--- 1: HTML and every protocol are allowed
-abbrev pub has_dangerous : ℕ → Bool
-has_dangerous flags = flags % 2 == 1
+-- whether a flag, which is a power of two, is in a sum of flags
+abbrev pub has_flag : ℕ → ℕ → Bool
+has_flag flag flags = flags / flag % 2 == 1
 
--- 2: no construct is on
-abbrev pub has_plain : ℕ → Bool
-has_plain flags = flags / 2 % 2 == 1
+-- the constructs of a sum of flags; 2: none is on; 4: strikethrough; 8: math in a text and in blocks; 16: frontmatter
+abbrev pub flagged_constructs : ℕ → Constructs
+flagged_constructs flags =
+    if has_flag 2 flags then no_constructs
+    else record default_constructs {
+      gfm_strikethrough = has_flag 4 flags;
+      math_text = has_flag 8 flags;
+      math_flow = has_flag 8 flags;
+      frontmatter = has_flag 16 flags;
+    }
 
--- the defaults, with what these two flags change
-abbrev pub flagged_options : Bool → Bool → Options
-flagged_options dangerous plain = record default_options {
-  parse = record default_parse_options { constructs = if plain then no_constructs else default_constructs };
-  compile = record default_compile_options { allow_dangerous_html = dangerous; allow_dangerous_protocol = dangerous };
+-- the options of a sum of flags; 1: HTML and every protocol are allowed
+abbrev pub flagged_options : ℕ → Options
+flagged_options flags = record default_options {
+  parse = record default_parse_options { constructs = flagged_constructs flags };
+  compile = record default_compile_options { allow_dangerous_html = has_flag 1 flags; allow_dangerous_protocol = has_flag 1 flags };
 }
 
 -- none where there are other flags
 abbrev pub options_of : ℕ → Option Options
-options_of flags = if nat_lt flags 4 then Some (flagged_options (has_dangerous flags) (has_plain flags)) else None
+options_of flags = if nat_lt flags 32 then Some (flagged_options flags) else None

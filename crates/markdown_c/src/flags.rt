@@ -1,7 +1,7 @@
 //! The options that a sum of flags asks for.
-ghost use Rattle.std.specs.Prelude.{◌≡◌, IfSome, true};
+ghost use Rattle.std.specs.Prelude.{◌≡◌, ◌<◌, IfSome, true};
 ghost use Rattle.markdown_options.specs.Built.{is_built};
-ghost use Rattle.markdown_c.specs.Flags.{has_dangerous, has_plain, flagged_options, options_of};
+ghost use Rattle.markdown_c.specs.Flags.{flagged_constructs, flagged_options, has_flag, options_of};
 
 use markdown::{CompileOptions, Constructs, Options, ParseOptions};
 
@@ -11,47 +11,67 @@ const DANGEROUS: u32 = 1;
 /// Every construct is off.
 const PLAIN: u32 = 2;
 
+/// `~~a~~` is struck through (GFM 6.5).
+const STRIKETHROUGH: u32 = 4;
+
+/// `$a$` is math, and so is a block between fences of dollars.
+const MATH: u32 = 8;
+
+/// Metadata at the front of a text, between lines of `---` or `+++`, is skipped.
+const FRONTMATTER: u32 = 16;
+
+/// All flags together.
+const ALL: u32 = DANGEROUS + PLAIN + STRIKETHROUGH + MATH + FRONTMATTER;
+
 /// The options that a sum of flags asks for, if it has no others.
 pub(crate) fn options_of(flags: u32) -> Option<Options>
     ensures options { result ≡ options_of flags }
     ensures built { IfSome result (λ options. is_built options.parse.constructs ≡ true) }
 {
-    if flags > DANGEROUS + PLAIN {
+    if flags > ALL {
         return None;
     }
-    Some(flagged_options(has_dangerous(flags), has_plain(flags)))
+    Some(flagged_options(flags))
 }
 
-fn has_dangerous(flags: u32) -> bool
-    ensures { result ≡ has_dangerous flags }
+/// Whether a flag is in a sum of flags.
+fn has_flag(flag: u32, flags: u32) -> bool
+    requires { 0 < flag }
+    ensures { result ≡ has_flag flag flags }
 {
-    flags / DANGEROUS % 2 == 1
+    flags / flag % 2 == 1
 }
 
-fn has_plain(flags: u32) -> bool
-    ensures { result ≡ has_plain flags }
+/// The constructs that are on by default, and those of the flags; none with the flag for none.
+fn flagged_constructs(flags: u32) -> Constructs
+    ensures constructs { result ≡ flagged_constructs flags }
+    ensures built { is_built result ≡ true }
 {
-    flags / PLAIN % 2 == 1
+    if has_flag(PLAIN, flags) {
+        return Constructs::none();
+    }
+    Constructs {
+        gfm_strikethrough: has_flag(STRIKETHROUGH, flags),
+        math_text: has_flag(MATH, flags),
+        math_flow: has_flag(MATH, flags),
+        frontmatter: has_flag(FRONTMATTER, flags),
+        ..Constructs::default()
+    }
 }
 
-/// The default options, with what the two flags change.
-fn flagged_options(dangerous: bool, plain: bool) -> Options
-    ensures options { result ≡ flagged_options dangerous plain }
+/// The default options, with what the flags change.
+fn flagged_options(flags: u32) -> Options
+    ensures options { result ≡ flagged_options flags }
     ensures built { is_built result.parse.constructs ≡ true }
 {
-    let constructs = if plain {
-        Constructs::none()
-    } else {
-        Constructs::default()
-    };
     Options {
         parse: ParseOptions {
-            constructs,
+            constructs: flagged_constructs(flags),
             ..ParseOptions::default()
         },
         compile: CompileOptions {
-            allow_dangerous_html: dangerous,
-            allow_dangerous_protocol: dangerous,
+            allow_dangerous_html: has_flag(DANGEROUS, flags),
+            allow_dangerous_protocol: has_flag(DANGEROUS, flags),
             ..CompileOptions::default()
         },
     }

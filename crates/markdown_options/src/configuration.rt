@@ -157,19 +157,15 @@ impl Constructs {
         }
     }
 
-    /// Whether some of the extensions are on.
+    /// Whether some of the extensions are on that can't be read so far.
     fn has_extensions(&self) -> bool
         ensures { result ≡ has_extensions self.now }
     {
         self.gfm_autolink_literal
             || self.gfm_footnote_definition
             || self.gfm_label_start_footnote
-            || self.gfm_strikethrough
             || self.gfm_table
             || self.gfm_task_list_item
-            || self.frontmatter
-            || self.math_flow
-            || self.math_text
     }
 
     /// Whether some of the constructs of MDX are on.

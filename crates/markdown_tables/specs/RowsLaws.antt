@@ -1,30 +1,17 @@
 -- The names of rows that were read are lawful.
-use Rattle.std.proofs.Common.{◌≡◌, ℕ, ◌&&◌, true, List, Option, None, Some, length, refl, subst}
-use Rattle.std.specs.Prelude.{nat_lt, nat_le, String, string_bytes}
-use Rattle.std.specs.Char.{is_ascii_alphanumeric}
-use Rattle.std.specs.List.{list_all}
+use Rattle.std.proofs.Common.{◌≡◌, ℕ, true, List, Option, None, Some, length, refl, subst}
+use Rattle.std.specs.Prelude.{nat_lt, String, string_bytes}
 use Rattle.std.specs.Option.{option_map, option_or}
 use Rattle.std.specs.Str.{IsUtf8}
 use Rattle.std.specs.BTreeMap.{get_by_text}
-use Rattle.std.proofs.lemmas.Bool.{and_parts, leb-true, ltb-true}
+use Rattle.std.proofs.lemmas.Bool.{and_parts, ltb-true}
 use Rattle.std.proofs.lemmas.Str.{IsUtf8-string_bytes}
-use Rattle.markdown_options.specs.References.{IsReferenceName}
 use Rattle.definition_inline.specs.BuiltinReferences.{builtin_names}
-use Rattle.inline_references.specs.LawfulRows.{IsLawful, builtin_is_lawful}
+use Rattle.inline_references.specs.LawfulRows.{IsLawful, builtin_is_lawful, name_is_lawful}
 use Rattle.definition_inline.specs.ReferenceRows.{is_name}
 use Rattle.markdown_tables.specs.declared.rows.Rows.{Rows}
 use Rattle.markdown_tables.specs.NameTexts.{is_lawful}
 use Rattle.markdown_tables.specs.Rows.{names_of, texts_of}
-
-reference_name : (name : List ℕ) → is_name name ≡ true → IsReferenceName name
-reference_name name h =
-    let parts = and_parts (nat_le 1 (length name) && nat_le (length name) 31) (list_all is_ascii_alphanumeric name) h in
-    let sizes = and_parts (nat_le 1 (length name)) (nat_le (length name) 31) parts.0 in
-    record {
-      nonempty = leb-true 1 (length name) sizes.0;
-      bounded = leb-true (length name) 31 sizes.1;
-      alphanumeric = parts.1;
-    }
 
 -- a name of the caller's or a built-in one
 either : (own : Option (List ℕ)) (name text : List ℕ) → is_lawful name own ≡ true → ((t : List ℕ) → own ≡ Some t → IsUtf8 t)
@@ -34,7 +21,7 @@ either (Some t) name text lawful utf8 h =
     let is : t ≡ text = cc in
     let parts = and_parts (is_name name) (nat_lt 0 (length t)) lawful in
     subst (λ (x : List ℕ). IsLawful name x) is (record {
-      named = reference_name name parts.0;
+      named = name_is_lawful name parts.0;
       nonempty = ltb-true 0 (length t) parts.1;
       utf8 = utf8 t refl;
     })

@@ -10,6 +10,8 @@ mod code_indented;
 #[cfg(test)]
 mod definition;
 #[cfg(test)]
+mod frontmatter;
+#[cfg(test)]
 mod heading_atx;
 #[cfg(test)]
 mod heading_setext;
@@ -17,6 +19,8 @@ mod heading_setext;
 mod html_flow;
 #[cfg(test)]
 mod list_item;
+#[cfg(test)]
+mod math_flow;
 #[cfg(test)]
 mod paragraph;
 #[cfg(test)]

@@ -2,10 +2,13 @@
 ghost use Rattle.std.specs.Prelude.{◌≡◌, true};
 ghost use Rattle.markdown_options.specs.Built.{is_built};
 
-use markdown::{Builtin, Options, RunError, Watched, fits, run, to_html_with_options};
+use markdown::{
+    Builtin, Options, RunError, Watched, fits, is_safe_page, run, to_html_with_options,
+};
 use std::alloc::Global;
 
-/// The first text whose page isn't the one that stands beside it, by either call.
+/// The first text whose page isn't the one that stands beside it, by either call, or isn't safe
+/// under safe options.
 pub fn first_wrong<'a>(
     alloc: Global,
     rows: &[(&'a str, &str)],
@@ -18,11 +21,26 @@ pub fn first_wrong<'a>(
             return Ok(Some(text));
         }
         let page = to_html_with_options(alloc, text, options).map_err(|_| RunError::Memory)?;
-        if page.as_str() != *want || !runs_to(alloc, text, want, options)? {
+        if page.as_str() != *want
+            || !runs_to(alloc, text, want, options)?
+            || !is_safe(alloc, &page, options)?
+        {
             return Ok(Some(text));
         }
     }
     Ok(None)
+}
+
+/// Whether a page is safe, or is printed by options that aren't.
+fn is_safe(alloc: Global, page: &str, options: &Options) -> Result<bool, RunError> {
+    let compile = &options.compile;
+    if compile.allow_dangerous_html
+        || compile.allow_dangerous_protocol
+        || compile.allow_any_img_src
+    {
+        return Ok(true);
+    }
+    is_safe_page(alloc, page).map_err(|_| RunError::Memory)
 }
 
 /// Whether a text that is read is written as this page.

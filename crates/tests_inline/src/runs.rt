@@ -1,7 +1,17 @@
-//! Runs of `*` and `_`: what each becomes.
+//! Runs of `*`, `_` and `~`: what each becomes.
 use definition_text::Kind;
-use inline_runs::{Pairing, Run, Span, pair_runs, run_between};
+use inline_runs::{Pairing, Run, Span, pair_runs};
+use markdown_options::ParseOptions;
 use std::test::Fail;
+
+/// A run between characters of these kinds, where single tildes may form spans.
+fn run_between(marker: u8, size: usize, before: Kind, after: Kind) -> Run {
+    let options = ParseOptions {
+        gfm_strikethrough_single_tilde: true,
+        ..ParseOptions::default()
+    };
+    inline_runs::run_between(&options, marker, size, before, after)
+}
 
 /// A run that may open and close.
 fn both(marker: u8, size: usize) -> Run {
@@ -18,33 +28,34 @@ fn closing(marker: u8, size: usize) -> Run {
     run_between(marker, size, Kind::Other, Kind::Whitespace)
 }
 
-/// What runs become: for each span that ends `)`, of strong emphasis `]`, for each byte of text `.`,
-/// for each span that starts `(` or `[`, and a space after each run.
+/// What runs become: for each span that ends `)`, of strong emphasis `]` and of strikethrough `}`,
+/// for each byte of text `.`, for each span that starts `(`, `[` or `{`, and a space after each run.
 fn shape(rt: &HostRuntime, runs: &[Run]) -> Result<String, Fail> {
     let mut pairing = Pairing::new(rt.alloc())?;
     pair_runs(&[both(b'*', 3), both(b'*', 3)], &mut pairing)?;
     pair_runs(runs, &mut pairing)?;
     let mut shape = String::new(rt.alloc());
-    for place in 0..runs.len() {
+    for (place, run) in runs.iter().enumerate() {
         let spans = pairing.spans(place);
         for pair in spans.closed {
-            shape.push_str(mark(pair.span, ")", "]"))?;
+            shape.push_str(mark(pair.span(run.marker), [")", "]", "}"]))?;
         }
         for _ in 0..spans.text {
             shape.push_str(".")?;
         }
         for pair in spans.opened {
-            shape.push_str(mark(pair.span, "(", "["))?;
+            shape.push_str(mark(pair.span(run.marker), ["(", "[", "{"]))?;
         }
         shape.push_str(" ")?;
     }
     Ok(shape)
 }
 
-fn mark(span: Span, emphasis: &'static str, strong: &'static str) -> &'static str {
+fn mark(span: Span, marks: [&'static str; 3]) -> &'static str {
     match span {
-        Span::Emphasis => emphasis,
-        Span::Strong => strong,
+        Span::Emphasis => marks[0],
+        Span::Strong => marks[1],
+        Span::Strikethrough => marks[2],
     }
 }
 
@@ -79,6 +90,24 @@ fn crossing(rt: HostRuntime) -> Result<(), Fail> {
         closing(b'_', 1),
     ];
     assert_eq!(rt; shape(&rt, &runs)?.as_str(), "( . ) . ");
+    Ok(())
+}
+
+/// `~~a~~`, `~a~`, `~a~~`, `~~a ~b~~ c~` and `~~~a~~~`: runs of equal sizes, one or two.
+#[test]
+fn strikethrough(rt: HostRuntime) -> Result<(), Fail> {
+    let one = opening(b'~', 1);
+    let two = opening(b'~', 2);
+    let cases: [(&[Run], &str); 5] = [
+        (&[two, closing(b'~', 2)], "{ } "),
+        (&[one, closing(b'~', 1)], "{ } "),
+        (&[one, closing(b'~', 2)], ". .. "),
+        (&[two, one, closing(b'~', 2), closing(b'~', 1)], "{ . } . "),
+        (&[opening(b'~', 3), closing(b'~', 3)], "... ... "),
+    ];
+    for (runs, expected) in cases {
+        assert_eq!(rt; shape(&rt, runs)?.as_str(), expected);
+    }
     Ok(())
 }
 

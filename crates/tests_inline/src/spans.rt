@@ -3,9 +3,10 @@ use definition_text::Kind;
 use inline_rows::InlineRow;
 use inline_runs::{Pairing, Span, run_between};
 use inline_spans::tell_apart;
+use markdown_options::ParseOptions;
 use std::test::Fail;
 
-/// Each row as a mark: the start of a span `(` or `[`, the end of one `)`, or its text.
+/// Each row as a mark: the start of a span `(`, `[` or `{`, the end of one `)`, or its text.
 fn shape(rt: &HostRuntime, rows: &[InlineRow<'_>]) -> Result<String, Fail> {
     let mut shape = String::new(rt.alloc());
     for row in rows {
@@ -13,6 +14,7 @@ fn shape(rt: &HostRuntime, rows: &[InlineRow<'_>]) -> Result<String, Fail> {
             InlineRow::Text(text) => text,
             InlineRow::EnterSpan(Span::Emphasis) => "(",
             InlineRow::EnterSpan(Span::Strong) => "[",
+            InlineRow::EnterSpan(Span::Strikethrough) => "{",
             InlineRow::Exit => ")",
             _ => "?",
         })?;
@@ -36,10 +38,11 @@ fn strong_within_emphasis(rt: HostRuntime) -> Result<(), Fail> {
         star,
         star,
     ];
+    let options = ParseOptions::default();
     let runs = [
-        run_between(b'*', 3, Kind::Whitespace, Kind::Other),
-        run_between(b'*', 2, Kind::Other, Kind::Other),
-        run_between(b'*', 2, Kind::Other, Kind::Whitespace),
+        run_between(&options, b'*', 3, Kind::Whitespace, Kind::Other),
+        run_between(&options, b'*', 2, Kind::Other, Kind::Other),
+        run_between(&options, b'*', 2, Kind::Other, Kind::Whitespace),
     ];
     let mut pairing = Pairing::new(rt.alloc())?;
     tell_apart(&mut rows, &runs, &[1, 5, 8], &mut pairing)?;

@@ -5,7 +5,7 @@ use std::process::Abort;
 use tests_helpers::first_wrong;
 
 /// Texts of CommonMark 6, most of them its examples.
-const INLINE: [(&str, &str); 54] = [
+pub(crate) const INLINE: [(&str, &str); 54] = [
     (
         "\\*not emphasized*\n\\# not a heading",
         "<p>*not emphasized*\n# not a heading</p>",
@@ -153,7 +153,7 @@ const INLINE: [(&str, &str); 54] = [
 ];
 
 /// References whose definitions stand before and after them, and what they lead to.
-const REFERENCES: [(&str, &str); 18] = [
+pub(crate) const REFERENCES: [(&str, &str); 18] = [
     ("[a]\n\n[a]: b", "<p><a href=\"b\">a</a></p>\n"),
     (
         "> [a\n> b]\n\n[A B]: c",
@@ -211,7 +211,7 @@ const REFERENCES: [(&str, &str); 18] = [
 ];
 
 /// Inline constructs beside each other and in blocks.
-const BESIDE: [(&str, &str); 15] = [
+pub(crate) const BESIDE: [(&str, &str); 15] = [
     (
         "## Hi, *Saturn*! \u{1FA90}",
         "<h2>Hi, <em>Saturn</em>! \u{1FA90}</h2>",
@@ -254,7 +254,7 @@ fn prints_inline_constructs(rt: HostRuntime) -> Result<(), RunError> {
 }
 
 /// A byte order mark is a character of kind other before the first line.
-const MARKED: [(&str, &str); 13] = [
+pub(crate) const MARKED: [(&str, &str); 13] = [
     ("\u{FEFF}_a_", "<p>_a_</p>"),
     ("\u{FEFF}*a*", "<p><em>a</em></p>"),
     ("\u{FEFF} _a_", "<p><em>a</em></p>"),

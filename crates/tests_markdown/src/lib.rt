@@ -4,6 +4,8 @@
 #[cfg(test)]
 mod devices;
 #[cfg(test)]
+mod extensions;
+#[cfg(test)]
 mod inline;
 #[cfg(test)]
 mod labels;

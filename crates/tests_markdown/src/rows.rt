@@ -6,7 +6,7 @@ use markdown::{Builtin, Options, RunError, Watched, run};
 use tests_helpers::{first_wrong, plain};
 
 /// Texts and their HTML, with every construct off.
-const PLAIN: [(&str, &str); 20] = [
+pub(crate) const PLAIN: [(&str, &str); 20] = [
     ("", ""),
     ("\n", ""),
     ("a\n", "<p>a</p>\n"),
@@ -33,7 +33,7 @@ const PLAIN: [(&str, &str); 20] = [
 ];
 
 /// Texts and their HTML, with the leaf blocks that can be read so far.
-const LEAVES: [(&str, &str); 43] = [
+pub(crate) const LEAVES: [(&str, &str); 43] = [
     (
         "``` x y\na\n```",
         "<pre><code class=\"language-x\">a\n</code></pre>",
@@ -122,7 +122,7 @@ const LEAVES: [(&str, &str); 43] = [
 ];
 
 /// Four leaf blocks, and nothing else.
-fn leaves() -> Options
+pub(crate) fn leaves() -> Options
     ensures { is_built result.parse.constructs ≡ true }
 {
     let mut options = plain();

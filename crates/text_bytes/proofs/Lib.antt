@@ -1,1 +1,3 @@
+pub mod Ascii
 pub mod Somewhere
+pub mod Names

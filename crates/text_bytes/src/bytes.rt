@@ -1,17 +1,27 @@
 //! Texts in bytes.
-ghost use Rattle.std.specs.Prelude.{◌≡◌};
+ghost use Rattle.std.specs.Prelude.{◌≡◌, length, nat_le, true};
 ghost use Rattle.std.specs.List.{list_all, list_any};
-ghost use Rattle.definition_text.specs.Bytes.{is_space_or_tab, same_caselessly, holds, without_slash};
+ghost use Rattle.definition_text.specs.Bytes.{same_caselessly, holds, without_slash};
+ghost use Rattle.definition_text.specs.Columns.{is_white, is_blank};
+ghost use Rattle.definition_text.specs.Content.{is_space};
 
+/// A space or a tab (CommonMark 2.1).
 pub fn is_space_or_tab(byte: u8) -> bool
-    ensures { result ≡ is_space_or_tab byte }
+    ensures { result ≡ is_white byte }
 {
     byte == b' ' || byte == b'\t'
 }
 
+/// A space, a tab, or a byte of a line ending (CommonMark 2.1).
+pub fn is_space(byte: u8) -> bool
+    ensures { result ≡ is_space byte }
+{
+    matches!(byte, b' ' | b'\t' | b'\n' | b'\r')
+}
+
 /// Whether there are only spaces and tabs.
 pub fn is_blank(bytes: &[u8]) -> bool
-    ensures { result ≡ list_all is_space_or_tab bytes.now }
+    ensures { result ≡ is_blank bytes.now }
 {
     bytes.iter().all(|b| is_space_or_tab(*b))
 }
@@ -51,4 +61,12 @@ pub fn is_one_of(texts: &[&str], text: &[u8]) -> bool
     ensures { result ≡ list_any (λ n. same_caselessly n.now text.now) texts.now }
 {
     texts.iter().any(|n| same_caselessly(n.as_bytes(), text))
+}
+
+/// The same of texts that have at most so many bytes: a longer one is none of them.
+pub fn is_short_one_of(texts: &[&str], longest: usize, text: &[u8]) -> bool
+    requires { list_all (λ n. nat_le (length n.now) longest) texts.now ≡ true }
+    ensures { result ≡ list_any (λ n. same_caselessly n.now text.now) texts.now }
+{
+    text.len() <= longest && is_one_of(texts, text)
 }

@@ -1,25 +1,15 @@
 //! Spaces and tabs (CommonMark 2.1).
 ghost use Rattle.std.specs.Prelude.{◌≡◌, ◌-◌, drop, take, length};
-ghost use Rattle.std.specs.List.{list_all, prefix_len, suffix_len};
+ghost use Rattle.std.specs.List.{prefix_len, suffix_len};
 ghost use Rattle.definition_text.specs.Columns.{is_white, is_blank, whole, trimmed};
+
+use text_bytes::is_space_or_tab;
 
 /// Whether a text holds only spaces and tabs.
 pub fn is_blank(text: &str) -> bool
     ensures { result ≡ is_blank (whole text.now) }
 {
-    is_white(text.as_bytes())
-}
-
-fn is_white(bytes: &[u8]) -> bool
-    ensures { result ≡ list_all is_white bytes.now }
-{
-    bytes.iter().all(|b| is_space_or_tab(*b))
-}
-
-fn is_space_or_tab(byte: u8) -> bool
-    ensures { result ≡ is_white byte }
-{
-    byte == b' ' || byte == b'\t'
+    text_bytes::is_blank(text.as_bytes())
 }
 
 /// A text without the spaces and tabs at both ends.

@@ -3,7 +3,7 @@ use Rattle.std.specs.Str.{IsCharBoundary}
 use Rattle.std.specs.List.{position_or_len}
 use Rattle.std.proofs.lemmas.List.Sums.{prefix_len-le-length, passes_at_first}
 use Rattle.definition_text.specs.Columns.{is_white}
-use Rattle.text_lines.proofs.Ascii.{boundary_before, space_ascii}
+use Rattle.text_bytes.proofs.Ascii.{boundary_before, space_ascii}
 use Rattle.block_starts.proofs.code_fenced.word.Goals as goal
 
 pub range-requires-clause-end_boundary : goal.range-requires-clause-end_boundary

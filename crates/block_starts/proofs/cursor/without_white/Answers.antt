@@ -1,7 +1,7 @@
 use Rattle.std.proofs.Common.{get_or, arith}
 use Rattle.std.proofs.lemmas.List.Sums.{prefix_len_passes, prefix_len-le-length}
 use Rattle.definition_text.specs.Columns.{is_white}
-use Rattle.text_lines.proofs.Ascii.{boundary_after, space_ascii}
+use Rattle.text_bytes.proofs.Ascii.{boundary_after, space_ascii}
 use Rattle.block_starts.proofs.cursor.without_white.Goals as goal
 
 pub range_from-requires : goal.range_from-requires

@@ -5,7 +5,7 @@ use Rattle.std.proofs.lemmas.List.Concat.{flat_map-append}
 use Rattle.block_rows.specs.declared.row.Row.{Row}
 use Rattle.block_rows.specs.declared.row.Row.TheVariants.{Paragraph}
 use Rattle.definition_text.specs.BlockLines.{BlockLine}
-use Rattle.block_rows.specs.Rows.{BlockRow, Shown, row_definitions, row_shown, piece_lines, piece_line, shown, lines_taken}
+use Rattle.block_rows.specs.Rows.{BlockRow, RowsValue, row_definitions, row_value, piece_lines, piece_line, rows_value, row_size}
 use Rattle.block_rows.proofs.DefinitionRows.{definitions_of}
 use Rattle.block_rows.proofs.RowSteps.{shown_more, taken_more, left_more}
 use Rattle.block_targets.specs.Read.{HasContents}
@@ -23,24 +23,24 @@ loop-row-preserved g c =
     let i = c.loop-row.row-index in
     let row : Row = get_or rows i (Paragraph 0) in
     let all = piece_lines pieces in
-    let so_far = shown (take i rows) all in
+    let so_far = rows_value (take i rows) all in
     let k = c.loop-row.invariant in
     let more = shown_more rows all i (Paragraph 0) c.loop-row-test.true in
-    let rest : List BlockLine = piece_lines (take (length pieces - c.loop-row.taken) (drop c.loop-row.taken pieces)) in
-    let at : rest ≡ so_far.left = ap piece_lines (take_rest pieces c.loop-row.taken) ∙ sym k.left in
+    let rest : List BlockLine = piece_lines (take (length pieces - c.loop-row.at) (drop c.loop-row.at pieces)) in
+    let at : rest ≡ so_far.left = ap piece_lines (take_rest pieces c.loop-row.at) ∙ sym k.left in
     record {
       so_far =
           subst (HasContents c.row.new.self)
-          (ap (λ (ls : List BlockLine). flat_map row_definitions so_far.rows ++ row_definitions (row_shown row ls)) at
-          ∙ definitions_more so_far.rows (row_shown row so_far.left)
-          ∙ sym (ap (λ (s : Shown). flat_map row_definitions s.rows) more))
+          (ap (λ (ls : List BlockLine). flat_map row_definitions so_far.rows ++ row_definitions (row_value row ls)) at
+          ∙ definitions_more so_far.rows (row_value row so_far.left)
+          ∙ sym (ap (λ (s : RowsValue). flat_map row_definitions s.rows) more))
           (c.in_ok-row.ensures.read (flat_map row_definitions so_far.rows) k.so_far);
       left =
-          ap (λ (s : Shown). s.left) more
-          ∙ ap (drop (lines_taken row)) k.left
-          ∙ left_more piece_line (lines_taken row) c.loop-row.taken pieces
-          ∙ ap (λ n. piece_lines (drop (c.loop-row.taken + n) pieces)) (sym c.lines_taken-taken.ensures);
-      enough = omega (arith, k.enough, c.lines_taken-taken.ensures, taken_more rows i (Paragraph 0) c.loop-row-test.true);
+          ap (λ (s : RowsValue). s.left) more
+          ∙ ap (drop (row_size row)) k.left
+          ∙ left_more piece_line (row_size row) c.loop-row.at pieces
+          ∙ ap (λ n. piece_lines (drop (c.loop-row.at + n) pieces)) (sym c.size-at.ensures);
+      enough = omega (arith, k.enough, c.size-at.ensures, taken_more rows i (Paragraph 0) c.loop-row-test.true);
     }
 
 pub returns : goal.returns
@@ -49,5 +49,5 @@ returns g c = λ bs rows_are.
     let all = piece_lines c.args.pieces.now in
     let whole : take c.loop-row.row-index rows ≡ rows = take_all c.loop-row.row-index rows c.loop-row-test.false in
     subst (HasContents c.loop-row.contents)
-    (ap (λ (rs : List Row). flat_map row_definitions (shown rs all).rows) whole ∙ ap (flat_map row_definitions) rows_are ∙ definitions_of bs)
+    (ap (λ (rs : List Row). flat_map row_definitions (rows_value rs all).rows) whole ∙ ap (flat_map row_definitions) rows_are ∙ definitions_of bs)
     c.loop-row.invariant.so_far

@@ -1,13 +1,13 @@
 use Rattle.std.proofs.Common.{◌≡◌, ◌≤◌, ◌+◌, length, take, drop}
 use Rattle.std.specs.List.{flat_map}
-use Rattle.block_rows.specs.Rows.{all_taken, piece_lines, row_definitions, shown}
+use Rattle.block_rows.specs.Rows.{rows_size, piece_lines, row_definitions, rows_value}
 use Rattle.block_targets.specs.Read.{HasContents}
 use Rattle.block_targets.proofs.contents.definition_contents.Given as goal
 
 -- the definitions of the rows so far are there, and the others take their lines from those that are left
 abbrev pub invariant-loop-row : goal.invariant-loop-row
 invariant-loop-row g l = record {
-  so_far : HasContents l.contents (flat_map row_definitions (shown (take l.row-index l.rows) (piece_lines l.pieces)).rows);
-  left : (shown (take l.row-index l.rows) (piece_lines l.pieces)).left ≡ piece_lines (drop l.taken l.pieces);
-  enough : l.taken + all_taken (drop l.row-index l.rows) ≤ length l.pieces;
+  so_far : HasContents l.contents (flat_map row_definitions (rows_value (take l.row-index l.rows) (piece_lines l.pieces)).rows);
+  left : (rows_value (take l.row-index l.rows) (piece_lines l.pieces)).left ≡ piece_lines (drop l.at l.pieces);
+  enough : l.at + rows_size (drop l.row-index l.rows) ≤ length l.pieces;
 }

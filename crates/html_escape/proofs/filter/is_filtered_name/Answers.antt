@@ -3,4 +3,4 @@ use Rattle.html_escape.proofs.filter.is_filtered_name.Goals as goal
 
 pub returns : goal.returns
 unfolding filtered_names
-returns c = c.is_one_of.ensures
+returns c = c.is_short_one_of.ensures

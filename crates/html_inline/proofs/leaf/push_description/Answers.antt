@@ -12,8 +12,8 @@ returns-in-Escape g c =
     subst (λ (s : List ℕ). OnOk c.push_encoded.result (string_bytes c.push_encoded.new.out ≡ string_bytes c.args.out.now ++ s))
     (sym (ap (λ p. flat_map (part_description options) (parts_of p)) c.in-Escape.is ∙ escapes_described options c.in-Escape.text.now)) c.push_encoded.ensures
 
-pub returns-in-Backticks : goal.returns-in-Backticks
-returns-in-Backticks g c =
+pub returns-in-Unclosed : goal.returns-in-Unclosed
+returns-in-Unclosed g c =
     let options = c.args.compile.now in
-    subst (λ (s : List ℕ). OnOk c.push_encoded-in-Backticks.result (string_bytes c.push_encoded-in-Backticks.new.out ≡ string_bytes c.args.out.now ++ s))
-    (sym (ap (λ p. flat_map (part_description options) (parts_of p)) c.in-Backticks.is ∙ data_described options c.in-Backticks.text.now)) c.push_encoded-in-Backticks.ensures
+    subst (λ (s : List ℕ). OnOk c.push_encoded-in-Unclosed.result (string_bytes c.push_encoded-in-Unclosed.new.out ≡ string_bytes c.args.out.now ++ s))
+    (sym (ap (λ p. flat_map (part_description options) (parts_of p)) c.in-Unclosed.is ∙ data_described options c.in-Unclosed.text.now)) c.push_encoded-in-Unclosed.ensures

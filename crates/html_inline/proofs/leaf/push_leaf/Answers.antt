@@ -14,9 +14,9 @@ returns-in-Escape g c = λ definition.
     subst (λ (s : List ℕ). OnOk c.push_encoded.result (string_bytes c.push_encoded.new.out ≡ string_bytes c.args.out.now ++ s))
     (sym (ap (λ p. flat_map (part_html meaning) (parts_of p)) c.in-Escape.is ∙ escapes_html meaning c.in-Escape.text.now)) c.push_encoded.ensures
 
-pub returns-in-Backticks : goal.returns-in-Backticks
-returns-in-Backticks g c = λ definition.
+pub returns-in-Unclosed : goal.returns-in-Unclosed
+returns-in-Unclosed g c = λ definition.
     let p = c.args.printing.now in
     let meaning = inline_meaning p.on.now p.compile.now (g.T.Tables.reference_of p.tables.now) definition in
-    subst (λ (s : List ℕ). OnOk c.push_encoded-in-Backticks.result (string_bytes c.push_encoded-in-Backticks.new.out ≡ string_bytes c.args.out.now ++ s))
-    (sym (ap (λ p. flat_map (part_html meaning) (parts_of p)) c.in-Backticks.is ∙ data_html meaning c.in-Backticks.text.now)) c.push_encoded-in-Backticks.ensures
+    subst (λ (s : List ℕ). OnOk c.push_encoded-in-Unclosed.result (string_bytes c.push_encoded-in-Unclosed.new.out ≡ string_bytes c.args.out.now ++ s))
+    (sym (ap (λ p. flat_map (part_html meaning) (parts_of p)) c.in-Unclosed.is ∙ data_html meaning c.in-Unclosed.text.now)) c.push_encoded-in-Unclosed.ensures

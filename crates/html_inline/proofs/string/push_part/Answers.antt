@@ -13,8 +13,8 @@ returns-in-Escape g c =
     subst (λ (s : List ℕ). OnOk c.push_formed.result (string_bytes c.push_formed.new.out ≡ string_bytes c.args.out.now ++ formed c.args.form s))
     (sym (ap (λ p. flat_map strings.string_bytes (parts_of p)) c.in-Escape.is ∙ escape_texts text)) c.push_formed.ensures
 
-pub returns-in-Backticks : goal.returns-in-Backticks
-returns-in-Backticks g c =
-    let text = c.in-Backticks.text.now in
-    subst (λ (s : List ℕ). OnOk c.push_formed-in-Backticks.result (string_bytes c.push_formed-in-Backticks.new.out ≡ string_bytes c.args.out.now ++ formed c.args.form s))
-    (sym (ap (λ p. flat_map strings.string_bytes (parts_of p)) c.in-Backticks.is ∙ data_texts text)) c.push_formed-in-Backticks.ensures
+pub returns-in-Unclosed : goal.returns-in-Unclosed
+returns-in-Unclosed g c =
+    let text = c.in-Unclosed.text.now in
+    subst (λ (s : List ℕ). OnOk c.push_formed-in-Unclosed.result (string_bytes c.push_formed-in-Unclosed.new.out ≡ string_bytes c.args.out.now ++ formed c.args.form s))
+    (sym (ap (λ p. flat_map strings.string_bytes (parts_of p)) c.in-Unclosed.is ∙ data_texts text)) c.push_formed-in-Unclosed.ensures

@@ -2,7 +2,7 @@ use Rattle.std.proofs.Common.{◌≡◌, ◌+◌, ◌-◌, Some, sym, ap, ◌∙
 use Rattle.std.specs.List.{slice_get}
 use Rattle.std.proofs.lemmas.Option.{slice_get_within, get_or_from_slice_get}
 use Rattle.block_rows.specs.declared.row.Row.{Row}
-use Rattle.block_rows.specs.Rows.{row_shown, shown}
+use Rattle.block_rows.specs.Rows.{row_value, rows_value}
 use Rattle.html_page.specs.PrinterView.{is_blank_row}
 use Rattle.html_page.proofs.LastRow.{last_row}
 use Rattle.html_page.proofs.printer.ends_blank.Goals as goal
@@ -14,7 +14,7 @@ returns-in-Some c = λ ls.
     let row = c.in-Some.row.now in
     let read : slice_get rows i ≡ Some row = sym c.in-Some.ensures.value in
     let at : i + 1 ≡ length rows = omega (arith, slice_get_within rows i row read) in
-    let left = (shown (take i rows) ls).left in
+    let left = (rows_value (take i rows) ls).left in
     c.is_blank_ending.ensures left
-    ∙ ap (λ (r : Row). is_blank_row (row_shown r left)) (sym (get_or_from_slice_get rows i row row read))
+    ∙ ap (λ (r : Row). is_blank_row (row_value r left)) (sym (get_or_from_slice_get rows i row row read))
     ∙ sym (last_row rows ls i row at)

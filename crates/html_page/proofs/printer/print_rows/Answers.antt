@@ -8,7 +8,7 @@ use Rattle.block_rows.specs.declared.row.Row.TheVariants.{Paragraph}
 use Rattle.html_bytes.specs.Document.{document}
 use Rattle.definition_page.specs.TextTables.{text_tables}
 use Rattle.definition_text.specs.BlockLines.{BlockLine}
-use Rattle.block_rows.specs.Rows.{Shown, row_shown, piece_lines, piece_line, shown, lines_taken}
+use Rattle.block_rows.specs.Rows.{RowsValue, row_value, piece_lines, piece_line, rows_value, row_size}
 use Rattle.html_page.specs.Printable.{IsPrintableRow}
 use Rattle.html_page.specs.PrinterView.{PrinterView, print_row, print_all, blank_page, ends_blank_rows, rows_html, printer_view}
 use Rattle.html_bytes.specs.Pieces.{Fresh, print}
@@ -26,8 +26,8 @@ row-requires-clause-printable g c =
     let pieces = c.args.pieces.now in
     let i = c.loop-row.row-index in
     let row : Row = get_or rows i (Paragraph 0) in
-    subst (λ (ls : List BlockLine). IsPrintableRow (row_shown row ls))
-    (c.loop-row.invariant.left ∙ sym (ap piece_lines (take_rest pieces c.loop-row.taken)))
+    subst (λ (ls : List BlockLine). IsPrintableRow (row_value row ls))
+    (c.loop-row.invariant.left ∙ sym (ap piece_lines (take_rest pieces c.loop-row.at)))
     (printable_at rows (piece_lines pieces) i (Paragraph 0) c.loop-row-test.true c.requires.printable)
 
 pub loop-row-preserved : goal.loop-row-preserved
@@ -38,27 +38,27 @@ loop-row-preserved g c =
     let row : Row = get_or rows i (Paragraph 0) in
     let default = ending_bytes c.args.default_ending in
     let all = piece_lines pieces in
-    let start = blank_page (shown rows all).rows in
-    let so_far = shown (take i rows) all in
+    let start = blank_page (rows_value rows all).rows in
+    let so_far = rows_value (take i rows) all in
     let k = c.loop-row.invariant in
     let more = shown_more rows all i (Paragraph 0) c.loop-row-test.true in
-    let rest : List BlockLine = piece_lines (take (length pieces - c.loop-row.taken) (drop c.loop-row.taken pieces)) in
-    let at : rest ≡ so_far.left = ap piece_lines (take_rest pieces c.loop-row.taken) ∙ sym k.left in
+    let rest : List BlockLine = piece_lines (take (length pieces - c.loop-row.at) (drop c.loop-row.at pieces)) in
+    let at : rest ≡ so_far.left = ap piece_lines (take_rest pieces c.loop-row.at) ∙ sym k.left in
     record {
       same_default = c.in_ok-row.ensures.default ∙ k.same_default;
       printed = λ ds has.
           let d = document c.args.texts.now.options.now (text_tables (g.T.Tables.reference_of c.args.texts.now.tables.now) (g.T.Tables.punctuation_of c.args.texts.now.tables.now)) ds in
           c.in_ok-row.ensures.printed ds has
-          ∙ ap (λ (e : LineEnding). print_row d (ending_bytes e) (printer_view c.loop-row.printer) (row_shown row rest)) k.same_default
-          ∙ ap (λ (ls : List BlockLine). print_row d default (printer_view c.loop-row.printer) (row_shown row ls)) at
-          ∙ ap (λ (p : PrinterView). print_row d default p (row_shown row so_far.left)) (k.printed ds has)
-          ∙ sym (ap (λ (s : Shown). print_all d default start s.rows) more ∙ printed_more d default start so_far.rows (row_shown row so_far.left));
+          ∙ ap (λ (e : LineEnding). print_row d (ending_bytes e) (printer_view c.loop-row.printer) (row_value row rest)) k.same_default
+          ∙ ap (λ (ls : List BlockLine). print_row d default (printer_view c.loop-row.printer) (row_value row ls)) at
+          ∙ ap (λ (p : PrinterView). print_row d default p (row_value row so_far.left)) (k.printed ds has)
+          ∙ sym (ap (λ (s : RowsValue). print_all d default start s.rows) more ∙ printed_more d default start so_far.rows (row_value row so_far.left));
       left =
-          ap (λ (s : Shown). s.left) more
-          ∙ ap (drop (lines_taken row)) k.left
-          ∙ left_more piece_line (lines_taken row) c.loop-row.taken pieces
-          ∙ ap (λ n. piece_lines (drop (c.loop-row.taken + n) pieces)) (sym c.lines_taken.ensures);
-      enough = omega (arith, k.enough, c.lines_taken.ensures, taken_more rows i (Paragraph 0) c.loop-row-test.true);
+          ap (λ (s : RowsValue). s.left) more
+          ∙ ap (drop (row_size row)) k.left
+          ∙ left_more piece_line (row_size row) c.loop-row.at pieces
+          ∙ ap (λ n. piece_lines (drop (c.loop-row.at + n) pieces)) (sym c.size.ensures);
+      enough = omega (arith, k.enough, c.size.ensures, taken_more rows i (Paragraph 0) c.loop-row-test.true);
     }
 
 pub returns : goal.returns
@@ -67,13 +67,13 @@ returns g c = λ ds has bs rows_are can.
     let rows = c.args.rows.now in
     let all = piece_lines c.args.pieces.now in
     let default = ending_bytes c.args.default_ending in
-    let every = (shown rows all).rows in
+    let every = (rows_value rows all).rows in
     let start = blank_page every in
     let k = c.loop-row.invariant in
     let out = string_bytes c.loop-row.printer.page.html in
     let whole : take c.loop-row.row-index rows ≡ rows = take_all c.loop-row.row-index rows c.loop-row-test.false in
     let laid_out : out ≡ (print_all d default start every).out =
-    ap (λ (p : PrinterView). p.out) (k.printed ds has ∙ ap (λ (rs : List Row). print_all d default start (shown rs all).rows) whole) in
+    ap (λ (p : PrinterView). p.out) (k.printed ds has ∙ ap (λ (rs : List Row). print_all d default start (rows_value rs all).rows) whole) in
     let ends = λ (x : List ℕ) (blank : Bool). fold (print default) x (last_piece blank) in
     let ended : string_bytes c.if-ends_blank.printer.page.html ≡ ends out c.ends_blank.result = elim c.if-ends_blank.branch [
       | then-ends_blank+in_ok-fresh w ↦

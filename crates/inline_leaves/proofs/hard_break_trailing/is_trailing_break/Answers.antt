@@ -4,8 +4,8 @@ use Rattle.definition_inline.specs.HardBreak.{ends_inner_line}
 use Rattle.inline_leaves.proofs.HardBreakTrailingLemmas.{trailing_short, trailing_tab, trailing_spaces}
 use Rattle.inline_leaves.proofs.hard_break_trailing.is_trailing_break.Goals as goal
 
-pub returns-then-size-lt2 : goal.returns-then-size-lt2
-returns-then-size-lt2 c = sym (trailing_short c.args.bytes.now c.white_size-size.result c.white_size-size.ensures.size (omega arith))
+pub returns-then-size-lt-HARD_BREAK_PREFIX_SIZE_MIN : goal.returns-then-size-lt-HARD_BREAK_PREFIX_SIZE_MIN
+returns-then-size-lt-HARD_BREAK_PREFIX_SIZE_MIN c = sym (trailing_short c.args.bytes.now c.white_size-size.result c.white_size-size.ensures.size (omega arith))
 
 pub returns-then-not-are_spaces : goal.returns-then-not-are_spaces
 returns-then-not-are_spaces c =

@@ -32,7 +32,7 @@ loop-source-init g c =
       follows = λ ds has. record {
         now = scan.reading (scan.text [] false) [];
         shows = c.in_ok-new.ensures.nothing (leads_to (linked_by ds)) (linked_at ds);
-        same = ap (scan.scan (context_by c.args.on.now names ds) 0 (scan.reading (scan.text [] false) [])) (whole.first_view p content c.after_white.result.now
+        same = ap (scan.scan (context_by c.args.options.now names ds) 0 (scan.reading (scan.text [] false) [])) (whole.first_view p content c.after_white.result.now
             (subst (λ t. size_before t.now c.after_white.result.now ≡ prefix_len is_white (content_codes t.now)) c.text-2.ensures c.after_white.ensures.size));
       };
     }
@@ -64,6 +64,6 @@ returns g c ds has =
     let leads = leads_to (linked_by ds) in
     let f = c.loop-source.invariant.follows ds has in
     let none = no_bytes c.loop-source.scanner.rest.now (sym c.loop-source-test.ensures) in
-    let end = ap (scan.scan (context_by c.args.on.now names ds) 0 f.now) (sym (whole.last_view p content c.loop-source.scanner.rest.now none)) ∙ f.same in
+    let end = ap (scan.scan (context_by c.args.options.now names ds) 0 f.now) (sym (whole.last_view p content c.loop-source.scanner.rest.now none)) ∙ f.same in
     subst (λ r. IfOk c.finish.result (λ rows. rows_view (linked_at ds) rows.items ≡ inline_rows leads (emphasized (whole_text r).tokens))) end
     (c.finish.ensures.read leads (linked_at ds) f.now f.shows)

@@ -30,7 +30,7 @@ tell_run-requires g c =
     let count = c.loop-place.invariant.count in
     let size = part_size c.loop-place.rows (get_or c.args.slots.now place 0) (get_or runs place no_run).size (omega arith) in
     let needed = needed_at runs place no_run c.spans.result c.loop-place-test.true
-    (c.spans.ensures.closed (runs_view runs) paired) (c.spans.ensures.opened (runs_view runs) paired) (λ e. c.spans.ensures.rows (runs_view runs) e paired) in
+    (c.spans.ensures.closed (runs_view runs) paired) (c.spans.ensures.opened (runs_view runs) paired) (λ e. c.spans.ensures.rows (runs_view runs) paired e) in
     subst (λ n. rows_needed c.spans.result ≤ n) (sym size) needed
 
 pub loop-place-preserved : goal.loop-place-preserved
@@ -53,8 +53,8 @@ loop-place-preserved g c =
           (subst (λ n. length c.tell_run.new.rows ≡ length (take n (drop slot c.loop-place.rows))) same c.tell_run.ensures.length)
           (subst (λ n. AreBytes run.marker (length (take n (drop slot c.loop-place.rows))) (take n (drop slot c.loop-place.rows))
           → rows_view at c.tell_run.new.rows ≡ told_rows leads (run_rows (pairs (runs_view runs)) place (run_view run))) same
-          (λ bytes. c.tell_run.ensures.told leads at run.marker bytes
-          ∙ ap (told_rows leads) (rows_at runs place no_run c.spans.result c.loop-place-test.true (λ e. c.spans.ensures.rows (runs_view runs) e paired))))
+          (λ bytes. c.tell_run.ensures.told leads at bytes
+          ∙ ap (told_rows leads) (rows_at runs place no_run c.spans.result c.loop-place-test.true (λ e. c.spans.ensures.rows (runs_view runs) paired e))))
           (c.loop-place.invariant.told leads at outer inner tokens old container));
     }
 

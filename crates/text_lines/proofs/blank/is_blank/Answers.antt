@@ -5,4 +5,4 @@ use Rattle.text_lines.proofs.Codes.{blank_codes}
 use Rattle.text_lines.proofs.blank.is_blank.Goals as goal
 
 pub returns : goal.returns
-returns c = c.is_white.ensures ∙ ap (list_all is_white) c.as_bytes.ensures.value ∙ sym (blank_codes c.args.text.now)
+returns c = c.is_blank.ensures ∙ ap (list_all is_white) c.as_bytes.ensures.value ∙ sym (blank_codes c.args.text.now)

@@ -2,7 +2,7 @@ use Rattle.std.proofs.Common.{◌≡◌, ◌++◌, ◌∷◌, [], None, sym, ap,
 use Rattle.std.proofs.lemmas.Result.{on_ok_weaker}
 use Rattle.definition_text.specs.BlockLines.{spaced_line, own_lines}
 use Rattle.definition_block.specs.Tree.{Paragraph, Text}
-use Rattle.block_rows.specs.Rows.{whole_lines, piece_lines, piece_line, all_taken, Single}
+use Rattle.block_rows.specs.Rows.{whole_lines, piece_lines, piece_line, rows_size, Single}
 use Rattle.block_parser.proofs.Leaves as leaves
 use Rattle.std.proofs.lemmas.List.{take-map}
 use Rattle.block_parser.proofs.parser.Parser.close_whole.Goals as goal
@@ -15,11 +15,11 @@ returns-clause-read g c =
     let text = p.paragraph.now in
     let l = spaced_line text None in
     let front = take p.lines_in_rows p.pieces.items in
-    let cut : piece_lines c.truncate.new.self.items ≡ take (all_taken p.rows.rows.items) pool =
+    let cut : piece_lines c.truncate.new.self.items ≡ take (rows_size p.rows.rows.items) pool =
     ap piece_lines c.truncate.ensures.items ∙ sym (take-map piece_line p.lines_in_rows p.pieces.items) ∙ ap (λ n. take n pool) p.counted in
     let pushed = leaves.piece_pushed c.truncate.new.self.items c.whole.result c.push.new.self.items l c.in_ok-push.ensures.items c.whole.ensures.line in
     let w = leaves.whole_written p.rows.rows.items p.rows.waiting.items p.rows.bare pool around kids ls h.written l (leaves.enough_lines p) in
-    let mid = leaves.written_as p.rows.rows.items p.rows.rows.items p.rows.waiting.items p.rows.waiting.items p.rows.bare p.rows.bare (take (all_taken p.rows.rows.items) pool ++ l ∷ []) (piece_lines c.push.new.self.items) around kids (l ∷ []) (l ∷ [])
+    let mid = leaves.written_as p.rows.rows.items p.rows.rows.items p.rows.waiting.items p.rows.waiting.items p.rows.bare p.rows.bare (take (rows_size p.rows.rows.items) pool ++ l ∷ []) (piece_lines c.push.new.self.items) around kids (l ∷ []) (l ∷ [])
     refl refl refl (pushed ∙ ap (λ x. x ++ l ∷ []) cut) refl w in
     reads (Text (l ∷ [])) (Paragraph (own_lines ls))
     (ap (λ x. Single (Paragraph (own_lines x)) ∷ []) (is ∙ ap (whole_lines c.args.count) (sym c.whole.ensures.bytes))) refl

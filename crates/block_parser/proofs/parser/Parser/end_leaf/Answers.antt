@@ -1,7 +1,7 @@
 use Rattle.std.proofs.Common.{[], sym, ◌∙◌, refl, arith}
 use Rattle.std.proofs.lemmas.List.{length-map, drop_all}
 use Rattle.std.proofs.lemmas.Result.{on_ok_weaker}
-use Rattle.block_rows.specs.Rows.{piece_lines, piece_line, lines_taken}
+use Rattle.block_rows.specs.Rows.{piece_lines, piece_line, row_size}
 use Rattle.block_parser.specs.Shows.{leaf_lines}
 use Rattle.block_parser.proofs.Leaves as leaves
 use Rattle.block_parser.proofs.parser.Parser.end_leaf.Goals as goal
@@ -17,7 +17,7 @@ returns-clause-read g c =
       written = leaves.written_ended p.rows.rows.items p.rows.waiting.items p.rows.bare pool around kids (leaf_lines leaf) h.written c.args.row b c.args.ending p.rows.none is other
           c.ending.new.self.rows.items c.block.new.self.waiting.items c.ending.new.self.waiting.items c.ending.new.self.bare []
           (c.ending.ensures.rows ∙ c.in_ok-block.ensures.rows) c.in_ok-block.ensures.waiting waits (c.ending.ensures.bare ∙ c.in_ok-block.ensures.bare)
-          (sym (drop_all (lines_taken c.args.row) (leaf_lines leaf) (omega (arith, left, long, p.counted, p.pieces.ok.0, c.requires))));
+          (sym (drop_all (row_size c.args.row) (leaf_lines leaf) (omega (arith, left, long, p.counted, p.pieces.ok.0, c.requires))));
       opened = h.opened;
       same_state = refl;
     })

@@ -53,7 +53,7 @@ returns-in-Some g c =
     let not_code = ap (λ b. starts_code_indented on r && not b) (sym text_is) ∙ sym c.begins_code.ensures in
     let more = tree Nil (Leaf (Fenced (fence_view c.in-Some.fence) e.ending [])) in
     let k = c.in_ok-close_to-3.ensures.read around kids away deep clean h in
-    subst (λ (x : Tree). HasRead c.start_fenced.new.self (spine_after around kids x)) (sym (steps.fenced_leaf on away r e (sym c.is_blank.ensures ∙ c.if-is_blank.false) (not_code ∙ c.if-begins_code.false) (fence_view c.in-Some.fence) (sym c.fence_start.ensures ∙ ap fence_if c.in-Some.is)))
+    subst (λ (x : Tree). HasRead c.start_fenced.new.self (spine_after around kids x)) (sym (steps.fenced_leaf on away r e (sym c.is_blank.ensures ∙ c.if-is_blank.false) (not_code ∙ c.if-begins_code.false) (fence_view c.in-Some.fence) (sym c.opening_fence.ensures ∙ ap fence_if c.in-Some.is)))
     (closing.after_added on (HasRead c.start_fenced.new.self) around kids away more (adds around (join kids (close on away)) k)))
     c.start_fenced.ensures
 
@@ -68,7 +68,7 @@ returns-in-Some-html_start g c =
     let html_is = ap (λ b. html_start on b r) (sym text_is) ∙ sym c.html_start.ensures in
     let kind = number_of c.in-Some-html_start.kind in
     let k = c.in_ok-close_to-4.ensures.read around kids away deep clean h in
-    subst (λ (x : Tree). HasRead c.html_with.new.self (spine_after around kids x)) (sym (steps.html_leaf on away r e (sym c.is_blank.ensures ∙ c.if-is_blank.false) (not_code ∙ c.if-begins_code.false) (sym c.fence_start.ensures ∙ ap fence_if c.in_default.is) kind (html_is ∙ ap kind_number c.in-Some-html_start.is)))
+    subst (λ (x : Tree). HasRead c.html_with.new.self (spine_after around kids x)) (sym (steps.html_leaf on away r e (sym c.is_blank.ensures ∙ c.if-is_blank.false) (not_code ∙ c.if-begins_code.false) (sym c.opening_fence.ensures ∙ ap fence_if c.in_default.is) kind (html_is ∙ ap kind_number c.in-Some-html_start.is)))
     (closing.after_added on (HasRead c.html_with.new.self) around kids away (html_with kind [] r e) (adds (Text []) [] refl around (join kids (close on away)) k)))
     c.html_with.ensures
 
@@ -83,7 +83,7 @@ returns-in-Some-heading_atx g c =
     let html_is = ap (λ b. html_start on b r) (sym text_is) ∙ sym c.html_start.ensures in
     let more = tree (ended (Heading c.in-Some-heading_atx.atx.rank (spaced_line c.in-Some-heading_atx.atx.content.now None ∷ [])) e.ending) nothing in
     let k = c.in_ok-close_to-5.ensures.read around kids away deep clean h in
-    subst (λ (x : Tree). HasRead c.heading.new.self (spine_after around kids x)) (sym (steps.heading_leaf on away r e (sym c.is_blank.ensures ∙ c.if-is_blank.false) (not_code ∙ c.if-begins_code.false) (sym c.fence_start.ensures ∙ ap fence_if c.in_default.is) (html_is ∙ ap kind_number c.in_default-html_start.is) (Atx_of c.in-Some-heading_atx.atx.rank c.in-Some-heading_atx.atx.content.now) (sym c.heading_atx.ensures ∙ ap atx_if c.in-Some-heading_atx.is)))
+    subst (λ (x : Tree). HasRead c.heading.new.self (spine_after around kids x)) (sym (steps.heading_leaf on away r e (sym c.is_blank.ensures ∙ c.if-is_blank.false) (not_code ∙ c.if-begins_code.false) (sym c.opening_fence.ensures ∙ ap fence_if c.in_default.is) (html_is ∙ ap kind_number c.in_default-html_start.is) (Atx_of c.in-Some-heading_atx.atx.rank c.in-Some-heading_atx.atx.content.now) (sym c.heading_atx.ensures ∙ ap atx_if c.in-Some-heading_atx.is)))
     (closing.after_added on (HasRead c.heading.new.self) around kids away more (adds around (join kids (close on away)) k)))
     c.heading.ensures
 
@@ -98,7 +98,7 @@ returns-in-Some-2 g c =
     let not_code = ap (λ b. starts_code_indented on r && not b) (sym text_is) ∙ sym c.begins_code.ensures in
     let html_is = ap (λ b. html_start on b r) (sym text_is) ∙ sym c.html_start.ensures in
     let turned = c.in_ok-rank.ensures.turned around kids away e.ending deep clean h ∙ ap (λ o. heading_tree on o away e.ending) c.in-Some-2.is in
-    subst (λ (x : Tree). HasRead c.setext_heading.new.self (spine_after around kids x)) (sym (steps.turned_leaf on away r e (sym c.is_blank.ensures ∙ c.if-is_blank.false) (not_code ∙ c.if-begins_code.false) (sym c.fence_start.ensures ∙ ap fence_if c.in_default.is) (html_is ∙ ap kind_number c.in_default-html_start.is) (sym c.heading_atx.ensures ∙ ap atx_if c.in_default-heading_atx.is) (tree (heading_blocks on rank (text_here away) e.ending) nothing) turned))
+    subst (λ (x : Tree). HasRead c.setext_heading.new.self (spine_after around kids x)) (sym (steps.turned_leaf on away r e (sym c.is_blank.ensures ∙ c.if-is_blank.false) (not_code ∙ c.if-begins_code.false) (sym c.opening_fence.ensures ∙ ap fence_if c.in_default.is) (html_is ∙ ap kind_number c.in_default-html_start.is) (sym c.heading_atx.ensures ∙ ap atx_if c.in_default-heading_atx.is) (tree (heading_blocks on rank (text_here away) e.ending) nothing) turned))
     (steps.turned_here on (HasRead c.turns.new.self) (HasRead c.setext_heading.new.self) rank e.ending (λ around kids ls clean. reads ls clean around kids) around kids away (c.in_ok-rank.ensures.here rank around kids away deep h c.in-Some-2.is) clean (c.turns.ensures.kept (spine_at around kids away) h)))
     c.setext_heading.ensures
 
@@ -113,7 +113,7 @@ returns-then-is_break g c =
     let html_is = ap (λ b. html_start on b r) (sym text_is) ∙ sym c.html_start.ensures in
     let more = tree (ended Break e.ending) nothing in
     let k = c.in_ok-close_to-6.ensures.read around kids away deep clean (c.turns.ensures.kept (spine_at around kids away) h) in
-    subst (λ (x : Tree). HasRead c.thematic_break.new.self (spine_after around kids x)) (sym (steps.break_leaf on away r e (sym c.is_blank.ensures ∙ c.if-is_blank.false) (not_code ∙ c.if-begins_code.false) (sym c.fence_start.ensures ∙ ap fence_if c.in_default.is) (html_is ∙ ap kind_number c.in_default-html_start.is) (sym c.heading_atx.ensures ∙ ap atx_if c.in_default-heading_atx.is) (c.in_ok-rank.ensures.turned around kids away e.ending deep clean h ∙ ap (λ o. heading_tree on o away e.ending) c.in_default-2.is) (sym c.is_break.ensures ∙ c.if-is_break.true)))
+    subst (λ (x : Tree). HasRead c.thematic_break.new.self (spine_after around kids x)) (sym (steps.break_leaf on away r e (sym c.is_blank.ensures ∙ c.if-is_blank.false) (not_code ∙ c.if-begins_code.false) (sym c.opening_fence.ensures ∙ ap fence_if c.in_default.is) (html_is ∙ ap kind_number c.in_default-html_start.is) (sym c.heading_atx.ensures ∙ ap atx_if c.in_default-heading_atx.is) (c.in_ok-rank.ensures.turned around kids away e.ending deep clean h ∙ ap (λ o. heading_tree on o away e.ending) c.in_default-2.is) (sym c.is_break.ensures ∙ c.if-is_break.true)))
     (closing.after_added on (HasRead c.thematic_break.new.self) around kids away more (adds around (join kids (close on away)) k)))
     c.thematic_break.ensures
 
@@ -126,7 +126,7 @@ returns-then-paragraph g c =
     let text_is = c.has_text-paragraph.ensures (spine_at around kids away) h ∙ steps.has_text_at around kids away in
     let not_code = ap (λ b. starts_code_indented on r && not b) (sym text_is) ∙ sym c.begins_code.ensures in
     let html_is = ap (λ b. html_start on b r) (sym text_is) ∙ sym c.html_start.ensures in
-    subst (λ (x : Tree). HasRead c.text_line.new.self (spine_after around kids x)) (sym (steps.text_leaf on away r e (sym c.is_blank.ensures ∙ c.if-is_blank.false) (not_code ∙ c.if-begins_code.false) (sym c.fence_start.ensures ∙ ap fence_if c.in_default.is) (html_is ∙ ap kind_number c.in_default-html_start.is) (sym c.heading_atx.ensures ∙ ap atx_if c.in_default-heading_atx.is) (c.in_ok-rank.ensures.turned around kids away e.ending deep clean h ∙ ap (λ o. heading_tree on o away e.ending) c.in_default-2.is) (sym c.is_break.ensures ∙ c.if-is_break.false)))
+    subst (λ (x : Tree). HasRead c.text_line.new.self (spine_after around kids x)) (sym (steps.text_leaf on away r e (sym c.is_blank.ensures ∙ c.if-is_blank.false) (not_code ∙ c.if-begins_code.false) (sym c.opening_fence.ensures ∙ ap fence_if c.in_default.is) (html_is ∙ ap kind_number c.in_default-html_start.is) (sym c.heading_atx.ensures ∙ ap atx_if c.in_default-heading_atx.is) (c.in_ok-rank.ensures.turned around kids away e.ending deep clean h ∙ ap (λ o. heading_tree on o away e.ending) c.in_default-2.is) (sym c.is_break.ensures ∙ c.if-is_break.false)))
     (steps.goes_longer on (HasRead c.turns.new.self) (HasRead c.text_line.new.self) r e more around kids away (sym text_is ∙ c.if-paragraph.true) (c.turns.ensures.kept (spine_at around kids away) h)))
     c.text_line.ensures
 
@@ -140,6 +140,6 @@ returns g c =
     let not_code = ap (λ b. starts_code_indented on r && not b) (sym text_is) ∙ sym c.begins_code.ensures in
     let html_is = ap (λ b. html_start on b r) (sym text_is) ∙ sym c.html_start.ensures in
     let k = c.in_ok-close_to-7.ensures.read around kids away deep clean (c.turns.ensures.kept (spine_at around kids away) h) in
-    subst (λ (x : Tree). HasRead c.text_line-2.new.self (spine_after around kids x)) (sym (steps.text_leaf on away r e (sym c.is_blank.ensures ∙ c.if-is_blank.false) (not_code ∙ c.if-begins_code.false) (sym c.fence_start.ensures ∙ ap fence_if c.in_default.is) (html_is ∙ ap kind_number c.in_default-html_start.is) (sym c.heading_atx.ensures ∙ ap atx_if c.in_default-heading_atx.is) (c.in_ok-rank.ensures.turned around kids away e.ending deep clean h ∙ ap (λ o. heading_tree on o away e.ending) c.in_default-2.is) (sym c.is_break.ensures ∙ c.if-is_break.false)))
+    subst (λ (x : Tree). HasRead c.text_line-2.new.self (spine_after around kids x)) (sym (steps.text_leaf on away r e (sym c.is_blank.ensures ∙ c.if-is_blank.false) (not_code ∙ c.if-begins_code.false) (sym c.opening_fence.ensures ∙ ap fence_if c.in_default.is) (html_is ∙ ap kind_number c.in_default-html_start.is) (sym c.heading_atx.ensures ∙ ap atx_if c.in_default-heading_atx.is) (c.in_ok-rank.ensures.turned around kids away e.ending deep clean h ∙ ap (λ o. heading_tree on o away e.ending) c.in_default-2.is) (sym c.is_break.ensures ∙ c.if-is_break.false)))
     (steps.starts_text on (HasRead c.text_line-2.new.self) r e around kids away (sym text_is ∙ c.if-paragraph.false) (more around (join kids (close on away)) [] k)))
     c.text_line-2.ensures

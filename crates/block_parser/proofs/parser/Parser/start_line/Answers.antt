@@ -34,8 +34,8 @@ returns g c =
     let inner = beside_in s.container r e in
     let t = new_inside on inner s.rest in
     let holder = tree Nil (Inside s.container t.done t.now) in
-    let entered = c.in_ok-enter.ensures around kids2 (c.in_ok-close_to.ensures.read around kids away deep clean h) in
-    let inside = c.in_ok-inside.ensures (level s.container kids2 ∷ around) Nil entered in
+    let start_row = c.in_ok-enter.ensures around kids2 (c.in_ok-close_to.ensures.read around kids away deep clean h) in
+    let inside = c.in_ok-inside.ensures (level s.container kids2 ∷ around) Nil start_row in
     let q = c.enter_all.new.self in
     let deeper : c.len-depth.result ≡ length inside.inner = omega (arith, c.len-depth.ensures, q.open.ok.0, ap length inside.reads.opened, closing.length-containers inside.inner) in
     subst (λ (x : Tree). HasRead c.leaf_line-2.new.self (spine_after around kids x)) (sym (starting.new_some on e all away r s some))

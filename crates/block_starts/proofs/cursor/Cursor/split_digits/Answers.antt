@@ -4,7 +4,7 @@ use Rattle.std.specs.List.{prefix_len}
 use Rattle.std.proofs.lemmas.List.Sums.{prefix_len_passes, prefix_len-le-length}
 use Rattle.definition_text.specs.Columns.{codes_from}
 use Rattle.definition_block.specs.ListItem.{is_digit}
-use Rattle.text_lines.proofs.Ascii.{boundary_after}
+use Rattle.text_bytes.proofs.Ascii.{boundary_after}
 use Rattle.block_starts.specs.ThematicBreak.{BreaksWithin}
 use Rattle.block_starts.specs.View.{rest_of}
 use Rattle.block_starts.proofs.Views.{no_digits_owed, digits_taken, digits_dropped, digit_ascii, view_none}

@@ -4,12 +4,12 @@ use Rattle.std.proofs.lemmas.List.{take-map}
 use Rattle.std.proofs.lemmas.Result.{on_ok_weaker}
 use Rattle.block_rows.specs.declared.row.Row.{Row}
 use Rattle.definition_inline.specs.Definition.{Definition}
-use Rattle.block_rows.specs.Rows.{Single, definition_on, definition_shown, piece_line, piece_lines, row_definitions, row_shown}
+use Rattle.block_rows.specs.Rows.{Single, definition_on, definition_value, piece_line, piece_lines, row_definitions, row_value}
 use Rattle.block_targets.specs.Read.{HasContents, alone}
 use Rattle.block_targets.proofs.contents.DefinitionContents.row.Goals as goal
 
 -- a row of a definition stands for one
-one_alone : (o : Option Definition) → row_definitions (Single (definition_shown o)) ≡ alone o ∷ []
+one_alone : (o : Option Definition) → row_definitions (Single (definition_value o)) ≡ alone o ∷ []
 one_alone None = refl
 one_alone (Some d) = refl
 
@@ -21,6 +21,6 @@ returns-in-Definition g c = record {
       on_ok_weaker c.definition.result
       (subst (λ x. HasContents c.definition.new.self (ds ++ x))
       (ap (λ ls. alone (definition_on ls) ∷ []) (sym (take-map piece_line count lines)) ∙ sym (one_alone (definition_on (take count (map piece_line lines))))
-      ∙ ap (λ (r : Row). row_definitions (row_shown r (piece_lines lines))) (sym c.in-Definition.is)))
+      ∙ ap (λ (r : Row). row_definitions (row_value r (piece_lines lines))) (sym c.in-Definition.is)))
       (c.definition.ensures.read ds h);
 }

@@ -9,7 +9,7 @@ use Rattle.html_bytes.specs.Document.{document}
 use Rattle.block_rows.specs.ParagraphLines.{HaveNoEnding, AreLines}
 use Rattle.definition_page.specs.TextTables.{text_tables}
 use Rattle.html_bytes.specs.Html.{block_pieces}
-use Rattle.block_rows.specs.Rows.{whole_lines, row_shown, lines_taken, first_codes, piece_line, piece_lines}
+use Rattle.block_rows.specs.Rows.{whole_lines, row_value, row_size, first_codes, piece_line, piece_lines}
 use Rattle.html_page.specs.Levels.{row_pieces, is_document}
 use Rattle.html_page.specs.Prints.{layout_after}
 use Rattle.html_page.specs.Printable.{AreHeadingLines, IsPrintableRow}
@@ -28,8 +28,8 @@ returns-in-Paragraph-clause-printed g c = λ ds has.
     let lines = c.args.lines.now in
     let clean : AreLines (piece_lines (take c.in-Paragraph.count lines)) =
     with_ending _ (subst (λ (ls : List BlockLine). AreLines (own_lines ls)) (take-map piece_line c.in-Paragraph.count lines)
-    (subst (λ (row : Row). IsPrintableRow (row_shown row (piece_lines lines))) c.in-Paragraph.is c.requires.printable)) in
-    subst (λ (row : Row). OnOk c.paragraph.result (after ≡ layout_after page.default_ending before (row_pieces d c.args.level (row_shown row (piece_lines lines))))) (sym c.in-Paragraph.is)
+    (subst (λ (row : Row). IsPrintableRow (row_value row (piece_lines lines))) c.in-Paragraph.is c.requires.printable)) in
+    subst (λ (row : Row). OnOk c.paragraph.result (after ≡ layout_after page.default_ending before (row_pieces d c.args.level (row_value row (piece_lines lines))))) (sym c.in-Paragraph.is)
     (subst (λ (ls : List BlockLine). OnOk c.paragraph.result (after ≡ layout_after page.default_ending before (block_pieces d true c.args.level.tight false (Paragraph (own_lines ls)))))
     (sym (take-map piece_line c.in-Paragraph.count lines)) (c.paragraph.ensures.printed ds has clean))
 
@@ -42,9 +42,9 @@ returns-in-WholeParagraph-clause-printed g c = λ ds has.
     let lines = c.args.lines.now in
     let piece = get_or lines 0 no_piece in
     let count = c.in-WholeParagraph.count in
-    let some : 1 ≤ length lines = subst (λ (row : Row). lines_taken row ≤ length lines) c.in-WholeParagraph.is c.requires.enough in
+    let some : 1 ≤ length lines = subst (λ (row : Row). row_size row ≤ length lines) c.in-WholeParagraph.is c.requires.enough in
     let bytes : (k : ℕ) → get_or piece.text.now k 0 < 256 = c.whole_paragraph.ensures.bytes in
-    subst (λ (row : Row). OnOk c.whole_paragraph.result (after ≡ layout_after page.default_ending before (row_pieces d c.args.level (row_shown row (piece_lines lines))))) (sym c.in-WholeParagraph.is)
+    subst (λ (row : Row). OnOk c.whole_paragraph.result (after ≡ layout_after page.default_ending before (row_pieces d c.args.level (row_value row (piece_lines lines))))) (sym c.in-WholeParagraph.is)
     (subst (λ (text : List ℕ). OnOk c.whole_paragraph.result (after ≡ layout_after page.default_ending before (block_pieces d true c.args.level.tight false (Paragraph (own_lines (whole_lines count text))))))
     (sym (ap bytes_of (first_codes_of lines no_piece some) ∙ bytes_owed piece.owed piece.text.now bytes)) (c.whole_paragraph.ensures.printed ds has))
 
@@ -56,11 +56,11 @@ returns-in-Heading-clause-printed g c = λ ds has.
     let after = string_bytes c.heading_atx.new.self.html in
     let lines = c.args.lines.now in
     let fits : ((1 ≤ c.in-Heading.rank) × (c.in-Heading.rank ≤ 6)) × AreHeadingLines (own_lines (take 1 (piece_lines lines))) =
-    subst (λ (row : Row). IsPrintableRow (row_shown row (piece_lines lines))) c.in-Heading.is c.requires.printable in
-    let some : 1 ≤ length lines = subst (λ (row : Row). lines_taken row ≤ length lines) c.in-Heading.is c.requires.enough in
+    subst (λ (row : Row). IsPrintableRow (row_value row (piece_lines lines))) c.in-Heading.is c.requires.printable in
+    let some : 1 ≤ length lines = subst (λ (row : Row). row_size row ≤ length lines) c.in-Heading.is c.requires.enough in
     let front = first_line lines no_piece some in
     let clean = subst (λ (ls : List BlockLine). AreHeadingLines (own_lines ls)) front fits.1 in
-    subst (λ (row : Row). OnOk c.heading_atx.result (after ≡ layout_after page.default_ending before (row_pieces d c.args.level (row_shown row (piece_lines lines))))) (sym c.in-Heading.is)
+    subst (λ (row : Row). OnOk c.heading_atx.result (after ≡ layout_after page.default_ending before (row_pieces d c.args.level (row_value row (piece_lines lines))))) (sym c.in-Heading.is)
     (subst (λ (ls : List BlockLine). OnOk c.heading_atx.result (after ≡ layout_after page.default_ending before (block_pieces d true false false (Heading c.in-Heading.rank (own_lines ls)))))
     (sym front) (c.heading_atx.ensures.printed ds has clean))
 
@@ -72,10 +72,10 @@ returns-in-SetextHeading-clause-printed g c = λ ds has.
     let after = string_bytes c.heading_setext.new.self.html in
     let lines = c.args.lines.now in
     let fits : ((1 ≤ c.in-SetextHeading.rank) × (c.in-SetextHeading.rank ≤ 6)) × AreHeadingLines (own_lines (take c.in-SetextHeading.count (piece_lines lines))) =
-    subst (λ (row : Row). IsPrintableRow (row_shown row (piece_lines lines))) c.in-SetextHeading.is c.requires.printable in
+    subst (λ (row : Row). IsPrintableRow (row_value row (piece_lines lines))) c.in-SetextHeading.is c.requires.printable in
     let front = take-map piece_line c.in-SetextHeading.count lines in
     let clean = subst (λ (ls : List BlockLine). AreHeadingLines (own_lines ls)) front fits.1 in
-    subst (λ (row : Row). OnOk c.heading_setext.result (after ≡ layout_after page.default_ending before (row_pieces d c.args.level (row_shown row (piece_lines lines))))) (sym c.in-SetextHeading.is)
+    subst (λ (row : Row). OnOk c.heading_setext.result (after ≡ layout_after page.default_ending before (row_pieces d c.args.level (row_value row (piece_lines lines))))) (sym c.in-SetextHeading.is)
     (subst (λ (ls : List BlockLine). OnOk c.heading_setext.result (after ≡ layout_after page.default_ending before (block_pieces d true false false (Heading c.in-SetextHeading.rank (own_lines ls)))))
     (sym front) (c.heading_setext.ensures.printed ds has clean))
 
@@ -86,7 +86,7 @@ returns-in-Break-clause-printed g c = λ ds has.
     let before = string_bytes page.html in
     let after = string_bytes c.thematic_break.new.self.html in
     let lines = c.args.lines.now in
-    subst (λ (row : Row). OnOk c.thematic_break.result (after ≡ layout_after page.default_ending before (row_pieces d c.args.level (row_shown row (piece_lines lines))))) (sym c.in-Break.is)
+    subst (λ (row : Row). OnOk c.thematic_break.result (after ≡ layout_after page.default_ending before (row_pieces d c.args.level (row_value row (piece_lines lines))))) (sym c.in-Break.is)
     (c.thematic_break.ensures.printed d)
 
 pub returns-in-Html-clause-printed : goal.returns-in-Html-clause-printed
@@ -96,7 +96,7 @@ returns-in-Html-clause-printed g c = λ ds has.
     let before = string_bytes page.html in
     let after = string_bytes c.html_block.new.self.html in
     let lines = c.args.lines.now in
-    subst (λ (row : Row). OnOk c.html_block.result (after ≡ layout_after page.default_ending before (row_pieces d c.args.level (row_shown row (piece_lines lines))))) (sym c.in-Html.is)
+    subst (λ (row : Row). OnOk c.html_block.result (after ≡ layout_after page.default_ending before (row_pieces d c.args.level (row_value row (piece_lines lines))))) (sym c.in-Html.is)
     (subst (λ (ls : List BlockLine). OnOk c.html_block.result (after ≡ layout_after page.default_ending before (block_pieces d true false false (Html (own_lines ls)))))
     (sym (take-map piece_line c.in-Html.count lines)) c.html_block.ensures.printed)
 
@@ -107,7 +107,7 @@ returns-in-IndentedCode-clause-printed g c = λ ds has.
     let before = string_bytes page.html in
     let after = string_bytes c.indented_code.new.self.html in
     let lines = c.args.lines.now in
-    subst (λ (row : Row). OnOk c.indented_code.result (after ≡ layout_after page.default_ending before (row_pieces d c.args.level (row_shown row (piece_lines lines))))) (sym c.in-IndentedCode.is)
+    subst (λ (row : Row). OnOk c.indented_code.result (after ≡ layout_after page.default_ending before (row_pieces d c.args.level (row_value row (piece_lines lines))))) (sym c.in-IndentedCode.is)
     (subst (λ (ls : List BlockLine). OnOk c.indented_code.result (after ≡ layout_after page.default_ending before (block_pieces d true false false (IndentedCode (own_lines ls)))))
     (sym (take-map piece_line c.in-IndentedCode.count lines)) (c.indented_code.ensures.printed d))
 
@@ -120,12 +120,12 @@ returns-in-FencedCode-clause-printed g c = λ ds has.
     let lines = c.args.lines.now in
     let l = c.args.level in
     let count = c.in-FencedCode.count in
-    let enough : 1 + count ≤ length lines = subst (λ (row : Row). lines_taken row ≤ length lines) c.in-FencedCode.is c.requires.enough in
+    let enough : 1 + count ≤ length lines = subst (λ (row : Row). row_size row ≤ length lines) c.in-FencedCode.is c.requires.enough in
     let fits : (list_all is_byte (first_codes (piece_lines lines)) ≡ true) × HaveNoEnding (first_codes (piece_lines lines)) =
-    subst (λ (row : Row). IsPrintableRow (row_shown row (piece_lines lines))) c.in-FencedCode.is c.requires.printable in
+    subst (λ (row : Row). IsPrintableRow (row_value row (piece_lines lines))) c.in-FencedCode.is c.requires.printable in
     let bytes = fits.0 in
     let clear : HaveNoEnding (get_or lines 0 no_piece).text.now = subst HaveNoEnding (info_is lines (omega (arith, enough)) bytes) fits.1 in
-    subst (λ (row : Row). OnOk c.fenced_code.result (after ≡ layout_after page.default_ending before (row_pieces d c.args.level (row_shown row (piece_lines lines))))) (sym c.in-FencedCode.is)
+    subst (λ (row : Row). OnOk c.fenced_code.result (after ≡ layout_after page.default_ending before (row_pieces d c.args.level (row_value row (piece_lines lines))))) (sym c.in-FencedCode.is)
     (subst (λ x. OnOk c.fenced_code.result (after ≡ x)) (ap (λ (top : Bool). layout_after page.default_ending before (block_pieces d top false false (FencedCode (get_or lines 0 no_piece).text.now true (piece_lines (take count (take (length lines - 1) (drop 1 lines))))))) c.is_document-top.ensures
     ∙ fenced_laid d page.default_ending before (is_document l.holder) l.tight l.silent true count lines enough bytes) (c.fenced_code.ensures.printed ds clear))
 
@@ -138,11 +138,11 @@ returns-in-UnclosedCode-clause-printed g c = λ ds has.
     let lines = c.args.lines.now in
     let l = c.args.level in
     let count = c.in-UnclosedCode.count in
-    let enough : 1 + count ≤ length lines = subst (λ (row : Row). lines_taken row ≤ length lines) c.in-UnclosedCode.is c.requires.enough in
+    let enough : 1 + count ≤ length lines = subst (λ (row : Row). row_size row ≤ length lines) c.in-UnclosedCode.is c.requires.enough in
     let fits : (list_all is_byte (first_codes (piece_lines lines)) ≡ true) × HaveNoEnding (first_codes (piece_lines lines)) =
-    subst (λ (row : Row). IsPrintableRow (row_shown row (piece_lines lines))) c.in-UnclosedCode.is c.requires.printable in
+    subst (λ (row : Row). IsPrintableRow (row_value row (piece_lines lines))) c.in-UnclosedCode.is c.requires.printable in
     let bytes = fits.0 in
     let clear : HaveNoEnding (get_or lines 0 no_piece).text.now = subst HaveNoEnding (info_is lines (omega (arith, enough)) bytes) fits.1 in
-    subst (λ (row : Row). OnOk c.fenced_code-in-UnclosedCode.result (after ≡ layout_after page.default_ending before (row_pieces d c.args.level (row_shown row (piece_lines lines))))) (sym c.in-UnclosedCode.is)
+    subst (λ (row : Row). OnOk c.fenced_code-in-UnclosedCode.result (after ≡ layout_after page.default_ending before (row_pieces d c.args.level (row_value row (piece_lines lines))))) (sym c.in-UnclosedCode.is)
     (subst (λ x. OnOk c.fenced_code-in-UnclosedCode.result (after ≡ x)) (ap (λ (top : Bool). layout_after page.default_ending before (block_pieces d top false false (FencedCode (get_or lines 0 no_piece).text.now false (piece_lines (take count (take (length lines - 1) (drop 1 lines))))))) c.is_document-top.ensures
     ∙ fenced_laid d page.default_ending before (is_document l.holder) l.tight l.silent false count lines enough bytes) (c.fenced_code-in-UnclosedCode.ensures.printed ds clear))

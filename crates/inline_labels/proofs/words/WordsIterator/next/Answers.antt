@@ -16,7 +16,7 @@ returns-clause-steps c =
     let rest = c.without_white-label.result.now in
     let some : 0 < length rest = omega (arith, eqb-false (length rest) 0 (sym c.is_empty.ensures ∙ c.if-is_empty.false)) in
     first_word c.args.self.now.label.now rest c.without_white-label.ensures some
-    ∙ ap (λ n. take n rest ∷ words (drop n rest)) (sym c.word_len.ensures.len)
+    ∙ ap (λ n. take n rest ∷ words (drop n rest)) (sym c.word_size.ensures.size)
     ∙ ap₂ (λ word left. word ∷ words left) (sym c.split_at.ensures.front) (sym c.split_at.ensures.back)
 
 pub returns-clause-goes : goal.returns-clause-goes

@@ -25,7 +25,7 @@ cut_after-after-requires g c = follow.single_end c.args.self.now.rest.now c.requ
 pub ended-requires-clause-bracket : goal.ended-requires-clause-bracket
 ended-requires-clause-bracket g c =
     follow.with_first c.args.self.now.rest.now c.cut_after-after.result.now c.requires.some
-    (eqb-true (get_or c.args.self.now.rest.now 0 0) 93 (and_parts c.args.source.now.on.now.label_end (eqb (get_or c.args.self.now.rest.now 0 0) 93) c.requires.bracket).1) c.cut_after-after.ensures.rest
+    (eqb-true (get_or c.args.self.now.rest.now 0 0) 93 (and_parts c.args.source.now.options.now.constructs.label_end (eqb (get_or c.args.self.now.rest.now 0 0) 93) c.requires.bracket).1) c.cut_after-after.ensures.rest
 
 pub text-requires-clause-boundary : goal.text-requires-clause-boundary
 text-requires-clause-boundary g c = c.requires.first.boundary
@@ -51,7 +51,7 @@ returns-in_ok-form-in-Some-clause-placed g c =
 pub returns-in_ok-form-in-Some-clause-read : goal.returns-in_ok-form-in-Some-clause-read
 returns-in_ok-form-in-Some-clause-read g c ds final has f =
     let source = c.args.source.now in
-    let on = source.on.now in
+    let options = source.options.now in
     let names = g.T.Tables.reference_of source.tables.now in
     let p = g.T.Tables.punctuation_of source.tables.now in
     let rest = c.args.self.now.rest.now in
@@ -62,15 +62,15 @@ returns-in_ok-form-in-Some-clause-read g c ds final has f =
     let left = c.cut_after-after.ensures.rest in
     let there = subst (λ r. IsAfterEnd r found.after.now) left (follow.some_place c.in-Some.is c.in_ok-end.ensures.place) in
     let next = follow.end_next (drop 1 rest) found.after.now there in
-    let ended = subst (λ o. IsEnded (labels_of ds) c.cut_after-after.result.now o (ended_here (context_by on names ds) (content_codes rest) f.now.open_labels f.now.now)) c.in-Some.is
-    (c.in_ok-end.ensures.read leads at f.now on names ds has f.shows) in
-    let is = follow.found_is (labels_of ds) c.cut_after-after.result.now found (ended_here (context_by on names ds) (content_codes rest) f.now.open_labels f.now.now) ended in
-    let both = and_parts on.label_end (eqb (get_or rest 0 0) 93) c.requires.bracket in
+    let ended = subst (λ o. IsEnded (labels_of ds) c.cut_after-after.result.now o (ended_here (context_by options names ds) (content_codes rest) f.now.open_labels f.now.now)) c.in-Some.is
+    (c.in_ok-end.ensures.read leads at f.now options names ds has f.shows) in
+    let is = follow.found_is (labels_of ds) c.cut_after-after.result.now found (ended_here (context_by options names ds) (content_codes rest) f.now.open_labels f.now.now) ended in
+    let both = and_parts options.constructs.label_end (eqb (get_or rest 0 0) 93) c.requires.bracket in
     record {
       now = formed_in is.end.target f.now.open_labels f.now.now;
       shows = c.in_ok-form-in-Some.ensures.read leads at f.now is.end.target (target_leads ds found.target is.end.target is.as_end.target) f.shows;
       same =
-          follow.formed_follows on names p ds source.content rest found.after.now is.end f.now final place c.requires.no_leaf c.requires.no_run c.requires.no_start both.0 (eqb-true (get_or rest 0 0) 93 both.1)
+          follow.formed_follows options names p ds source.content rest found.after.now is.end f.now final place c.requires.no_leaf c.requires.no_run c.requires.no_start both.0 (eqb-true (get_or rest 0 0) 93 both.1)
           c.requires.first c.requires.some is.is (is.as_end.size ∙ ap (λ r. size_before r found.after.now) left) next f.same;
     }
 
@@ -88,24 +88,24 @@ returns-in-None-clause-placed g c =
 pub returns-in-None-clause-read : goal.returns-in-None-clause-read
 returns-in-None-clause-read g c ds final has f =
     let source = c.args.source.now in
-    let on = source.on.now in
+    let options = source.options.now in
     let names = g.T.Tables.reference_of source.tables.now in
     let p = g.T.Tables.punctuation_of source.tables.now in
     let rest = c.args.self.now.rest.now in
     let place = c.requires.placed.place in
     let leads = leads_to (linked_by ds) in
     let at = linked_at ds in
-    let ended = subst (λ o. IsEnded (labels_of ds) c.cut_after-after.result.now o (ended_here (context_by on names ds) (content_codes rest) f.now.open_labels f.now.now)) c.in-None.is
-    (c.in_ok-end.ensures.read leads at f.now on names ds has f.shows) in
-    let none = follow.none_is (labels_of ds) c.cut_after-after.result.now (ended_here (context_by on names ds) (content_codes rest) f.now.open_labels f.now.now) ended in
-    let both = and_parts on.label_end (eqb (get_or rest 0 0) 93) c.requires.bracket in
+    let ended = subst (λ o. IsEnded (labels_of ds) c.cut_after-after.result.now o (ended_here (context_by options names ds) (content_codes rest) f.now.open_labels f.now.now)) c.in-None.is
+    (c.in_ok-end.ensures.read leads at f.now options names ds has f.shows) in
+    let none = follow.none_is (labels_of ds) c.cut_after-after.result.now (ended_here (context_by options names ds) (content_codes rest) f.now.open_labels f.now.now) ended in
+    let both = and_parts options.constructs.label_end (eqb (get_or rest 0 0) 93) c.requires.bracket in
     on_ok c.text.result c.text.ensures.rest (c.text.ensures.read leads at (unformed_in f.now.open_labels f.now.now) (c.unform.ensures.read leads at f.now f.shows))
     (λ left shows.
     record {
       now = read_tokens (map (λ i. Item i) (map (λ b. Data b) (take 1 rest))) (unformed_in f.now.open_labels f.now.now);
       shows = shows;
       same =
-          ap (λ r. scan.scan (context_by on names ds) 0 (read_tokens (map (λ i. Item i) (map (λ b. Data b) (take 1 rest))) (unformed_in f.now.open_labels f.now.now)) (view_at p source.content r)) left
-          ∙ follow.nothing_follows on names p ds source.content rest f.now final place c.requires.no_leaf c.requires.no_run c.requires.no_start both.0 (eqb-true (get_or rest 0 0) 93 both.1)
+          ap (λ r. scan.scan (context_by options names ds) 0 (read_tokens (map (λ i. Item i) (map (λ b. Data b) (take 1 rest))) (unformed_in f.now.open_labels f.now.now)) (view_at p source.content r)) left
+          ∙ follow.nothing_follows options names p ds source.content rest f.now final place c.requires.no_leaf c.requires.no_run c.requires.no_start both.0 (eqb-true (get_or rest 0 0) 93 both.1)
           c.requires.first c.requires.some none f.same;
     })

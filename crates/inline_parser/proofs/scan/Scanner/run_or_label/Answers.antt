@@ -12,17 +12,17 @@ use Rattle.inline_parser.proofs.Follow.{on_ok}
 use Rattle.inline_parser.proofs.scan.Scanner.run_or_label.Goals as goal
 
 pub run-requires-clause-front : goal.run-requires-clause-front
-run-requires-clause-front g c = follow.run_front c.args.source.now.on.now c.args.self.now.rest.now c.in-Some.run' c.in-Some.ensures.front
+run-requires-clause-front g c = follow.run_front c.args.source.now.options.now c.args.self.now.rest.now c.in-Some.run' c.in-Some.ensures.front
 
 pub returns-in-Some-clause-shorter : goal.returns-in-Some-clause-shorter
 returns-in-Some-clause-shorter g c =
-    let front = follow.run_front c.args.source.now.on.now c.args.self.now.rest.now c.in-Some.run' c.in-Some.ensures.front in
+    let front = follow.run_front c.args.source.now.options.now c.args.self.now.rest.now c.in-Some.run' c.in-Some.ensures.front in
     follow.on_one c.run.result c.run.ensures.rest (λ left. follow.dropped c.args.self.now.rest.now _ c.in-Some.run'.size left front.end.some front.end.within)
 
 pub returns-in-Some-clause-read : goal.returns-in-Some-clause-read
 returns-in-Some-clause-read g c ds final has f =
     let source = c.args.source.now in
-    let on = source.on.now in
+    let options = source.options.now in
     let names = g.T.Tables.reference_of source.tables.now in
     let p = g.T.Tables.punctuation_of source.tables.now in
     let rest = c.args.self.now.rest.now in
@@ -36,6 +36,6 @@ returns-in-Some-clause-read g c ds final has f =
       now = read_tokens (Delimiters (run_view run) ∷ []) f.now;
       shows = shows;
       same =
-          ap (λ r. scan.scan (context_by on names ds) 0 (read_tokens (Delimiters (run_view run) ∷ []) f.now) (view_at p source.content r)) left
-          ∙ follow.run_follows on names p ds source.content rest run f.now final place c.requires.no_leaf c.in-Some.ensures.read c.in-Some.ensures.front f.same;
+          ap (λ r. scan.scan (context_by options names ds) 0 (read_tokens (Delimiters (run_view run) ∷ []) f.now) (view_at p source.content r)) left
+          ∙ follow.run_follows options names p ds source.content rest run f.now final place c.requires.no_leaf c.in-Some.ensures.read c.in-Some.ensures.front f.same;
     })

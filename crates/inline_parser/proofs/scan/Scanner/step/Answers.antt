@@ -29,7 +29,7 @@ text-requires-clause-next g c =
 pub returns-then-size-gt0-clause-read : goal.returns-then-size-gt0-clause-read
 returns-then-size-gt0-clause-read g c ds final has f =
     let source = c.args.source.now in
-    let on = source.on.now in
+    let options = source.options.now in
     let names = g.T.Tables.reference_of source.tables.now in
     let p = g.T.Tables.punctuation_of source.tables.now in
     let rest = c.args.self.now.rest.now in
@@ -44,8 +44,8 @@ returns-then-size-gt0-clause-read g c ds final has f =
       now = read_tokens (map (λ i. Item i) (map (λ b. Data b) (take n rest))) f.now;
       shows = shows;
       same =
-          ap (λ r. scan.scan (context_by on names ds) 0 (read_tokens (map (λ i. Item i) (map (λ b. Data b) (take n rest))) f.now) (view_at p source.content r)) left
-          ∙ follow.text_follows on names p ds source.content rest n f.now final place (omega (arith, c.text_size-size.ensures.within, ap length value))
+          ap (λ r. scan.scan (context_by options names ds) 0 (read_tokens (map (λ i. Item i) (map (λ b. Data b) (take n rest))) f.now) (view_at p source.content r)) left
+          ∙ follow.text_follows options names p ds source.content rest n f.now final place (omega (arith, c.text_size-size.ensures.within, ap length value))
           (subst (λ bs. (k : ℕ) → k < n → is_text_at (drop k (content_codes bs)) ≡ true) value c.text_size-size.ensures.text)
           (subst (λ bs. (k : ℕ) → k < n → get_or bs k 0 ≡ 13 → ⊥) value c.text_size-size.ensures.plain)
           (subst (λ bs. IsAfter bs (drop n bs)) value (c.text_size-size.ensures.ending c.if-size-gt0.true)) f.same;
@@ -59,13 +59,13 @@ run_or_label-requires-clause-first g c =
     let none = texts.nothing_is_text rest n (omega (arith, c.if-size-gt0.false)) c.requires.some
     (subst (λ bs. n < length bs → is_text_at (drop n (content_codes bs)) ≡ false) c.as_bytes.ensures.value c.text_size-size.ensures.stops) in
     follow.single_of rest (subst IsUtf8 c.as_bytes.ensures.value c.as_bytes.ensures.utf8) c.requires.some
-    (texts.special_byte source.on.now (g.T.Tables.reference_of source.tables.now) rest c.requires.some none
+    (texts.special_byte source.options.now (g.T.Tables.reference_of source.tables.now) rest c.requires.some none
     (sym c.in_ok-leaf.ensures.read ∙ ap (found_leaf rest) c.in-None.is))
 
 pub returns-in-Some-clause-read : goal.returns-in-Some-clause-read
 returns-in-Some-clause-read g c ds final has f =
     let source = c.args.source.now in
-    let on = source.on.now in
+    let options = source.options.now in
     let names = g.T.Tables.reference_of source.tables.now in
     let p = g.T.Tables.punctuation_of source.tables.now in
     let rest = c.args.self.now.rest.now in
@@ -79,8 +79,8 @@ returns-in-Some-clause-read g c ds final has f =
       now = read_tokens (map (λ i. Item i) (parts_of found.part)) f.now;
       shows = shows;
       same =
-          ap (λ r. scan.scan (context_by on names ds) 0 (read_tokens (map (λ i. Item i) (parts_of found.part)) f.now) (view_at p source.content r)) left
-          ∙ follow.leaf_follows on names p ds source.content rest found.after.now (parts_of found.part) f.now final place
+          ap (λ r. scan.scan (context_by options names ds) 0 (read_tokens (map (λ i. Item i) (parts_of found.part)) f.now) (view_at p source.content r)) left
+          ∙ follow.leaf_follows options names p ds source.content rest found.after.now (parts_of found.part) f.now final place
           (ap (found_leaf rest) (sym c.in-Some.is) ∙ c.in_ok-leaf.ensures.read)
           (subst (λ o. IfSome o (λ leaf. IsAfter rest leaf.after.now)) c.in-Some.is c.in_ok-leaf.ensures.place) f.same;
     })

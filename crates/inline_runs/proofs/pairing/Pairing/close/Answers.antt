@@ -2,7 +2,7 @@ use Rattle.std.proofs.Common.{◌≡◌, ℕ, List, ◌-◌, ◌≤◌, ◌<◌,
 use Rattle.definition_inline.specs.Pairing.{Placed as PlacedOf, is_eligible, taken_by, up_to_nearest}
 use Rattle.definition_inline.proofs.NearestOpener.{nearest_eligible}
 use Rattle.definition_inline.proofs.ClosingRuns.{takes_some, takes_left, takes_opener}
-use Rattle.inline_runs.specs.View.{span_bytes}
+use Rattle.inline_runs.specs.View.{bytes_by}
 use Rattle.inline_runs.specs.Floors.{placed_view, openers_view}
 use Rattle.inline_runs.proofs.pairing.Pairing.close.Goals as goal
 
@@ -21,7 +21,7 @@ without-requires g c =
     let opener = placed_view c.take-opener.result in
     let closer = placed_view c.args.closer in
     let may = nearest_may (openers_view c.args.self.now.openers) opener closer c.args.count c.requires.nearest c.requires.some (c.take-opener.ensures.opener closer) in
-    subst (λ n. n ≤ c.take-opener.result.run.size) (sym c.span_between-span.ensures) (takes_opener opener closer may)
+    subst (λ n. n ≤ c.take-opener.result.run.size) (sym c.is_double-double.ensures) (takes_opener opener closer may)
 
 pub open-requires : goal.open-requires
 open-requires g c = c.take-opener.ensures.known c.args.closer.place c.requires.sound.openers
@@ -31,7 +31,7 @@ without-requires-2 g c =
     let opener = placed_view c.take-opener.result in
     let closer = placed_view c.args.closer in
     let may = nearest_may (openers_view c.args.self.now.openers) opener closer c.args.count c.requires.nearest c.requires.some (c.take-opener.ensures.opener closer) in
-    subst (λ n. n ≤ c.args.closer.run.size) (sym c.span_between-span.ensures) (takes_left opener closer may)
+    subst (λ n. n ≤ c.args.closer.run.size) (sym c.is_double-double.ensures) (takes_left opener closer may)
 
 pub returns-clause-sound : goal.returns-clause-sound
 returns-clause-sound g c =
@@ -51,6 +51,6 @@ returns-clause-less g c =
     let may = nearest_may (openers_view c.args.self.now.openers) opener closer c.args.count c.requires.nearest c.requires.some (c.take-opener.ensures.opener closer) in
     let some = takes_some opener closer may in
     let within = takes_left opener closer may in
-    let bytes : span_bytes c.span_between-span.result ≡ taken_by opener closer = c.span_between-span.ensures in
-    let less : c.without-2.result.run.size ≡ c.args.closer.run.size - span_bytes c.span_between-span.result = ap (λ (p : PlacedOf). p.run.left) c.without-2.ensures in
+    let bytes : bytes_by c.is_double-double.result ≡ taken_by opener closer = c.is_double-double.ensures in
+    let less : c.without-2.result.run.size ≡ c.args.closer.run.size - bytes_by c.is_double-double.result = ap (λ (p : PlacedOf). p.run.left) c.without-2.ensures in
     omega arith

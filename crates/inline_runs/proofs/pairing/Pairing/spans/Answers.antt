@@ -23,7 +23,7 @@ returns-clause-opened g c = λ runs paired.
     opened_is runs ps s.opened.opened.items c.deref-2.result.now c.args.place l laid c.deref-2.ensures.value paired.pairs
 
 pub returns-clause-rows : goal.returns-clause-rows
-returns-clause-rows g c = λ runs d paired.
+returns-clause-rows g c = λ runs paired d.
     let s = c.args.self.now in
     let ps = s.pairs.pairs.items in
     let l = c.index-laid.result.now in

@@ -10,7 +10,7 @@ pub returns-clause-threaded : goal.returns-clause-threaded
 returns-clause-threaded g c =
     let s = c.args.self.now in
     let e = c.index_mut.result.now in
-    let p : Pair = record { opener = c.args.opener; closer = c.len.result; span = c.args.span; earlier = c.index.result.now.last_opened } in
+    let p : Pair = record { opener = c.args.opener; closer = c.len.result; double = c.args.double; earlier = c.index.result.now.last_opened } in
     let count : c.len-2.result ≡ length s.pairs.items + 1 =
     c.len-2.ensures ∙ c.push.new.self.ok.0 ∙ ap length c.in_ok-push.ensures.items ∙ length-append s.pairs.items (p ∷ []) in
     let earlier : p.earlier ≡ e.last_opened =

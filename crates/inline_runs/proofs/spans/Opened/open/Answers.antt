@@ -1,7 +1,6 @@
-use Rattle.std.proofs.Common.{◌≡◌, ◌-◌, ◌<◌, ◌≤◌, sym, subst, get_or, arith, length}
+use Rattle.std.proofs.Common.{◌≡◌, false, ◌-◌, ◌<◌, ◌≤◌, sym, subst, get_or, arith, length}
 use Rattle.std.proofs.lemmas.List.{get_or_default}
 use Rattle.inline_runs.specs.declared.pair.Pair.{Pair}
-use Rattle.inline_runs.specs.declared.pair.Span.TheVariants.{Emphasis}
 use Rattle.inline_runs.proofs.Opened.{IsOpened, one_opened, earlier_less}
 use Rattle.inline_runs.proofs.spans.Opened.open.Goals as goal
 
@@ -9,7 +8,7 @@ pub loop-left-preserved : goal.loop-left-preserved
 loop-left-preserved g c =
     let ps = c.args.pairs.now in
     let n = c.loop-left.left in
-    let p : Pair = get_or ps (n - 1) (record { opener = 0; closer = 0; span = Emphasis; earlier = 0 }) in
+    let p : Pair = get_or ps (n - 1) (record { opener = 0; closer = 0; double = false; earlier = 0 }) in
     let inside : n ≤ length ps = c.loop-left.invariant.within in
     let is : p ≡ get_or ps (n - 1) p = get_or_default ps (n - 1) _ p (omega arith) in
     let less : p.earlier < n = earlier_less p.opener ps n p c.requires.links c.loop-left-test.true inside is in

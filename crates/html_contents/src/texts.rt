@@ -1,0 +1,115 @@
+//! The texts of paragraphs, headings and info strings (CommonMark 4.2, 4.3, 4.5 and 4.8).
+ghost use Rattle.std.specs.Prelude.{◌≡◌, ◌++◌, ◌∷◌, [], List, OnOk, string_bytes};
+ghost use Rattle.html_bytes.specs.Document.{context_of, meaning_of, text_of, info_of};
+ghost use Rattle.definition_text.specs.Encode.{encode};
+ghost use Rattle.html_bytes.specs.InlineHtml.{inline_html};
+ghost use Rattle.definition_inline.specs.Definition.{Definition};
+ghost use Rattle.block_rows.specs.ParagraphLines.{HaveNoEnding, AreLines};
+ghost use Rattle.block_rows.specs.Rows.{piece_line, piece_lines, whole_lines};
+ghost use Rattle.definition_inline.specs.Scan.{inlines};
+ghost use Rattle.definition_text.specs.BlockLines.{own_lines};
+ghost use Rattle.inline_content.specs.View.{content_view};
+
+use crate::buffers::TextBuffers;
+use block_rows::Piece;
+use html_inline::{Printing, Scratch, push_encoded_string, push_rows};
+use inline_content::{Content, whole_content};
+use inline_labels::LabelTable;
+use inline_parser::inline_rows;
+use inline_rows::Linked;
+use markdown_options::{Options, Tables};
+use std::alloc::{AllocError, Allocator};
+
+/// What the texts of a document are read and printed by.
+#[derive(Drop)]
+pub struct Texts<'a, T, A: Allocator + Clone> {
+    pub options: &'a Options,
+    pub tables: &'a T,
+    /// The labels of the document's link reference definitions.
+    pub labels: &'a LabelTable<A>,
+    /// Where those lead, in the order of the text.
+    pub links: &'a [Linked<'a>],
+}
+
+impl<'a, T: Tables, A: Allocator + Clone> Texts<'a, T, A> {
+    ghost use Rattle.html_contents.specs.Texts.{HasDefinitions, document_by};
+
+    /// Prints the text of a paragraph's lines, or of a heading's, without the last ending
+    /// (CommonMark 4.3 and 4.8).
+    pub fn push_text(
+        &self,
+        out: &mut String<A>,
+        buffers: &mut TextBuffers<A>,
+        lines: &[Piece<'_>],
+    ) -> Result<(), AllocError>
+        ensures { (ds : List Definition) → HasDefinitions self.now.labels.now self.now.links.now ds → AreLines (piece_lines lines.now) →
+            OnOk result (string_bytes out.new ≡ string_bytes out.old ++ text_of (document_by T.Tables self.now ds) (own_lines (piece_lines lines.now))) }
+    {
+        let alloc = buffers.alloc.clone()?;
+        buffers.content.join(lines)?;
+        self.push_content(out, &mut buffers.scratch, alloc, buffers.content.content())
+    }
+
+    /// Prints the text of one line, which may be empty, without its ending (CommonMark 4.2).
+    pub fn push_line(
+        &self,
+        out: &mut String<A>,
+        buffers: &mut TextBuffers<A>,
+        line: &Piece<'_>,
+    ) -> Result<(), AllocError>
+        ensures { (ds : List Definition) → HasDefinitions self.now.labels.now self.now.links.now ds → HaveNoEnding (piece_line line.now).codes →
+            OnOk result (string_bytes out.new ≡ string_bytes out.old ++ text_of (document_by T.Tables self.now ds) (own_lines (piece_line line.now ∷ []))) }
+    {
+        let alloc = buffers.alloc.clone()?;
+        let lines = [*line];
+        buffers.content.join(&lines)?;
+        self.push_content(out, &mut buffers.scratch, alloc, buffers.content.content())
+    }
+
+    /// Prints the first lines of a text, so many, without the last ending (CommonMark 4.8).
+    pub fn push_whole(
+        &self,
+        out: &mut String<A>,
+        buffers: &mut TextBuffers<A>,
+        count: usize,
+        text: &str,
+    ) -> Result<(), AllocError>
+        ensures { (ds : List Definition) → HasDefinitions self.now.labels.now self.now.links.now ds →
+            OnOk result (string_bytes out.new ≡ string_bytes out.old ++ text_of (document_by T.Tables self.now ds) (own_lines (whole_lines count text.now))) }
+    {
+        let alloc = buffers.alloc.clone()?;
+        self.push_content(out, &mut buffers.scratch, alloc, whole_content(count, text))
+    }
+
+    /// Prints what an info string, which has no line ending, stands for (CommonMark 4.5).
+    pub fn push_info(&self, out: &mut String<A>, info: &str) -> Result<(), AllocError>
+        ensures { (ds : List Definition) → HaveNoEnding info.now →
+            OnOk result (string_bytes out.new ≡ string_bytes out.old ++ encode (info_of (document_by T.Tables self.now ds) info.now)) }
+    {
+        push_encoded_string(out, &self.options.parse.constructs, self.tables, info)
+    }
+
+    /// Prints the inline structure of a content (CommonMark 6).
+    fn push_content(
+        &self,
+        out: &mut String<A>,
+        scratch: &mut Scratch<A>,
+        alloc: A,
+        content: Content<'_>,
+    ) -> Result<(), AllocError>
+        ensures { (ds : List Definition) → HasDefinitions self.now.labels.now self.now.links.now ds →
+            let d = document_by T.Tables self.now ds in
+            let structure = inlines (context_of d) (content_view (T.punctuation_of self.now.tables.now) content.entry) in
+            OnOk result (string_bytes out.new ≡ string_bytes out.old ++ inline_html (meaning_of d) structure) }
+    {
+        let parse = &self.options.parse;
+        let rows = inline_rows(alloc, parse, self.tables, self.labels, content)?;
+        let printing = Printing {
+            on: &parse.constructs,
+            compile: &self.options.compile,
+            tables: self.tables,
+            definitions: self.links,
+        };
+        push_rows(out, scratch, &printing, rows.as_slice())
+    }
+}

@@ -1,0 +1,103 @@
+-- What is closed, with another ending in place of each LF.
+use Rattle.std.proofs.Common.{◌≡◌, List, [], ◌∷◌, false, cond, ◌&&◌, refl, ap, ◌∙◌}
+use Rattle.markdown_options.specs.declared.line_ending.LineEnding.{LineEnding}
+use Rattle.markdown_options.specs.declared.configuration.Constructs.{Constructs}
+use Rattle.definition_block.specs.declared.container.Container.{Container}
+use Rattle.definition_block.specs.declared.container.Container.TheVariants.{Quote, Item}
+use Rattle.definition_block.specs.Definitions.{Cut, cut}
+use Rattle.definition_block.specs.Tree.{BlockLine, last_ending, own_lines, Block, Paragraph, Heading, Break, IndentedCode, FencedCode, Html, Definition, Holds, Items, Ending, Blank, Blocks, Nil, Cons, join, one, ended}
+use Rattle.definition_block.specs.Tree.{OpenLeaf, Text, Indented, Fenced, OpenHtml, Opening, Leaf, Inside, blanks, paragraph_of, with_paragraph, close_leaf, is_ending, all_endings, front, trailing, without_last, last_of, holds, close}
+use Rattle.laws_endings.specs.Endings.{if_ending_with, lines_with, block_with, blocks_with}
+use Rattle.laws_endings.proofs.Codes.{cond-under}
+use Rattle.laws_endings.proofs.Cuts.{last_ending_or-with, last_ending-with, own_lines-with, cut_with, join-with, cut-with}
+use Rattle.laws_endings.proofs.Openings.{leaf_with, opening_with}
+
+module _ (e : LineEnding) where
+  -- a block made of lines, and the ending of its last one
+  ended-with : (make : List BlockLine → Block) → ((ls : List BlockLine) → make (lines_with e ls) ≡ block_with e (make ls)) → (ls : List BlockLine)
+      → ended (make (own_lines (lines_with e ls))) (last_ending (lines_with e ls)) ≡ blocks_with e (ended (make (own_lines ls)) (last_ending ls))
+  ended-with make same ls =
+      ap (λ own. ended (make own) (last_ending (lines_with e ls))) (own_lines-with e ls)
+      ∙ ap (λ b. ended b (last_ending (lines_with e ls))) (same (own_lines ls))
+      ∙ ap (ended (block_with e (make (own_lines ls)))) (last_ending-with e ls)
+
+  blanks-with : (ls : List BlockLine) → blanks (lines_with e ls) ≡ blocks_with e (blanks ls)
+  blanks-with [] = refl
+  blanks-with (line ∷ ls) = ap (Cons (Blank (if_ending_with e line.ending))) (blanks-with ls)
+
+  paragraph_of-with : (ls : List BlockLine) → paragraph_of (lines_with e ls) ≡ blocks_with e (paragraph_of ls)
+  paragraph_of-with [] = refl
+  paragraph_of-with (line ∷ ls) = ended-with Paragraph (λ _. refl) (line ∷ ls)
+
+  with_paragraph-with : (parts : Cut) → with_paragraph (cut_with e parts) ≡ blocks_with e (with_paragraph parts)
+  with_paragraph-with parts =
+      ap (join (blocks_with e parts.definitions)) (paragraph_of-with parts.left) ∙ join-with e parts.definitions (paragraph_of parts.left)
+
+  close_leaf-with : (on : Constructs) (leaf : OpenLeaf) → close_leaf on (leaf_with e leaf) ≡ blocks_with e (close_leaf on leaf)
+  close_leaf-with on (Text ls) = ap with_paragraph (cut-with e on ls) ∙ with_paragraph-with (cut on ls)
+  close_leaf-with on (Indented ls pending) =
+      let code = ended (IndentedCode (own_lines ls)) (last_ending ls) in
+      ap (λ bs. join bs (blanks (lines_with e pending))) (ended-with IndentedCode (λ _. refl) ls)
+      ∙ ap (join (blocks_with e code)) (blanks-with pending)
+      ∙ join-with e code (blanks pending)
+  close_leaf-with on (Fenced fence ending ls) = ap (ended (FencedCode fence.info false (lines_with e ls))) (last_ending_or-with e ending ls)
+  close_leaf-with on (OpenHtml kind ls) = ended-with Html (λ _. refl) ls
+
+  -- ---- endings at the end of a container
+
+  pub is_ending-with : (b : Block) → is_ending (block_with e b) ≡ is_ending b
+  is_ending-with (Paragraph ls) = refl
+  is_ending-with (Heading rank ls) = refl
+  is_ending-with Break = refl
+  is_ending-with (IndentedCode ls) = refl
+  is_ending-with (FencedCode info closed ls) = refl
+  is_ending-with (Html ls) = refl
+  is_ending-with (Definition label destination title) = refl
+  is_ending-with (Holds c kids) = refl
+  is_ending-with (Items items) = refl
+  is_ending-with (Ending ending) = refl
+  is_ending-with (Blank ending) = refl
+
+  all_endings-with : (bs : Blocks) → all_endings (blocks_with e bs) ≡ all_endings bs
+  all_endings-with Nil = refl
+  all_endings-with (Cons b bs) =
+      ap (λ is. is && all_endings (blocks_with e bs)) (is_ending-with b) ∙ ap (λ all. is_ending b && all) (all_endings-with bs)
+
+  front-with : (bs : Blocks) → front (blocks_with e bs) ≡ blocks_with e (front bs)
+  front-with Nil = refl
+  front-with (Cons b bs) =
+      ap (λ all. cond all Nil (Cons (block_with e b) (front (blocks_with e bs)))) (all_endings-with (Cons b bs))
+      ∙ cond-under (blocks_with e) (all_endings (Cons b bs)) refl (ap (Cons (block_with e b)) (front-with bs))
+
+  trailing-with : (bs : Blocks) → trailing (blocks_with e bs) ≡ blocks_with e (trailing bs)
+  trailing-with Nil = refl
+  trailing-with (Cons b bs) =
+      ap (λ all. cond all (blocks_with e (Cons b bs)) (trailing (blocks_with e bs))) (all_endings-with (Cons b bs))
+      ∙ cond-under (blocks_with e) (all_endings (Cons b bs)) refl (trailing-with bs)
+
+  without_last-with : (bs : Blocks) → without_last (blocks_with e bs) ≡ blocks_with e (without_last bs)
+  without_last-with Nil = refl
+  without_last-with (Cons b Nil) =
+      ap (λ is. cond is Nil (one (block_with e b))) (is_ending-with b) ∙ cond-under (blocks_with e) (is_ending b) refl refl
+  without_last-with (Cons b (Cons c bs)) = ap (Cons (block_with e b)) (without_last-with (Cons c bs))
+
+  last_of-with : (bs : Blocks) → last_of (blocks_with e bs) ≡ blocks_with e (last_of bs)
+  last_of-with Nil = refl
+  last_of-with (Cons b Nil) =
+      ap (λ is. cond is (one (block_with e b)) Nil) (is_ending-with b) ∙ cond-under (blocks_with e) (is_ending b) refl refl
+  last_of-with (Cons b (Cons c bs)) = last_of-with (Cons c bs)
+
+  holds-with : (c : Container) (kids : Blocks) → holds c (blocks_with e kids) ≡ blocks_with e (holds c kids)
+  holds-with Quote kids =
+      ap (λ bs. Cons (Holds Quote bs) (last_of (blocks_with e kids))) (without_last-with kids)
+      ∙ ap (Cons (Holds Quote (blocks_with e (without_last kids)))) (last_of-with kids)
+  holds-with (Item item) kids =
+      ap (λ bs. Cons (Holds (Item item) bs) (trailing (blocks_with e kids))) (front-with kids)
+      ∙ ap (Cons (Holds (Item item) (blocks_with e (front kids)))) (trailing-with kids)
+
+  pub close-with : (on : Constructs) (now : Opening) → close on (opening_with e now) ≡ blocks_with e (close on now)
+  close-with on (Leaf leaf) = close_leaf-with on leaf
+  close-with on (Inside c kids inner) =
+      ap (λ bs. holds c (join (blocks_with e kids) bs)) (close-with on inner)
+      ∙ ap (holds c) (join-with e kids (close on inner))
+      ∙ holds-with c (join kids (close on inner))

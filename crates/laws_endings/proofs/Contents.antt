@@ -1,0 +1,267 @@
+-- The inline structure of a content with another ending in place of each LF.
+use Rattle.std.proofs.Common.{◌≡◌, ℕ, zero, suc, ◌+◌, ◌-◌, List, [], ◌∷◌, ◌++◌, None, Some, Option, Bool, true, false, cond, ◌&&◌, ◌||◌, eqb, refl, sym, ap, ◌∙◌, drop, map}
+use Rattle.std.specs.Prelude.{is_some, codes, slice_index_or}
+use Rattle.std.specs.List.{fold, prefix_len}
+use Rattle.std.proofs.Math.ListN.{get_or-map}
+use Rattle.std.proofs.lemmas.Bool.{true≢false, both_ways, eqb-true, eq-eqb, false_from_ne_true}
+use Rattle.std.proofs.lemmas.List.{drop-map, map-append}
+use Rattle.markdown_options.specs.declared.line_ending.LineEnding.{LineEnding}
+use Rattle.markdown_options.specs.declared.configuration.Constructs.{Constructs}
+use Rattle.markdown_options.specs.declared.configuration.ParseOptions.{ParseOptions}
+use Rattle.definition_text.specs.Bytes.{begins_with}
+use Rattle.definition_text.specs.Columns.{is_white}
+use Rattle.definition_text.specs.Content.{is_eol, before}
+use Rattle.definition_text.specs.InlineCode.{InlineCode, codes_of}
+use Rattle.definition_inline.specs.Inline.{Target, Inline, Data, Inlines, Leaf, or_else}
+use Rattle.definition_inline.specs.CharacterEscape.{escape_at}
+use Rattle.definition_inline.specs.CharacterReference.{reference_at}
+use Rattle.definition_inline.specs.CodeText.{code_text_at}
+use Rattle.definition_inline.specs.MathText.{math_text_at}
+use Rattle.definition_inline.specs.Autolink.{autolink_at}
+use Rattle.definition_inline.specs.HtmlText.{html_text_at}
+use Rattle.definition_inline.specs.HardBreak.{escaped_break_at, line_end_at, line_spaces_at}
+use Rattle.definition_inline.specs.LabelEnd.{Ended, label_end_at}
+use Rattle.definition_inline.specs.Attention.{Run, is_marker, run_between, run_size, run_at}
+use Rattle.definition_inline.specs.Spans.{Token, Item, Delimiters, emphasized}
+use Rattle.definition_inline.specs.Scan.{InlineContext, leaf_at, LabelStart, LinkStart, ImageStart, label_start_at, start_more, start_tokens, may_form, label_part, makes_link, Text, text, OpenLabel, Reading, reading, read_tokens, unformed, formed, Step, Next, data_step, ended_step, ended_by, label_end_step, last_step, label_step, run_step, leaf_step, step, and_then, scan, whole_text, inlines}
+use Rattle.laws_endings.specs.Endings.{code_with, codes_with}
+use Rattle.laws_endings.specs.Inlines.{inline_code_with, content_with, target_with, inline_with, inlines_with}
+use Rattle.laws_endings.specs.Laws.{InlinesLaw}
+use Rattle.laws_endings.proofs.Codes.{cond-under, same_code, before-with}
+use Rattle.laws_endings.proofs.Leaves.{if_found, same_byte, begins-byte, leaf_at-with}
+use Rattle.laws_endings.proofs.LabelEnds.{begins-two, if_ended, label_end_at-with}
+use Rattle.laws_endings.proofs.Tokens.{token_with, tokens_with, emphasized-with}
+
+-- ---- where no construct begins that holds no other stands no ending
+
+or_none : (one other : Option Leaf) → or_else one other ≡ None → (one ≡ None) × (other ≡ None)
+or_none None other h = (refl, h)
+or_none (Some l) other h = absurd (true≢false (ap is_some h))
+
+end_none : (is : Bool) (l : Leaf) → cond is (Some l) None ≡ None → is ≡ false
+end_none true l h = absurd (true≢false (ap is_some h))
+end_none false l h = refl
+
+no_ending : (context : InlineContext) (c : ℕ) (cs : List ℕ) → leaf_at context (c ∷ cs) ≡ None → is_eol c ≡ false
+no_ending context c cs h =
+    let on = context.options.constructs in
+    let all = c ∷ cs in
+    let last = or_else (line_end_at all) (line_spaces_at on all) in
+    let html = or_else (html_text_at on all) last in
+    let links = or_else (autolink_at on all) html in
+    let math = or_else (math_text_at context.options all) links in
+    let code = or_else (code_text_at on all) math in
+    let references = or_else (reference_at on context.names all) code in
+    let breaks = or_else (escaped_break_at on all) references in
+    let h1 = (or_none (escape_at on all) breaks h).1 in
+    let h2 = (or_none (escaped_break_at on all) references h1).1 in
+    let h3 = (or_none (reference_at on context.names all) code h2).1 in
+    let h4 = (or_none (code_text_at on all) math h3).1 in
+    let h5 = (or_none (math_text_at context.options all) links h4).1 in
+    let h6 = (or_none (autolink_at on all) html h5).1 in
+    let h7 = (or_none (html_text_at on all) last h6).1 in
+    end_none (is_eol c) _ (or_none (line_end_at all) (line_spaces_at on all) h7).0
+
+-- which of three bytes it isn't
+none_of : (a b d : Bool) → (a || b || d) ≡ false → (a ≡ false) × ((b ≡ false) × (d ≡ false))
+none_of true b d h = absurd (true≢false h)
+none_of false true d h = absurd (true≢false h)
+none_of false false true h = absurd (true≢false h)
+none_of false false false h = (refl, (refl, refl))
+
+other_byte : (a b : ℕ) → eqb a b ≡ false → eqb b a ≡ false
+other_byte a b h = false_from_ne_true (eqb b a) (λ is. both_ways (eqb a b) h (eq-eqb a b (sym (eqb-true b a is))))
+
+module _ (e : LineEnding) where
+  -- ---- what is read so far
+
+  abbrev text_with : Text → Text
+  text_with t = text (tokens_with e t.tokens) t.holds_link
+
+  abbrev open_with : OpenLabel → OpenLabel
+  open_with l = record { start = l.start; from = codes_with e l.from; outer = text_with l.outer }
+
+  abbrev reading_with : Reading → Reading
+  reading_with r = reading (text_with r.now) (map open_with r.open_labels)
+
+  abbrev step_with : Step → Step
+  step_with (Next more r) = Next more (reading_with r)
+
+  read_tokens-with : (more : List Token) (r : Reading) → read_tokens (tokens_with e more) (reading_with r) ≡ reading_with (read_tokens more r)
+  read_tokens-with more r =
+      ap (λ tokens. reading (text tokens r.now.holds_link) (map open_with r.open_labels)) (sym (map-append (token_with e) r.now.tokens more))
+
+  start_tokens-same : (start : LabelStart) → tokens_with e (start_tokens start) ≡ start_tokens start
+  start_tokens-same LinkStart = refl
+  start_tokens-same ImageStart = refl
+
+  unformed-with : (label : OpenLabel) (inner : Text) → unformed (open_with label) (text_with inner) ≡ text_with (unformed label inner)
+  unformed-with label inner =
+      let links = label.outer.holds_link || inner.holds_link in
+      let outer = label.outer.tokens in
+      let starts = start_tokens label.start in
+      ap (λ tokens. text (tokens_with e outer ++ (tokens ++ tokens_with e inner.tokens)) links) (sym (start_tokens-same label.start))
+      ∙ ap (λ tokens. text (tokens_with e outer ++ tokens) links) (sym (map-append (token_with e) starts inner.tokens))
+      ∙ ap (λ tokens. text tokens links) (sym (map-append (token_with e) outer (starts ++ inner.tokens)))
+
+  label_part-with : (start : LabelStart) (target : Target) (kids : Inlines)
+      → label_part start (target_with e target) (inlines_with e kids) ≡ inline_with e (label_part start target kids)
+  label_part-with LinkStart target kids = refl
+  label_part-with ImageStart target kids = refl
+
+  formed-with : (label : OpenLabel) (target : Target) (inner : Text)
+      → formed (open_with label) (target_with e target) (text_with inner) ≡ text_with (formed label target inner)
+  formed-with label target inner =
+      let links = label.outer.holds_link || makes_link label.start inner.holds_link in
+      let outer = label.outer.tokens in
+      let part = label_part label.start target (emphasized inner.tokens) in
+      ap (λ kids. text (tokens_with e outer ++ Item (label_part label.start (target_with e target) kids) ∷ []) links) (emphasized-with e inner.tokens)
+      ∙ ap (λ i. text (tokens_with e outer ++ Item i ∷ []) links) (label_part-with label.start target (emphasized inner.tokens))
+      ∙ ap (λ tokens. text tokens links) (sym (map-append (token_with e) outer (Item part ∷ [])))
+
+  -- ---- one place
+
+  data_step-with : (code : ℕ) (r : Reading) → data_step code (reading_with r) ≡ step_with (data_step code r)
+  data_step-with code r = ap (Next 0) (read_tokens-with (Item (Data code) ∷ []) r)
+
+  ended_step-with : (label : OpenLabel) (others : List OpenLabel) (inner : Text) (found : Option Ended)
+      → ended_step (open_with label) (map open_with others) (text_with inner) (if_ended e found) ≡ step_with (ended_step label others inner found)
+  ended_step-with label others inner None =
+      ap (λ now. Next 0 (read_tokens (Item (Data 93) ∷ []) (reading now (map open_with others)))) (unformed-with label inner)
+      ∙ ap (Next 0) (read_tokens-with (Item (Data 93) ∷ []) (reading (unformed label inner) others))
+  ended_step-with label others inner (Some found) =
+      ap (λ now. Next found.size (reading now (map open_with others))) (formed-with label found.target inner)
+
+  label_start_at-with : (on : Constructs) (cs : List ℕ) → label_start_at on (codes_with e cs) ≡ label_start_at on cs
+  label_start_at-with on cs =
+      let link : Bool → Option LabelStart = λ begins. cond (on.label_start_link && begins) (Some LinkStart) None in
+      ap (λ image. cond (on.label_start_image && image) (Some ImageStart) (link (begins_with (codes "[") (codes_with e cs))))
+      (begins-two e 33 91 refl refl refl refl cs)
+      ∙ ap (λ begins. cond (on.label_start_image && begins_with (codes "![") cs) (Some ImageStart) (link begins)) (begins-byte e 91 refl refl cs)
+
+  codes_of-with : (cs : List InlineCode) → codes_of (content_with e cs) ≡ codes_with e (codes_of cs)
+  codes_of-with [] = refl
+  codes_of-with (c ∷ cs) = ap (λ more. code_with e c.code ∷ more) (codes_of-with cs)
+
+  prefix-with : (test : ℕ → Bool) → test 13 ≡ test 10 → test 257 ≡ test 10 → (cs : List InlineCode)
+      → prefix_len (λ (c : InlineCode). test c.code) (content_with e cs) ≡ prefix_len (λ (c : InlineCode). test c.code) cs
+  prefix-with test p q [] = refl
+  prefix-with test p q (c ∷ cs) =
+      ap (λ passes. cond passes (1 + prefix_len (λ (x : InlineCode). test x.code) (content_with e cs)) 0) (same_code e test c.code p q)
+      ∙ ap (λ n. cond (test c.code) (1 + n) 0) (prefix-with test p q cs)
+
+  run_at-with : (options : ParseOptions) (c : InlineCode) (cs : List InlineCode) → is_eol c.code ≡ false
+      → run_at options (content_with e (c ∷ cs)) ≡ run_at options (c ∷ cs)
+  run_at-with options c cs h =
+      let all = content_with e (c ∷ cs) in
+      let first = inline_code_with e c in
+      let not = none_of (eqb c.code 10) (eqb c.code 13) (eqb c.code 257) h in
+      let feed = other_byte c.code 10 not.0 in
+      let made : ℕ → ℕ → InlineCode → Option Run =
+      λ code size last. cond (is_marker options code) (Some (run_between options code size c.before last.after)) None in
+      let size = run_size c.code (c ∷ cs) in
+      ap (λ code. let n = run_size code all in made code n (slice_index_or all (n - 1) first)) (same_byte e c.code not.0)
+      ∙ ap (λ n. made c.code n (slice_index_or all (n - 1) first))
+      (prefix-with (λ code. eqb code c.code) (other_byte c.code 13 not.1.0 ∙ sym feed) (other_byte c.code 257 not.1.1 ∙ sym feed) (c ∷ cs))
+      ∙ ap (made c.code size) (get_or-map (inline_code_with e) (c ∷ cs) (size - 1) c)
+
+  all_items : (is : List Inline) → map Item (map (inline_with e) is) ≡ tokens_with e (map Item is)
+  all_items [] = refl
+  all_items (i ∷ is) = ap (λ tokens. Item (inline_with e i) ∷ tokens) (all_items is)
+
+  module _ (context : InlineContext) (same : (label : List ℕ) → context.is_defined (codes_with e label) ≡ context.is_defined label) where
+    ended_by-with : (content : List ℕ) (label : OpenLabel) (inner : Text)
+        → ended_by context (codes_with e content) (open_with label) (text_with inner) ≡ if_ended e (ended_by context content label inner)
+    ended_by-with content label inner =
+        let between = before label.from content in
+        cond-under (if_ended e) (may_form label.start inner.holds_link)
+        (ap (λ t. label_end_at context.is_defined t (drop 1 (codes_with e content))) (before-with e label.from content)
+        ∙ ap (label_end_at context.is_defined (codes_with e between)) (drop-map (code_with e) 1 content)
+        ∙ label_end_at-with e context.is_defined same between (drop 1 content))
+        refl
+
+    label_end_step-with : (content : List ℕ) (inner : Text) (labels : List OpenLabel)
+        → label_end_step context (codes_with e content) (text_with inner) (map open_with labels) ≡ step_with (label_end_step context content inner labels)
+    label_end_step-with content inner [] = data_step-with 93 (reading inner [])
+    label_end_step-with content inner (label ∷ others) =
+        ap (ended_step (open_with label) (map open_with others) (text_with inner)) (ended_by-with content label inner)
+        ∙ ended_step-with label others inner (ended_by context content label inner)
+
+    last_step-with : (code : ℕ) (content : List ℕ) (r : Reading)
+        → last_step context code (codes_with e content) (reading_with r) ≡ step_with (last_step context code content r)
+    last_step-with code content r =
+        cond-under step_with (context.options.constructs.label_end && eqb code 93) (label_end_step-with content r.now r.open_labels) (data_step-with code r)
+
+    label_step-with : (code : ℕ) (content : List ℕ) (r : Reading) (found : Option LabelStart)
+        → label_step context code (codes_with e content) (reading_with r) found ≡ step_with (label_step context code content r found)
+    label_step-with code content r None = last_step-with code content r
+    label_step-with code content r (Some start) =
+        let opened : List ℕ → OpenLabel = λ from. record { start = start; from = from; outer = text_with r.now } in
+        ap (λ from. Next (start_more start) (reading (text [] false) (opened from ∷ map open_with r.open_labels)))
+        (drop-map (code_with e) (1 + start_more start) content)
+
+    run_step-with : (code : ℕ) (content : List ℕ) (r : Reading) (found : Option Run)
+        → run_step context code (codes_with e content) (reading_with r) found ≡ step_with (run_step context code content r found)
+    run_step-with code content r None =
+        ap (label_step context code (codes_with e content) (reading_with r)) (label_start_at-with context.options.constructs content)
+        ∙ label_step-with code content r (label_start_at context.options.constructs content)
+    run_step-with code content r (Some run) = ap (Next (run.left - 1)) (read_tokens-with (Delimiters run ∷ []) r)
+
+    leaf_step-with : (c : InlineCode) (cs : List InlineCode) (r : Reading) (found : Option Leaf) → leaf_at context (codes_of (c ∷ cs)) ≡ found
+        → leaf_step context (code_with e c.code) (codes_with e (codes_of (c ∷ cs))) (reading_with r)
+        (run_at context.options (content_with e (c ∷ cs))) (if_found e found)
+        ≡ step_with (leaf_step context c.code (codes_of (c ∷ cs)) r (run_at context.options (c ∷ cs)) found)
+    leaf_step-with c cs r None h =
+        let content = codes_with e (codes_of (c ∷ cs)) in
+        let apart = no_ending context c.code (codes_of cs) h in
+        ap (λ code. run_step context code content (reading_with r) (run_at context.options (content_with e (c ∷ cs))))
+        (same_byte e c.code (none_of (eqb c.code 10) (eqb c.code 13) (eqb c.code 257) apart).0)
+        ∙ ap (run_step context c.code content (reading_with r)) (run_at-with context.options c cs apart)
+        ∙ run_step-with c.code (codes_of (c ∷ cs)) r (run_at context.options (c ∷ cs))
+    leaf_step-with c cs r (Some found) h =
+        ap (λ tokens. Next (found.size - 1) (read_tokens tokens (reading_with r))) (all_items found.parts)
+        ∙ ap (Next (found.size - 1)) (read_tokens-with (map Item found.parts) r)
+
+    step-with : (r : Reading) (c : InlineCode) (cs : List InlineCode)
+        → step context (reading_with r) (inline_code_with e c) (content_with e cs) ≡ step_with (step context r c cs)
+    step-with r c cs =
+        let content = codes_of (c ∷ cs) in
+        let run = run_at context.options (content_with e (c ∷ cs)) in
+        ap (λ all. leaf_step context (code_with e c.code) all (reading_with r) run (leaf_at context all)) (codes_of-with (c ∷ cs))
+        ∙ ap (leaf_step context (code_with e c.code) (codes_with e content) (reading_with r) run) (leaf_at-with e context content)
+        ∙ leaf_step-with c cs r (leaf_at context content) refl
+
+    -- ---- the whole
+
+    and_then-with : (s : Step) (f g : ℕ → Reading → Reading) → ((k : ℕ) (r : Reading) → f k (reading_with r) ≡ reading_with (g k r))
+        → and_then (step_with s) f ≡ reading_with (and_then s g)
+    and_then-with (Next more r) f g h = h more r
+
+    scan-with : (k : ℕ) (r : Reading) (cs : List InlineCode) → scan context k (reading_with r) (content_with e cs) ≡ reading_with (scan context k r cs)
+    scan-with k r [] = refl
+    scan-with zero r (c ∷ cs) =
+        ap (λ s. and_then s (λ k next. scan context k next (content_with e cs))) (step-with r c cs)
+        ∙ and_then-with (step context r c cs) (λ k next. scan context k next (content_with e cs)) (λ k next. scan context k next cs)
+        (λ k next. scan-with k next cs)
+    scan-with (suc k) r (c ∷ cs) = scan-with k r cs
+
+    unformed_all : (now : Text) (labels : List OpenLabel)
+        → fold (λ inner label. unformed label inner) (text_with now) (map open_with labels) ≡ text_with (fold (λ inner label. unformed label inner) now labels)
+    unformed_all now [] = refl
+    unformed_all now (label ∷ labels) =
+        ap (λ t. fold (λ inner l. unformed l inner) t (map open_with labels)) (unformed-with label now) ∙ unformed_all (unformed label now) labels
+
+    pub inlines-with : (content : List InlineCode) → inlines context (content_with e content) ≡ inlines_with e (inlines context content)
+    inlines-with content =
+        let empty = reading (text [] false) [] in
+        let rest = drop (prefix_len (λ (c : InlineCode). is_white c.code) content) content in
+        let read = scan context 0 empty rest in
+        ap (λ n. emphasized (whole_text (scan context 0 empty (drop n (content_with e content)))).tokens) (prefix-with is_white refl refl content)
+        ∙ ap (λ cs. emphasized (whole_text (scan context 0 empty cs)).tokens)
+        (drop-map (inline_code_with e) (prefix_len (λ (c : InlineCode). is_white c.code) content) content)
+        ∙ ap (λ r. emphasized (whole_text r).tokens) (scan-with 0 empty rest)
+        ∙ ap (λ (t : Text). emphasized t.tokens) (unformed_all read.now read.open_labels)
+        ∙ emphasized-with e (whole_text read).tokens
+
+pub inlines_law : InlinesLaw
+inlines_law e context content same = inlines-with e context same content

@@ -1,0 +1,289 @@
+-- One more line, with another ending in place of each LF.
+use Rattle.std.proofs.Common.{◌≡◌, ℕ, zero, suc, List, [], ◌∷◌, ◌++◌, None, Some, Option, Bool, true, false, cond, not, ◌&&◌, refl, sym, ap, ◌∙◌, length}
+use Rattle.std.specs.Option.{option_map}
+use Rattle.std.proofs.lemmas.List.{map-append}
+use Rattle.markdown_options.specs.declared.line_ending.LineEnding.{LineEnding}
+use Rattle.markdown_options.specs.declared.configuration.Constructs.{Constructs}
+use Rattle.definition_text.specs.declared.beside.Beside.{Beside}
+use Rattle.definition_block.specs.declared.container.Container.{Container}
+use Rattle.definition_text.specs.Columns.{Rest, is_blank}
+use Rattle.definition_text.specs.Indents.{outdented}
+use Rattle.definition_block.specs.Started.{Started}
+use Rattle.definition_block.specs.Containers.{continues, starts}
+use Rattle.definition_block.specs.CodeIndented.{starts_code_indented}
+use Rattle.definition_block.specs.CodeFenced.{Fence, fence_start, is_fence_end, fence_line}
+use Rattle.definition_block.specs.MathFlow.{math_start}
+use Rattle.definition_block.specs.HtmlFlow.{html_start, html_ends_here, ends_before_blank}
+use Rattle.definition_block.specs.HeadingAtx.{Atx, heading_atx}
+use Rattle.definition_block.specs.HeadingSetext.{underline}
+use Rattle.definition_block.specs.ThematicBreak.{is_break}
+use Rattle.definition_block.specs.Definitions.{Cut, cut}
+use Rattle.definition_block.specs.Tree.{BlockLine, block_line, spaced_line, own_lines, Paragraph, Heading, Break, IndentedCode, FencedCode, Html, Definition, Holds, Items, Ending, Blank, Blocks, Nil, Cons, join, one, ended}
+use Rattle.definition_block.specs.Tree.{OpenLeaf, Text, Indented, Fenced, OpenHtml, Opening, Leaf, Inside, Tree, tree, nothing, close, leaf_text, open_text, is_some_line, has_text, leaf_with_line, with_line, rest_line}
+use Rattle.definition_block.specs.Tree.{indented_takes, fenced_takes, html_with, takes, or_heading, or_fence, or_html, begins, after, text_line_of, break_or_text, text_here, heading_of, underlined, turns, begun, taken, leaf_line}
+use Rattle.definition_block.specs.Tree.{beside_in, start, new, in_container, is_nothing, is_one_blank, began_blank, goes_on, grow}
+use Rattle.laws_endings.specs.Endings.{if_ending_with, line_with, lines_with, blocks_with}
+use Rattle.laws_endings.proofs.Codes.{cond-under}
+use Rattle.laws_endings.proofs.Cuts.{own_lines-with, join-with, cut-with}
+use Rattle.laws_endings.proofs.Rests.{Kept, outdented-kept, block_codes-kept, KeptRest, KeptStarted, starts-kept, continues-kept, KeptAtx, heading_atx-kept}
+use Rattle.laws_endings.proofs.Openings.{leaf_with, opening_with, tree_with, beside_with}
+use Rattle.laws_endings.proofs.Closing.{close-with}
+
+module _ (e : LineEnding) where
+  abbrev if_tree : Option Tree → Option Tree
+  if_tree t = option_map (tree_with e) t
+
+  -- ---- the open paragraph
+
+  leaf_text-with : (leaf : OpenLeaf) → leaf_text (leaf_with e leaf) ≡ lines_with e (leaf_text leaf)
+  leaf_text-with (Text ls) = refl
+  leaf_text-with (Indented ls pending) = refl
+  leaf_text-with (Fenced fence ending ls) = refl
+  leaf_text-with (OpenHtml kind ls) = refl
+
+  open_text-with : (now : Opening) → open_text (opening_with e now) ≡ lines_with e (open_text now)
+  open_text-with (Leaf leaf) = leaf_text-with leaf
+  open_text-with (Inside c kids inner) = open_text-with inner
+
+  is_some_line-with : (ls : List BlockLine) → is_some_line (lines_with e ls) ≡ is_some_line ls
+  is_some_line-with [] = refl
+  is_some_line-with (line ∷ ls) = refl
+
+  has_text-with : (now : Opening) → has_text (opening_with e now) ≡ has_text now
+  has_text-with now = ap is_some_line (open_text-with now) ∙ is_some_line-with (open_text now)
+
+  one_more : (ls : List BlockLine) (line : BlockLine) → lines_with e ls ++ line_with e line ∷ [] ≡ lines_with e (ls ++ line ∷ [])
+  one_more ls line = sym (map-append (line_with e) ls (line ∷ []))
+
+  leaf_with_line-with : (line : BlockLine) (leaf : OpenLeaf) → leaf_with_line (line_with e line) (leaf_with e leaf) ≡ leaf_with e (leaf_with_line line leaf)
+  leaf_with_line-with line (Text ls) = ap Text (one_more ls line)
+  leaf_with_line-with line (Indented ls pending) = refl
+  leaf_with_line-with line (Fenced fence ending ls) = refl
+  leaf_with_line-with line (OpenHtml kind ls) = refl
+
+  with_line-with : (line : BlockLine) (now : Opening) → with_line (line_with e line) (opening_with e now) ≡ opening_with e (with_line line now)
+  with_line-with line (Leaf leaf) = ap Leaf (leaf_with_line-with line leaf)
+  with_line-with line (Inside c kids inner) = ap (Inside c (blocks_with e kids)) (with_line-with line inner)
+
+  rest_line-with : (rest : Rest) (beside : Beside) → Kept e rest → rest_line rest (beside_with e beside) ≡ line_with e (rest_line rest beside)
+  rest_line-with rest beside k = ap (λ codes. block_line codes (if_ending_with e beside.ending) beside.before) (sym (block_codes-kept e rest k))
+
+  more_lines : (ls : List BlockLine) (rest : Rest) (beside : Beside) → Kept e rest
+      → lines_with e ls ++ rest_line rest (beside_with e beside) ∷ [] ≡ lines_with e (ls ++ rest_line rest beside ∷ [])
+  more_lines ls rest beside k = ap (λ line. lines_with e ls ++ line ∷ []) (rest_line-with rest beside k) ∙ one_more ls (rest_line rest beside)
+
+  -- ---- an open leaf that takes the rest
+
+  indented_takes-with : (on : Constructs) (ls pending : List BlockLine) (rest : Rest) (beside : Beside) → Kept e rest
+      → indented_takes on (lines_with e ls) (lines_with e pending) rest (beside_with e beside) ≡ if_tree (indented_takes on ls pending rest beside)
+  indented_takes-with on ls pending rest beside k =
+      let code = outdented 4 rest in
+      let kept = outdented-kept e 4 rest k in
+      cond-under if_tree (is_blank rest)
+      (ap (λ others. Some (tree Nil (Leaf (Indented (lines_with e ls) others)))) (more_lines pending code beside kept))
+      (cond-under if_tree (starts_code_indented on rest)
+      (ap (λ front. Some (tree Nil (Leaf (Indented (front ++ rest_line code (beside_with e beside) ∷ []) [])))) (sym (map-append (line_with e) ls pending))
+      ∙ ap (λ all. Some (tree Nil (Leaf (Indented all [])))) (more_lines (ls ++ pending) code beside kept))
+      refl)
+
+  fenced_takes-with : (on : Constructs) (fence : Fence) (opening : Option LineEnding) (ls : List BlockLine) (rest : Rest) (beside : Beside) → Kept e rest
+      → fenced_takes on fence (if_ending_with e opening) (lines_with e ls) rest (beside_with e beside) ≡ if_tree (fenced_takes on fence opening ls rest beside)
+  fenced_takes-with on fence opening ls rest beside k =
+      cond-under if_tree (is_fence_end on fence rest) refl
+      (ap (λ all. Some (tree Nil (Leaf (Fenced fence (if_ending_with e opening) all))))
+      (more_lines ls (fence_line fence rest) beside (outdented-kept e fence.indent rest k)))
+
+  html_with-with : (kind : ℕ) (ls : List BlockLine) (rest : Rest) (beside : Beside) → Kept e rest
+      → html_with kind (lines_with e ls) rest (beside_with e beside) ≡ tree_with e (html_with kind ls rest beside)
+  html_with-with kind ls rest beside k =
+      let made : List BlockLine → Tree = λ own. tree (ended (Html own) (if_ending_with e beside.ending)) nothing in
+      let more = ls ++ rest_line rest beside ∷ [] in
+      ap (λ all. cond (html_ends_here kind rest) (made (own_lines all)) (tree Nil (Leaf (OpenHtml kind all)))) (more_lines ls rest beside k)
+      ∙ cond-under (tree_with e) (html_ends_here kind rest) (ap made (own_lines-with e more)) refl
+
+  takes-with : (on : Constructs) (leaf : OpenLeaf) (rest : Rest) (beside : Beside) → Kept e rest
+      → takes on (leaf_with e leaf) rest (beside_with e beside) ≡ if_tree (takes on leaf rest beside)
+  takes-with on (Text ls) rest beside k = refl
+  takes-with on (Indented ls pending) rest beside k = indented_takes-with on ls pending rest beside k
+  takes-with on (Fenced fence opening ls) rest beside k = fenced_takes-with on fence opening ls rest beside k
+  takes-with on (OpenHtml kind ls) rest beside k =
+      cond-under if_tree (ends_before_blank kind && is_blank rest) refl (ap Some (html_with-with kind ls rest beside k))
+
+  -- ---- a leaf that begins
+
+  or_heading-with : (ending : Option LineEnding) (found : Option Atx) → KeptAtx e found
+      → or_heading (if_ending_with e ending) found ≡ if_tree (or_heading ending found)
+  or_heading-with ending None k = refl
+  or_heading-with ending (Some atx) k =
+      ap (λ content. Some (tree (ended (Heading atx.rank (spaced_line content None ∷ [])) (if_ending_with e ending)) nothing)) (sym k)
+
+  or_fence-with : (ending : Option LineEnding) (found : Option Fence) (more other : Option Tree) → more ≡ if_tree other
+      → or_fence (if_ending_with e ending) found more ≡ if_tree (or_fence ending found other)
+  or_fence-with ending None more other same = same
+  or_fence-with ending (Some fence) more other same = refl
+
+  or_html-with : (rest : Rest) (beside : Beside) (found : Option ℕ) (more other : Option Tree) → Kept e rest → more ≡ if_tree other
+      → or_html rest (beside_with e beside) found more ≡ if_tree (or_html rest beside found other)
+  or_html-with rest beside None more other k same = same
+  or_html-with rest beside (Some kind) more other k same = ap Some (html_with-with kind [] rest beside k)
+
+  begins-with : (on : Constructs) (paragraph : Bool) (rest : Rest) (beside : Beside) → Kept e rest
+      → begins on paragraph rest (beside_with e beside) ≡ if_tree (begins on paragraph rest beside)
+  begins-with on paragraph rest beside k =
+      cond-under if_tree (starts_code_indented on rest && not paragraph)
+      (ap (λ line. Some (tree Nil (Leaf (Indented (line ∷ []) [])))) (rest_line-with (outdented 4 rest) beside (outdented-kept e 4 rest k)))
+      (or_fence-with beside.ending (fence_start on rest) _ _
+      (or_fence-with beside.ending (math_start on rest) _ _
+      (or_html-with rest beside (html_start on paragraph rest) _ _ k
+      (or_heading-with beside.ending (heading_atx on rest) (heading_atx-kept e on rest k)))))
+
+  after-with : (on : Constructs) (away : Opening) (t : Tree) → after on (opening_with e away) (tree_with e t) ≡ tree_with e (after on away t)
+  after-with on away t =
+      ap (λ closed. tree (join closed (blocks_with e t.done)) (opening_with e t.now)) (close-with e on away)
+      ∙ ap (λ done. tree done (opening_with e t.now)) (join-with e (close on away) t.done)
+
+  text_line_of-with : (on : Constructs) (away : Opening) (rest : Rest) (beside : Beside) → Kept e rest
+      → text_line_of on (opening_with e away) rest (beside_with e beside) ≡ tree_with e (text_line_of on away rest beside)
+  text_line_of-with on away rest beside k =
+      let now = opening_with e away in
+      let line = rest_line rest beside in
+      let begun : BlockLine → Tree = λ l. after on now (tree Nil (Leaf (Text (l ∷ [])))) in
+      let more = rest_line rest (beside_with e beside) in
+      ap (λ has. cond has (tree Nil (with_line more now)) (begun more)) (has_text-with away)
+      ∙ ap (λ l. cond (has_text away) (tree Nil (with_line l now)) (begun l)) (rest_line-with rest beside k)
+      ∙ cond-under (tree_with e) (has_text away) (ap (tree Nil) (with_line-with line away)) (after-with on away (tree Nil (Leaf (Text (line ∷ [])))))
+
+  break_or_text-with : (on : Constructs) (away : Opening) (rest : Rest) (beside : Beside) → Kept e rest
+      → break_or_text on (opening_with e away) rest (beside_with e beside) ≡ tree_with e (break_or_text on away rest beside)
+  break_or_text-with on away rest beside k =
+      cond-under (tree_with e) (is_break on rest) (after-with on away (tree (ended Break beside.ending) nothing)) (text_line_of-with on away rest beside k)
+
+  -- ---- underlines
+
+  text_here-with : (away : Opening) → text_here (opening_with e away) ≡ lines_with e (text_here away)
+  text_here-with (Leaf leaf) = leaf_text-with leaf
+  text_here-with (Inside c kids inner) = refl
+
+  heading_of-with : (rank : ℕ) (definitions : Blocks) (ls : List BlockLine) (ending : Option LineEnding)
+      → heading_of rank (blocks_with e definitions) (lines_with e ls) (if_ending_with e ending) ≡ if_tree (heading_of rank definitions ls ending)
+  heading_of-with rank definitions [] ending = refl
+  heading_of-with rank definitions (line ∷ ls) ending =
+      let made : List BlockLine → Blocks = λ own. ended (Heading rank own) (if_ending_with e ending) in
+      ap (λ own. Some (tree (join (blocks_with e definitions) (made own)) nothing)) (own_lines-with e (line ∷ ls))
+      ∙ ap (λ done. Some (tree done nothing)) (join-with e definitions (ended (Heading rank (own_lines (line ∷ ls))) ending))
+
+  underlined-with : (on : Constructs) (rank : Option ℕ) (ls : List BlockLine) (ending : Option LineEnding)
+      → underlined on rank (lines_with e ls) (if_ending_with e ending) ≡ if_tree (underlined on rank ls ending)
+  underlined-with on None ls ending = refl
+  underlined-with on (Some rank) ls ending =
+      ap (λ (parts : Cut). heading_of rank parts.definitions parts.left (if_ending_with e ending)) (cut-with e on ls)
+      ∙ heading_of-with rank (cut on ls).definitions (cut on ls).left ending
+
+  turns-with : (on : Constructs) (away : Opening) (rest : Rest) (ending : Option LineEnding)
+      → turns on (opening_with e away) rest (if_ending_with e ending) ≡ if_tree (turns on away rest ending)
+  turns-with on away rest ending =
+      ap (λ ls. underlined on (underline on rest) ls (if_ending_with e ending)) (text_here-with away)
+      ∙ underlined-with on (underline on rest) (text_here away) ending
+
+  -- ---- a rest that starts no container
+
+  begun-with : (on : Constructs) (found : Option Tree) (away : Opening) (other : Tree)
+      → begun on (if_tree found) (opening_with e away) (tree_with e other) ≡ tree_with e (begun on found away other)
+  begun-with on None away other = refl
+  begun-with on (Some t) away other = after-with on away t
+
+  taken-with : (found : Option Tree) (other : Tree) → taken (if_tree found) (tree_with e other) ≡ tree_with e (taken found other)
+  taken-with None other = refl
+  taken-with (Some t) other = refl
+
+  leaf_line-with : (on : Constructs) (away : Opening) (rest : Rest) (beside : Beside) → Kept e rest
+      → leaf_line on (opening_with e away) rest (beside_with e beside) ≡ tree_with e (leaf_line on away rest beside)
+  leaf_line-with on away rest beside k =
+      let now = opening_with e away in
+      let ends = beside_with e beside in
+      let turned = turns on away rest beside.ending in
+      let text = break_or_text on away rest beside in
+      cond-under (tree_with e) (is_blank rest) (after-with on away (tree (one (Blank beside.ending)) nothing))
+      (ap (λ has. begun on (begins on has rest ends) now (taken (turns on now rest ends.ending) (break_or_text on now rest ends))) (has_text-with away)
+      ∙ ap (λ found. begun on found now (taken (turns on now rest ends.ending) (break_or_text on now rest ends))) (begins-with on (has_text away) rest beside k)
+      ∙ ap (λ found. begun on (if_tree (begins on (has_text away) rest beside)) now (taken found (break_or_text on now rest ends)))
+      (turns-with on away rest beside.ending)
+      ∙ ap (λ other. begun on (if_tree (begins on (has_text away) rest beside)) now (taken (if_tree turned) other)) (break_or_text-with on away rest beside k)
+      ∙ ap (begun on (if_tree (begins on (has_text away) rest beside)) now) (taken-with turned text)
+      ∙ begun-with on (begins on (has_text away) rest beside) away (taken turned text))
+
+  -- ---- containers
+
+  start-with : (on : Constructs) (found : Option Started) (away : Opening) (none other : Tree) (f g : Started → Tree)
+      → none ≡ tree_with e other → KeptStarted e found
+      → ((s : Started) → Kept e s.rest → f s ≡ tree_with e (g s)) → start on found (opening_with e away) none f ≡ tree_with e (start on found away other g)
+  start-with on None away none other f g same k more = same
+  start-with on (Some s) away none other f g same k more =
+      ap (λ (t : Tree). after on (opening_with e away) (tree Nil (Inside s.container t.done t.now))) (more s k)
+      ∙ after-with on away (tree Nil (Inside s.container (g s).done (g s).now))
+
+  new-with : (most : ℕ) (on : Constructs) (all : Bool) (away : Opening) (beside : Beside) (rest : Rest) → Kept e rest
+      → new most on all (opening_with e away) (beside_with e beside) rest ≡ tree_with e (new most on all away beside rest)
+  new-with zero on all away beside rest k = leaf_line-with on away rest beside k
+  new-with (suc most) on all away beside rest k =
+      let now = opening_with e away in
+      let ends = beside_with e beside in
+      let more : Started → Tree = λ s. new most on true nothing (beside_in s.container rest ends) s.rest in
+      ap (λ has. start on (starts on (all && has) rest) now (leaf_line on now rest ends) more) (has_text-with away)
+      ∙ start-with on (starts on (all && has_text away) rest) away (leaf_line on now rest ends) (leaf_line on away rest beside) more
+      (λ s. new most on true nothing (beside_in s.container rest beside) s.rest)
+      (leaf_line-with on away rest beside k) (starts-kept e on (all && has_text away) rest k)
+      (λ s l. new-with most on true nothing (beside_in s.container rest beside) s.rest l)
+
+  in_container-with : (c : Container) (kids : Blocks) (t : Tree) → in_container c (blocks_with e kids) (tree_with e t) ≡ tree_with e (in_container c kids t)
+  in_container-with c kids t = ap (λ bs. tree Nil (Inside c bs (opening_with e t.now))) (join-with e kids t.done)
+
+  is_nothing-with : (now : Opening) → is_nothing (opening_with e now) ≡ is_nothing now
+  is_nothing-with (Leaf (Text [])) = refl
+  is_nothing-with (Leaf (Text (line ∷ ls))) = refl
+  is_nothing-with (Leaf (Indented ls pending)) = refl
+  is_nothing-with (Leaf (Fenced fence ending ls)) = refl
+  is_nothing-with (Leaf (OpenHtml kind ls)) = refl
+  is_nothing-with (Inside c kids inner) = refl
+
+  is_one_blank-with : (bs : Blocks) → is_one_blank (blocks_with e bs) ≡ is_one_blank bs
+  is_one_blank-with Nil = refl
+  is_one_blank-with (Cons (Paragraph ls) bs) = refl
+  is_one_blank-with (Cons (Heading rank ls) bs) = refl
+  is_one_blank-with (Cons Break bs) = refl
+  is_one_blank-with (Cons (IndentedCode ls) bs) = refl
+  is_one_blank-with (Cons (FencedCode info closed ls) bs) = refl
+  is_one_blank-with (Cons (Html ls) bs) = refl
+  is_one_blank-with (Cons (Definition label destination title) bs) = refl
+  is_one_blank-with (Cons (Holds c kids) bs) = refl
+  is_one_blank-with (Cons (Items items) bs) = refl
+  is_one_blank-with (Cons (Ending ending) bs) = refl
+  is_one_blank-with (Cons (Blank ending) Nil) = refl
+  is_one_blank-with (Cons (Blank ending) (Cons b bs)) = refl
+
+  began_blank-with : (kids : Blocks) (inner : Opening) → began_blank (blocks_with e kids) (opening_with e inner) ≡ began_blank kids inner
+  began_blank-with kids inner =
+      ap (λ blank. blank && is_nothing (opening_with e inner)) (is_one_blank-with kids) ∙ ap (λ none. is_one_blank kids && none) (is_nothing-with inner)
+
+  goes_on-with : (found : Option Rest) (on : Constructs) (c : Container) (kids : Blocks) (inner : Opening) (beside : Beside) (rest : Rest) (f g : Rest → Tree)
+      → Kept e rest → KeptRest e found → ((others : Rest) → Kept e others → f others ≡ tree_with e (g others))
+      → goes_on found on c (blocks_with e kids) (opening_with e inner) (beside_with e beside) rest f ≡ tree_with e (goes_on found on c kids inner beside rest g)
+  goes_on-with None on c kids inner beside rest f g k l more = new-with (length rest) on false (Inside c kids inner) beside rest k
+  goes_on-with (Some others) on c kids inner beside rest f g k l more =
+      ap (in_container c (blocks_with e kids)) (more others l) ∙ in_container-with c kids (g others)
+
+  pub grow-with : (on : Constructs) (beside : Beside) (now : Opening) (rest : Rest) → Kept e rest
+      → grow on (beside_with e beside) (opening_with e now) rest ≡ tree_with e (grow on beside now rest)
+  grow-with on beside (Leaf leaf) rest k =
+      let other = new (length rest) on true (Leaf leaf) beside rest in
+      ap (λ found. taken found (new (length rest) on true (opening_with e (Leaf leaf)) (beside_with e beside) rest)) (takes-with on leaf rest beside k)
+      ∙ ap (taken (if_tree (takes on leaf rest beside))) (new-with (length rest) on true (Leaf leaf) beside rest k)
+      ∙ taken-with (takes on leaf rest beside) other
+  grow-with on beside (Inside c kids inner) rest k =
+      let inside = opening_with e inner in
+      let more : Rest → Tree = grow on (beside_in c rest (beside_with e beside)) inside in
+      let found : Option Rest = continues on c (began_blank kids inner) rest in
+      ap (λ blank. goes_on (continues on c blank rest) on c (blocks_with e kids) inside (beside_with e beside) rest more) (began_blank-with kids inner)
+      ∙ goes_on-with found on c kids inner beside rest more (grow on (beside_in c rest beside) inner) k
+      (continues-kept e on c (began_blank kids inner) rest k)
+      (λ others l. grow-with on (beside_in c rest beside) inner others l)

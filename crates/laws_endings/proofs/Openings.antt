@@ -1,0 +1,25 @@
+-- What is open after some lines, with another line ending in place of each LF.
+use Rattle.markdown_options.specs.declared.line_ending.LineEnding.{LineEnding}
+use Rattle.definition_text.specs.declared.beside.Beside.{Beside}
+use Rattle.definition_block.specs.Tree.{OpenLeaf, Text, Indented, Fenced, OpenHtml, Opening, Leaf, Inside, Tree, tree}
+use Rattle.laws_endings.specs.Endings.{if_ending_with, lines_with, blocks_with}
+
+-- an open leaf
+abbrev pub leaf_with : LineEnding → OpenLeaf → OpenLeaf
+leaf_with e (Text ls) = Text (lines_with e ls)
+leaf_with e (Indented ls pending) = Indented (lines_with e ls) (lines_with e pending)
+leaf_with e (Fenced fence ending ls) = Fenced fence (if_ending_with e ending) (lines_with e ls)
+leaf_with e (OpenHtml kind ls) = OpenHtml kind (lines_with e ls)
+
+-- what is open
+abbrev pub opening_with : LineEnding → Opening → Opening
+opening_with e (Leaf leaf) = Leaf (leaf_with e leaf)
+opening_with e (Inside c kids inner) = Inside c (blocks_with e kids) (opening_with e inner)
+
+-- a tree
+abbrev pub tree_with : LineEnding → Tree → Tree
+tree_with e t = tree (blocks_with e t.done) (opening_with e t.now)
+
+-- what stands beside the rest of a line
+abbrev pub beside_with : LineEnding → Beside → Beside
+beside_with e beside = record { before = beside.before; ending = if_ending_with e beside.ending }

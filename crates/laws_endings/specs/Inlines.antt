@@ -1,0 +1,42 @@
+-- Inline structure with another line ending in place of each LF.
+use Rattle.std.specs.Prelude.{List, map}
+use Rattle.std.specs.Option.{option_map}
+use Rattle.markdown_options.specs.declared.line_ending.LineEnding.{LineEnding}
+use Rattle.definition_text.specs.InlineCode.{InlineCode, inline_code}
+use Rattle.definition_inline.specs.Inline.{Target, Resource, Reference, Inline, Data, Escape, Character, Code, Math, Autolink, Html, EscapedBreak, TrailingBreak, LineEnd, Emphasis, Strong, Strikethrough, Link, Image, Inlines, Nil, Cons}
+use Rattle.laws_endings.specs.Endings.{code_with, codes_with}
+
+-- a code of a content, between the same kinds
+abbrev pub inline_code_with : LineEnding → InlineCode → InlineCode
+inline_code_with e c = inline_code (code_with e c.code) c.before c.after
+
+abbrev pub content_with : LineEnding → List InlineCode → List InlineCode
+content_with e content = map (inline_code_with e) content
+
+-- what a link or an image leads to
+abbrev pub target_with : LineEnding → Target → Target
+target_with e (Resource destination title) = Resource (codes_with e destination) (option_map (codes_with e) title)
+target_with e (Reference label) = Reference (codes_with e label)
+
+abbrev mutual
+  -- a part of a text with this ending in place of each LF of it that isn't turned into a space
+  pub inline_with : LineEnding → Inline → Inline
+  inline_with e (Data b) = Data b
+  inline_with e (Escape b) = Escape b
+  inline_with e (Character bytes) = Character bytes
+  inline_with e (Code text) = Code text
+  inline_with e (Math text) = Math text
+  inline_with e (Autolink is_email text) = Autolink is_email (codes_with e text)
+  inline_with e (Html html) = Html (codes_with e html)
+  inline_with e EscapedBreak = EscapedBreak
+  inline_with e TrailingBreak = TrailingBreak
+  inline_with e (LineEnd code) = LineEnd (code_with e code)
+  inline_with e (Emphasis kids) = Emphasis (inlines_with e kids)
+  inline_with e (Strong kids) = Strong (inlines_with e kids)
+  inline_with e (Strikethrough kids) = Strikethrough (inlines_with e kids)
+  inline_with e (Link target kids) = Link (target_with e target) (inlines_with e kids)
+  inline_with e (Image target kids) = Image (target_with e target) (inlines_with e kids)
+
+  pub inlines_with : LineEnding → Inlines → Inlines
+  inlines_with e Nil = Nil
+  inlines_with e (Cons i is) = Cons (inline_with e i) (inlines_with e is)

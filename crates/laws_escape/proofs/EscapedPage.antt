@@ -1,0 +1,66 @@
+-- The page of an escaped line.
+use Rattle.std.proofs.Common.{◌≡◌, ℕ, true, List, [], ◌∷◌, ◌++◌, None, refl, sym, ap, ◌∙◌, append_assoc}
+use Rattle.std.specs.Prelude.{codes}
+use Rattle.std.proofs.lemmas.Bool.{cond-false}
+use Rattle.std.proofs.lemmas.List.{append-nil}
+use Rattle.markdown_options.specs.declared.line_ending.LineEnding.{LineEnding}
+use Rattle.markdown_options.specs.declared.configuration.Options.{Options}
+use Rattle.definition_text.specs.declared.beside.Kind.{Kind}
+use Rattle.definition_text.specs.declared.beside.Kind.TheVariants.{Whitespace}
+use Rattle.definition_text.specs.Encode.{encode}
+use Rattle.definition_text.specs.Lines.{has_mark, kind_before_text}
+use Rattle.definition_text.specs.BlockLines.{BlockLine, block_line}
+use Rattle.definition_text.specs.InlineCode.{inline_content}
+use Rattle.definition_block.specs.Tree.{Paragraph, ended, blocks}
+use Rattle.definition_page.specs.TextTables.{TextTables}
+use Rattle.html_bytes.specs.Document.{Document, document, context_of, meaning_of, text_of}
+use Rattle.html_bytes.specs.Html.{default_ending, blocks_html, marked_html}
+use Rattle.html_bytes.proofs.SamePage.{html_is}
+use Rattle.laws_visible.proofs.PlainText.{content_codes}
+use Rattle.laws_inline.specs.Escaped.{escaped, IsTrimmedLine}
+use Rattle.laws_inline.proofs.Escaped.{escape_law}
+use Rattle.laws_escape.specs.EscapedPage.{EscapedPageLaw}
+use Rattle.laws_escape.proofs.Paragraph.{one_paragraph}
+use Rattle.laws_escape.proofs.EscapedLine.{Begins, begins_nothing, escaped_in_line, no_mark}
+
+-- what a document of one paragraph prints
+paragraph_html : (tables : TextTables) (options : Options) (ending : LineEnding) (ls : List BlockLine)
+    → blocks_html tables options ending (ended (Paragraph ls) None) ≡ codes "<p>" ++ text_of (document options tables []) ls ++ codes "</p>"
+paragraph_html tables options ending ls =
+    let text = text_of (document options tables []) ls in
+    append-nil ((codes "<p>" ++ text) ++ codes "</p>") ∙ append_assoc (codes "<p>") text (codes "</p>")
+
+-- what the paragraph of an escaped line says
+line_says : (d : Document) (line : List ℕ) (before : Kind) → d.options.parse.constructs.character_escape ≡ true → IsTrimmedLine line
+    → text_of d (block_line (escaped line) None before ∷ []) ≡ encode line
+line_says d line before on h =
+    let ls = block_line (escaped line) None before ∷ [] in
+    let content = inline_content d.tables.is_punctuation Whitespace ls in
+    let same = content_codes d.tables.is_punctuation Whitespace ls (escaped_in_line line h.0) in
+    escape_law (context_of d) (meaning_of d) content line on h (same ∙ append-nil (escaped line ++ []) ∙ append-nil (escaped line))
+
+-- the blocks of an escaped line
+its_blocks : (options : Options) (before : Kind) (line : List ℕ) → Begins (escaped line)
+    → blocks options.parse.constructs before (escaped line) ≡ ended (Paragraph (block_line (escaped line) None before ∷ [])) None
+its_blocks options before line h =
+    let on = options.parse.constructs in
+    ap (blocks on before) h.are ∙ one_paragraph on h.first h.others h.line before
+    ∙ ap (λ xs. ended (Paragraph (block_line xs None before ∷ [])) None) (sym h.are)
+
+marked_page : (tables : TextTables) (line : List ℕ) (options : Options) (before : Kind) → options.parse.constructs.character_escape ≡ true
+    → IsTrimmedLine line → Begins (escaped line)
+    → marked_html tables before (escaped line) options ≡ codes "<p>" ++ encode line ++ codes "</p>"
+marked_page tables line options before on h begins =
+    let ending = default_ending options (escaped line) in
+    ap (blocks_html tables options ending) (its_blocks options before line begins)
+    ∙ paragraph_html tables options ending (block_line (escaped line) None before ∷ [])
+    ∙ ap (λ text. codes "<p>" ++ text ++ codes "</p>") (line_says (document options tables []) line before on h)
+
+pub escaped_page_law : EscapedPageLaw
+escaped_page_law tables [] options on some h unmarked = absurd (some refl)
+escaped_page_law tables (b ∷ bs) options on some h unmarked =
+    let text = escaped (b ∷ bs) in
+    let before = kind_before_text text in
+    html_is tables text options
+    ∙ ap (λ xs. marked_html tables before xs options) (cond-false (has_mark text) _ text (no_mark (b ∷ bs) unmarked))
+    ∙ marked_page tables (b ∷ bs) options before on h (begins_nothing b bs h)

@@ -1,0 +1,4 @@
+pub mod BeginsNothing
+pub mod Paragraph
+pub mod EscapedLine
+pub mod EscapedPage

@@ -1,0 +1,121 @@
+-- A text of one line that begins nothing is a paragraph.
+use Rattle.std.proofs.Common.{◌≡◌, ℕ, zero, suc, true, false, ◌||◌, List, [], ◌∷◌, ◌++◌, Option, None, refl, ap, ◌∙◌, take, length}
+use Rattle.std.specs.Prelude.{◌+◌, ◌==◌}
+use Rattle.std.specs.List.{list_all}
+use Rattle.std.proofs.lemmas.Bool.{cond-false, cond_both, and_parts, or_parts}
+use Rattle.markdown_options.specs.declared.configuration.Constructs.{Constructs}
+use Rattle.definition_text.specs.declared.beside.Beside.{Beside}
+use Rattle.definition_text.specs.declared.beside.Kind.{Kind}
+use Rattle.definition_text.specs.Columns.{is_blank, is_tab_column, bytes_of, block_codes, codes_from}
+use Rattle.definition_text.specs.Lines.{text_line, in_first_line, lines}
+use Rattle.definition_text.specs.BlockLines.{BlockLine, block_line}
+use Rattle.definition_text.specs.Runs.{run}
+use Rattle.definition_inline.specs.Label.{label_at}
+use Rattle.definition_inline.specs.Definition.{with_label, definition_at}
+use Rattle.definition_block.specs.Started.{Started}
+use Rattle.definition_block.specs.Definitions.{cut_into, cut_after, cut_most, cut}
+use Rattle.definition_block.specs.Frontmatter.{is_metadata_fence, after_frontmatter}
+use Rattle.definition_block.specs.HeadingSetext.{underline}
+use Rattle.definition_block.specs.ThematicBreak.{is_break}
+use Rattle.definition_block.specs.Tree.{Nil, Paragraph, join, ended, Text, Leaf, Tree, tree, nothing, empty_tree, with_paragraph, rest_line, begun, taken, underlined, text_line_of, break_or_text, beside_in, leaf_line, start, new, grow, beside_line, step, closed, children, children_after, blocks}
+use Rattle.laws_visible.proofs.PlainText.{and_no, bare_other}
+use Rattle.laws_inline.specs.Escaped.{is_line_byte}
+use Rattle.laws_inline.proofs.Escaped.{no_and, no_column, line_byte}
+use Rattle.laws_escape.proofs.BeginsNothing.{BeginsNothing, same_bytes, no_start, not_blank, no_underline, no_break, no_leaf}
+
+-- ---- one line without tabs
+
+-- a byte that ends no line
+first_follows : (b : ℕ) (bs : List ℕ) → is_line_byte b ≡ true → lines (b ∷ bs) ≡ in_first_line b (lines bs)
+first_follows b bs line =
+    let none = or_parts (b == 10) (b == 13) (or_parts ((b == 10) || (b == 13)) (b == 257) (line_byte b line).1).0 in
+    cond-false (b == 10) _ _ none.0 ∙ cond-false (b == 13) _ _ none.1
+
+one_line : (b : ℕ) (bs : List ℕ) → list_all is_line_byte (b ∷ bs) ≡ true → lines (b ∷ bs) ≡ text_line (b ∷ bs) None ∷ []
+one_line b [] all = first_follows b [] (and_parts (is_line_byte b) true all).0
+one_line b (next ∷ bs) all =
+    let parts = and_parts (is_line_byte b) (list_all is_line_byte (next ∷ bs)) all in
+    first_follows b (next ∷ bs) parts.0 ∙ ap (in_first_line b) (one_line next bs parts.1)
+
+no_tabs : (column : ℕ) (bytes : List ℕ) → list_all is_line_byte bytes ≡ true → codes_from column bytes ≡ bytes
+no_tabs column [] all = refl
+no_tabs column (b ∷ bs) all =
+    let parts = and_parts (is_line_byte b) (list_all is_line_byte bs) all in
+    cond-false (b == 9) _ _ (line_byte b parts.0).0 ∙ ap (λ xs. b ∷ xs) (no_tabs (column + 1) bs parts.1)
+
+module _ (on : Constructs) (c : ℕ) (cs : List ℕ) (line : BeginsNothing c cs) where
+  abbrev here : List ℕ
+  here = c ∷ cs
+
+  -- ---- the line in the tree
+
+  abbrev in_paragraph : Beside → Tree
+  in_paragraph beside = tree Nil (Leaf (Text (rest_line here beside ∷ [])))
+
+  cut_none : cut on [] ≡ cut_into Nil []
+  cut_none = cond_both on.definition (cut_most 0 []) (cut_into Nil []) (λ x. x ≡ cut_into Nil []) (λ _. refl) (λ _. refl)
+
+  its_text : (beside : Beside) → text_line_of on nothing here beside ≡ in_paragraph beside
+  its_text beside = ap (λ x. tree (join (with_paragraph x) Nil) (Leaf (Text (rest_line here beside ∷ [])))) cut_none
+
+  its_leaf : (beside : Beside) → leaf_line on nothing here beside ≡ in_paragraph beside
+  its_leaf beside =
+      let text = break_or_text on nothing here beside in
+      let turned = λ (o : Option ℕ). taken (underlined on o [] beside.ending) text in
+      cond-false (is_blank here) _ _ (not_blank on c cs line)
+      ∙ ap (λ o. begun on o nothing (turned (underline on here))) (no_leaf on c cs line beside)
+      ∙ ap turned (no_underline on c cs line)
+      ∙ cond-false (is_break on here) _ _ (no_break on c cs line) ∙ its_text beside
+
+  its_place : (most : ℕ) (beside : Beside) → new most on true nothing beside here ≡ in_paragraph beside
+  its_place zero beside = its_leaf beside
+  its_place (suc most) beside =
+      let more = λ (s : Started). new most on true nothing (beside_in s.container here beside) s.rest in
+      ap (λ o. start on o nothing (leaf_line on nothing here beside) more) (no_start on c cs line false) ∙ its_leaf beside
+
+  -- ---- the paragraph
+
+  no_columns : block_codes here ≡ here
+  no_columns =
+      let none = cond-false (is_tab_column c) _ 0 (no_column c (and_parts (is_line_byte c) (list_all is_line_byte cs) line.bytes).0) in
+      ap (λ n. take n here ++ bytes_of here) none ∙ same_bytes here line.bytes
+
+  abbrev alone : Kind → BlockLine
+  alone before = block_line here None before
+
+  no_definition : (others : List ℕ) → definition_at (c ∷ others) ≡ None
+  no_definition others =
+      ap (λ xs. with_label (label_at xs)) (bare_other c others line.no_white)
+      ∙ ap with_label (cond-false (c == 91) _ _ (line.no_punctuation 91 refl refl))
+
+  uncut : (before : Kind) → cut on (alone before ∷ []) ≡ cut_into Nil (alone before ∷ [])
+  uncut before =
+      cond_both on.definition (cut_most 1 (alone before ∷ [])) (cut_into Nil (alone before ∷ [])) (λ x. x ≡ cut_into Nil (alone before ∷ []))
+      (λ _. ap (λ o. cut_after o (alone before ∷ []) (cut_most 0)) (no_definition ((cs ++ []) ++ []))) (λ _. refl)
+
+  its_step : (before : Kind) → step on before empty_tree (text_line here None) ≡ tree Nil (Leaf (Text (alone before ∷ [])))
+  its_step before =
+      let beside = beside_line before (text_line here None) in
+      let on_tree = λ (t : Tree). tree (join Nil t.done) t.now in
+      ap (λ xs. on_tree (grow on beside nothing xs)) (no_tabs 0 here line.bytes)
+      ∙ ap on_tree (its_place (length here) beside)
+      ∙ ap (λ xs. tree Nil (Leaf (Text (block_line xs None before ∷ [])))) no_columns
+
+  its_children : (before : Kind) → children on before (text_line here None ∷ []) ≡ ended (Paragraph (alone before ∷ [])) None
+  its_children before = ap (closed on) (its_step before) ∙ ap with_paragraph (uncut before)
+
+  -- ---- the text
+
+  no_metadata : (byte : ℕ) → (c == byte) ≡ false → is_metadata_fence byte here ≡ false
+  no_metadata byte apart = no_and (run byte here == 3) _ (ap (λ n. n == 3) (cond-false (c == byte) _ 0 apart))
+
+  no_frontmatter : after_frontmatter on (text_line here None ∷ []) ≡ None
+  no_frontmatter =
+      cond-false _ _ _ (and_no on.frontmatter (is_metadata_fence 45 here) (no_metadata 45 (line.no_punctuation 45 refl refl)))
+      ∙ cond-false _ _ _ (and_no on.frontmatter (is_metadata_fence 43 here) (no_metadata 43 (line.no_punctuation 43 refl refl)))
+
+  pub one_paragraph : (before : Kind) → blocks on before here ≡ ended (Paragraph (alone before ∷ [])) None
+  one_paragraph before =
+      let line_alone = text_line here None ∷ [] in
+      ap (λ ls. children_after on before ls (after_frontmatter on ls)) (one_line c cs line.bytes)
+      ∙ ap (children_after on before line_alone) no_frontmatter ∙ its_children before

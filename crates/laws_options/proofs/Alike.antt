@@ -1,0 +1,123 @@
+-- Pages are the same by options that print raw HTML and URLs alike.
+use Rattle.std.proofs.Common.{◌≡◌, ℕ, false, not, cond, List, [], ◌∷◌, ◌++◌, Option, None, Some, refl, ap, ◌∙◌, map}
+use Rattle.std.specs.Prelude.{codes}
+use Rattle.std.specs.List.{flat_map}
+use Rattle.markdown_options.specs.declared.configuration.CompileOptions.{CompileOptions}
+use Rattle.definition_text.specs.BlockLines.{BlockLine}
+use Rattle.definition_text.specs.Columns.{bytes_of, bare}
+use Rattle.definition_text.specs.Lines.{ending_text}
+use Rattle.definition_inline.specs.Inline.{Linked, Inline, Autolink, Html, Emphasis, Strong, Strikethrough, Link, Image, Inlines, Nil, Cons}
+use Rattle.definition_page.specs.Tags.{Said, Words, EndOfLine, Attribute, attribute, tag, bare_tag}
+use Rattle.definition_page.specs.Pieces.{Void, Says, Eol, Fresh}
+use Rattle.definition_page.specs.InlinePieces.{Meaning, link_url, image_url, url_of, title_attribute, address, raw_html, HtmlLine, html_lines, html_line_says, later_line_says, html_lines_say, leads_to, link_tag, image_tag, part_says, description, element, part_pieces, inline_pieces}
+use Rattle.definition_page.specs.Page as page
+use Rattle.definition_page.specs.Page.{Page}
+use Rattle.definition_page.specs.BlockPieces.{Place, at_top, inside, html_line, says, heading_name, list_tag, last_shown, ends_plainly, fresh_unless, block_pieces, children_pieces, document_pieces}
+
+-- options that print raw HTML and URLs alike
+pub record Alike (one another : CompileOptions) : Type 0 where
+  pub raw : (html : List ℕ) → raw_html one html ≡ raw_html another html
+  pub link : (url : List ℕ) → link_url one url ≡ link_url another url
+  pub image : (url : List ℕ) → image_url one url ≡ image_url another url
+
+module _ (m : Meaning) (compile : CompileOptions) (alike : Alike compile m.compile) where
+  abbrev other : Meaning
+  other = record m { compile = compile }
+
+  -- ---- raw HTML
+
+  same_line : (line ending : List ℕ) → html_line_says compile line ending ≡ html_line_says m.compile line ending
+  same_line line ending = ap (λ said. said ∷ map EndOfLine ending) (alike.raw (bytes_of line))
+
+  same_later : (ls : List HtmlLine) → flat_map (later_line_says compile) ls ≡ flat_map (later_line_says m.compile) ls
+  same_later [] = refl
+  same_later (l ∷ ls) =
+      ap (λ said. said ++ flat_map (later_line_says compile) ls) (same_line (bare l.line) l.ending)
+      ∙ ap (λ said. later_line_says m.compile l ++ said) (same_later ls)
+
+  same_lines : (ls : List HtmlLine) → html_lines_say compile ls ≡ html_lines_say m.compile ls
+  same_lines [] = refl
+  same_lines (first ∷ others) =
+      ap (λ said. said ++ flat_map (later_line_says compile) others) (same_line first.line first.ending)
+      ∙ ap (λ said. html_line_says m.compile first.line first.ending ++ said) (same_later others)
+
+  -- ---- inline structure
+
+  mutual
+    same_part_says : (i : Inline) → part_says compile i ≡ part_says m.compile i
+    same_part_says (Html html) = same_lines (html_lines html)
+    same_part_says (Emphasis kids) = same_description kids
+    same_part_says (Strong kids) = same_description kids
+    same_part_says (Strikethrough kids) = same_description kids
+    same_part_says (Link target kids) = same_description kids
+    same_part_says (Image target kids) = same_description kids
+    same_part_says i = refl
+
+    same_description : (is : Inlines) → description compile is ≡ description m.compile is
+    same_description Nil = refl
+    same_description (Cons i is) =
+        ap (λ said. said ++ description compile is) (same_part_says i) ∙ ap (λ said. part_says m.compile i ++ said) (same_description is)
+
+  same_link_tag : (target : Linked) → link_tag other target ≡ link_tag m target
+  same_link_tag target =
+      ap (λ url. tag (codes "a") (attribute (codes "href") url ∷ title_attribute m target.title)) (alike.link (url_of m target))
+
+  same_image_tag : (target : Linked) (text : List Said) → image_tag other target text ≡ image_tag m target text
+  same_image_tag target text =
+      let description : Attribute = record { name = codes "alt"; value = text } in
+      ap (λ url. tag (codes "img") (attribute (codes "src") url ∷ description ∷ title_attribute m target.title)) (alike.image (url_of m target))
+
+  mutual
+    same_part : (i : Inline) → part_pieces other i ≡ part_pieces m i
+    same_part (Autolink is_email text) =
+        ap (λ url. element (tag (codes "a") (attribute (codes "href") url ∷ [])) (Says (Words text) ∷ [])) (alike.link (address is_email text))
+    same_part (Html html) = ap (map Says) (same_lines (html_lines html))
+    same_part (Emphasis kids) = ap (element (bare_tag (codes "em"))) (same_inlines kids)
+    same_part (Strong kids) = ap (element (bare_tag (codes "strong"))) (same_inlines kids)
+    same_part (Strikethrough kids) = ap (element (bare_tag (codes "del"))) (same_inlines kids)
+    same_part (Link target kids) =
+        ap (λ t. element t (inline_pieces other kids)) (same_link_tag (leads_to m.definition target))
+        ∙ ap (element (link_tag m (leads_to m.definition target))) (same_inlines kids)
+    same_part (Image target kids) =
+        ap (λ t. Void t ∷ []) (same_image_tag (leads_to m.definition target) (description compile kids))
+        ∙ ap (λ said. Void (image_tag m (leads_to m.definition target) said) ∷ []) (same_description kids)
+    same_part i = refl
+
+    same_inlines : (is : Inlines) → inline_pieces other is ≡ inline_pieces m is
+    same_inlines Nil = refl
+    same_inlines (Cons i is) = ap (λ ps. ps ++ inline_pieces other is) (same_part i) ∙ ap (λ ps. part_pieces m i ++ ps) (same_inlines is)
+
+  -- ---- blocks
+
+  same_html : (ls : List BlockLine) → flat_map (html_line compile) ls ≡ flat_map (html_line m.compile) ls
+  same_html [] = refl
+  same_html (l ∷ ls) =
+      ap (λ said. (said ∷ Words (ending_text l.ending) ∷ []) ++ flat_map (html_line compile) ls) (alike.raw (bytes_of l.codes))
+      ∙ ap (λ said. html_line m.compile l ++ said) (same_html ls)
+
+  same_paragraph : (place : Place) (before : Option page.Block) (is : Inlines)
+      → block_pieces other place before (page.Paragraph is) ≡ block_pieces m place before (page.Paragraph is)
+  same_paragraph place before is = ap (λ ps. cond place.tight ps (Fresh ∷ element (bare_tag (codes "p")) ps)) (same_inlines is)
+
+  mutual
+    same_block : (place : Place) (before : Option page.Block) (b : page.Block) → block_pieces other place before b ≡ block_pieces m place before b
+    same_block place before (page.Paragraph is) = same_paragraph place before is
+    same_block place before (page.Heading rank is) = ap (λ ps. Fresh ∷ element (bare_tag (heading_name rank)) ps) (same_inlines is)
+    same_block place before (page.Html ls) = ap (λ said. Fresh ∷ says said) (same_html ls)
+    same_block place before (page.Quote kids) =
+        ap (λ ps. Fresh ∷ element (bare_tag (codes "blockquote")) (ps ++ Fresh ∷ [])) (same_children (inside false) None kids)
+    same_block place before (page.ItemList number loose items) =
+        ap (λ ps. Fresh ∷ element (list_tag number) (ps ++ Eol ∷ [])) (same_children (inside (not loose)) None items)
+    same_block place before (page.Item kids) =
+        ap (λ ps. Fresh ∷ element (bare_tag (codes "li")) (ps ++ fresh_unless (ends_plainly place.tight (last_shown None kids))))
+        (same_children (inside place.tight) None kids)
+    same_block place before b = refl
+
+    same_children : (place : Place) (before : Option page.Block) (bs : page.Blocks) → children_pieces other place before bs ≡ children_pieces m place before bs
+    same_children place before page.Nil = refl
+    same_children place before (page.Cons b bs) =
+        ap (λ ps. ps ++ children_pieces other place (Some b) bs) (same_block place before b)
+        ∙ ap (λ ps. block_pieces m place before b ++ ps) (same_children place (Some b) bs)
+
+  pub same_document : (p : Page) → document_pieces other p ≡ document_pieces m p
+  same_document p = ap (λ ps. ps ++ fresh_unless (not p.ends_blank)) (same_children at_top None p.blocks)

@@ -1,0 +1,42 @@
+-- Where an option of printing makes no difference.
+use Rattle.std.specs.Prelude.{◌≡◌, ℕ, Bool, true, false, List, is_some}
+use Rattle.markdown_options.specs.declared.line_ending.LineEnding.{LineEnding}
+use Rattle.markdown_options.specs.declared.configuration.CompileOptions.{CompileOptions}
+use Rattle.markdown_options.specs.declared.configuration.Options.{Options}
+use Rattle.definition_text.specs.Lines.{without_mark, first_line}
+use Rattle.definition_page.specs.TextTables.{TextTables}
+use Rattle.definition_page.specs.Html.{html}
+
+-- the same options, with other ones of printing
+abbrev pub printing_by : CompileOptions → Options → Options
+printing_by compile options = record options { compile = compile }
+
+-- with the tag filter or without
+abbrev pub with_tagfilter : Bool → Options → Options
+with_tagfilter filter options = printing_by (record options.compile { gfm_tagfilter = filter }) options
+
+-- with any source of an image allowed or not
+abbrev pub with_any_source : Bool → Options → Options
+with_any_source any options = printing_by (record options.compile { allow_any_img_src = any }) options
+
+-- with another default ending
+abbrev pub with_default_ending : LineEnding → Options → Options
+with_default_ending ending options = printing_by (record options.compile { default_line_ending = ending }) options
+
+-- where dangerous HTML isn't allowed, a page is the same with the tag filter and without (GFM 6.11)
+abbrev pub TagfilterLaw : Type 0
+TagfilterLaw =
+    (tables : TextTables) (text : List ℕ) (options : Options) (filter : Bool) → options.compile.allow_dangerous_html ≡ false
+    → html tables text (with_tagfilter filter options) ≡ html tables text options
+
+-- where dangerous protocols are allowed, a page is the same whether any source of an image is allowed or not (CommonMark 6.4)
+abbrev pub ImageSourceLaw : Type 0
+ImageSourceLaw =
+    (tables : TextTables) (text : List ℕ) (options : Options) (any : Bool) → options.compile.allow_dangerous_protocol ≡ true
+    → html tables text (with_any_source any options) ≡ html tables text options
+
+-- where the first line of a text has an ending, its page is the same whatever the default ending (CommonMark 2.1)
+abbrev pub DefaultEndingLaw : Type 0
+DefaultEndingLaw =
+    (tables : TextTables) (text : List ℕ) (options : Options) (ending : LineEnding) → is_some (first_line (without_mark text)).ending ≡ true
+    → html tables text (with_default_ending ending options) ≡ html tables text options

@@ -1,0 +1,4 @@
+//! Options that make no difference.
+#![tactic(auto)]
+
+pub mod laws;

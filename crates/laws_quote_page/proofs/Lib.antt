@@ -1,0 +1,6 @@
+mod Lists
+mod Siblings
+mod Bytes
+mod Printed
+pub mod Law
+pub mod Rows

@@ -1,0 +1,38 @@
+-- A page without the line endings beside its tags.
+use Rattle.std.specs.Prelude.{ℕ, if◌then◌else◌, ◌==◌, List, [], ◌∷◌, ◌++◌, Option, None, Some, unwrap_or}
+use Rattle.std.specs.List.{fold}
+use Rattle.std.specs.Option.{option_map}
+use Rattle.definition_text.specs.Lines.{ends_line}
+
+-- what is kept of the bytes so far, and the run of CR and LF after that; none where it is dropped whatever follows it, at the start and after `>`
+pub record Squeezed : Type 0 where
+  pub kept : List ℕ
+  pub run : Option (List ℕ)
+
+abbrev pub squeezed : List ℕ → Option (List ℕ) → Squeezed
+squeezed kept run = record { kept = kept; run = run }
+
+-- the run that is kept before this byte: before `<` none is
+abbrev pub run_before : ℕ → Option (List ℕ) → List ℕ
+run_before b run = if b == 60 then [] else unwrap_or run []
+
+-- the run after a byte that isn't one of its own
+abbrev pub run_after : ℕ → Option (List ℕ)
+run_after b = if b == 62 then None else Some []
+
+-- one more byte
+abbrev pub with_byte : Squeezed → ℕ → Squeezed
+with_byte s b =
+    if ends_line b then squeezed s.kept (option_map (λ run. run ++ b ∷ []) s.run)
+    else squeezed (s.kept ++ (run_before b s.run ++ b ∷ [])) (run_after b)
+
+-- more bytes
+abbrev pub with_bytes : Squeezed → List ℕ → Squeezed
+with_bytes s bytes = fold with_byte s bytes
+
+abbrev pub nothing_yet : Squeezed
+nothing_yet = squeezed [] None
+
+-- bytes without each whole run of CR and LF that stands at their start or end, after `>` or before `<`
+abbrev pub squeeze : List ℕ → List ℕ
+squeeze bytes = (with_bytes nothing_yet bytes).kept

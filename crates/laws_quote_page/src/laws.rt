@@ -1,0 +1,22 @@
+//! The law of the page of a text with `> ` before every line.
+ghost use Rattle.laws_quote_page.specs.Laws.{QuotePageLaw, QuotePagesLaw, SqueezeRows};
+
+/// Where block quotes are on, and frontmatter and footnotes off, a text that has a byte, no tab and no byte order mark,
+/// with `> ` before every line, prints a block quote around what it prints alone: the two pages are the same
+/// without the runs of line endings at their start and end, after `>` and before `<`.
+#[tactic(auto, using(crate::proofs::Law::quote_page_law))]
+pub fn quote_page_law()
+    ensures { QuotePageLaw }
+{}
+
+/// The same with `> ` n times before every line: n block quotes, one in another.
+#[tactic(auto, using(crate::proofs::Law::quote_pages_law))]
+pub fn quote_pages_law()
+    ensures { QuotePagesLaw }
+{}
+
+/// What is left of some bytes without such runs.
+#[tactic(auto, using(crate::proofs::Rows::squeeze_rows))]
+pub fn squeeze_rows()
+    ensures { SqueezeRows }
+{}

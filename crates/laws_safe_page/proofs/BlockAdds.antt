@@ -1,0 +1,161 @@
+-- What the blocks of a page print adds a safe page.
+use Rattle.std.proofs.Common.{◌≡◌, ℕ, Bool, true, false, eqb, ◌||◌, not, List, [], ◌∷◌, ◌++◌, Option, None, Some, codes, sym, refl, subst, inl, inr}
+use Rattle.std.specs.List.{flat_map}
+use Rattle.std.proofs.lemmas.Bool.{cond_both, or_cases, eqb-true}
+use Rattle.markdown_options.specs.declared.line_ending.LineEnding.{LineEnding}
+use Rattle.markdown_options.specs.declared.line_ending.LineEnding.TheVariants.{CarriageReturnLineFeed, CarriageReturn, LineFeed}
+use Rattle.markdown_options.specs.LineEndings.{ending_bytes}
+use Rattle.definition_text.specs.BlockLines.{BlockLine}
+use Rattle.definition_text.specs.Columns.{bytes_of}
+use Rattle.definition_page.specs.Tags.{Words, Number, Tag, tag, bare_tag}
+use Rattle.definition_page.specs.Pieces.{Piece, Void, Says, Eol, Fresh, layout}
+use Rattle.definition_page.specs.Page.{Page, Block, Paragraph, Heading, Break, IndentedCode, FencedCode, Html, Definition, Quote, ItemList, Item, Ending, Blank, Blocks, Nil, Cons}
+use Rattle.definition_page.specs.InlinePieces.{Meaning, element, inline_pieces}
+use Rattle.definition_page.specs.BlockPieces.{Place, at_top, inside, code_line, html_line, says, heading_name, info_attributes, list_tag, is_silent, last_shown, ends_plainly, fresh_unless, fenced_pieces, block_pieces, children_pieces, document_pieces}
+use Rattle.html_safe_page.specs.Table.{start_rows, void_rows}
+use Rattle.html_safe_page.specs.SafePage.{IsSafePage}
+use Rattle.html_safe_page.proofs.Closing.{closed}
+use Rattle.laws_safe_page.specs.SafeHtml.{AreSafe}
+use Rattle.laws_safe_page.proofs.Values.{IsTextPart, value_spelled}
+use Rattle.laws_safe_page.proofs.Each.{each_flat_map}
+use Rattle.laws_safe_page.proofs.Tags.{IsTag}
+use Rattle.laws_safe_page.proofs.Pieces.{Adds, adds_nothing, adds_append, adds_says, adds_void, adds_element, adds_parts, adds_eol, adds_fresh, page_of_pieces}
+use Rattle.laws_safe_page.proofs.Links.{words_text}
+use Rattle.laws_safe_page.proofs.InlineAdds.{AllEndLines, html_is_text, inline_adds}
+
+-- ---- what a page holds
+
+-- 1 to 6 (CommonMark 4.2 and 4.3)
+abbrev pub is_rank : ℕ → Bool
+is_rank rank = (eqb rank 1 || eqb rank 2 || eqb rank 3) || (eqb rank 4 || eqb rank 5 || eqb rank 6)
+
+-- headings have such ranks, and the codes of line endings are those, at any depth
+abbrev mutual
+  pub IsReadable : Block → Type 0
+  IsReadable (Paragraph is) = AllEndLines is
+  IsReadable (Heading rank is) = (is_rank rank ≡ true) × AllEndLines is
+  IsReadable (Quote kids) = AreReadable kids
+  IsReadable (ItemList number loose items) = AreReadable items
+  IsReadable (Item kids) = AreReadable kids
+  IsReadable b = Unit {0}
+
+  pub AreReadable : Blocks → Type 0
+  AreReadable Nil = Unit {0}
+  AreReadable (Cons b bs) = IsReadable b × AreReadable bs
+
+-- ---- tags
+
+heading_is_tag : (rank : ℕ) → is_rank rank ≡ true → IsTag start_rows (bare_tag (heading_name rank))
+unfolding start_rows
+heading_is_tag rank h =
+    let at = λ (n : ℕ) (e : eqb rank n ≡ true) (p : IsTag start_rows (bare_tag (heading_name n))).
+    subst (λ n. IsTag start_rows (bare_tag (heading_name n))) (sym (eqb-true rank n e)) p in
+    elim (or_cases (eqb rank 1 || eqb rank 2 || eqb rank 3) (eqb rank 4 || eqb rank 5 || eqb rank 6) h) [
+      | inl low ↦ elim (or_cases (eqb rank 1 || eqb rank 2) (eqb rank 3) low) [
+        | inl lower ↦ elim (or_cases (eqb rank 1) (eqb rank 2) lower) [ inl e ↦ at 1 e (tt, refl) | inr e ↦ at 2 e (tt, refl) ]
+        | inr e ↦ at 3 e (tt, refl)
+      ]
+      | inr high ↦ elim (or_cases (eqb rank 4 || eqb rank 5) (eqb rank 6) high) [
+        | inl lower ↦ elim (or_cases (eqb rank 4) (eqb rank 5) lower) [ inl e ↦ at 4 e (tt, refl) | inr e ↦ at 5 e (tt, refl) ]
+        | inr e ↦ at 6 e (tt, refl)
+      ]
+    ]
+
+code_is_tag : (info : Option (List ℕ)) → IsTag start_rows (tag (codes "code") (info_attributes info))
+unfolding start_rows
+code_is_tag None = (tt, refl)
+code_is_tag (Some info) = ((words_text (codes "language-" ++ info), tt), refl)
+
+list_is_tag : (number : Option ℕ) → IsTag start_rows (list_tag number)
+unfolding start_rows
+list_is_tag None = (tt, refl)
+list_is_tag (Some number) =
+    cond_both (eqb number 1) [] _ (λ attributes. IsTag start_rows (tag (codes "ol") attributes)) (λ _. (tt, refl))
+    (λ _. ((value_spelled (Number number ∷ []) (tt, tt), tt), refl))
+
+pub ending_is_safe : (ending : LineEnding) → IsSafePage (ending_bytes ending)
+ending_is_safe CarriageReturnLineFeed = closed.both
+ending_is_safe CarriageReturn = closed.carriage_return
+ending_is_safe LineFeed = closed.line_feed
+
+-- ---- pieces
+
+module _ (default : List ℕ) (ending : IsSafePage default) (m : Meaning) (safe : AreSafe m.compile) where
+  fresh_line : (pieces : List Piece) → Adds default pieces → Adds default (Fresh ∷ pieces)
+  fresh_line pieces p = adds_append default (Fresh ∷ []) pieces (adds_fresh default ending) p
+
+  and_fresh : (pieces : List Piece) → Adds default pieces → Adds default (pieces ++ Fresh ∷ [])
+  and_fresh pieces p = adds_append default pieces (Fresh ∷ []) p (adds_fresh default ending)
+
+  adds_fresh_unless : (said : Bool) → Adds default (fresh_unless said)
+  adds_fresh_unless said = cond_both said [] (Fresh ∷ []) (Adds default) (λ _. adds_nothing default) (λ _. adds_fresh default ending)
+
+  -- an element that begins a line
+  block_element : (t : Tag) (pieces : List Piece) → IsTag start_rows t → Adds default pieces → Adds default (Fresh ∷ element t pieces)
+  block_element t pieces i p = fresh_line (element t pieces) (adds_element default t pieces i p)
+
+  code_adds : (ls : List BlockLine) → Adds default (says (flat_map code_line ls))
+  code_adds ls = adds_parts default (flat_map code_line ls) (each_flat_map IsTextPart code_line ls (λ line. (tt, (tt, tt))))
+
+  fenced_adds : (place : Place) (is_closed : Bool) (ls : List BlockLine) → Adds default (fenced_pieces place is_closed ls)
+  fenced_adds place is_closed [] = adds_nothing default
+  fenced_adds place is_closed (line ∷ others) =
+      and_fresh (says (flat_map code_line (line ∷ others)) ++ _)
+      (adds_append default (says (flat_map code_line (line ∷ others))) _ (code_adds (line ∷ others))
+      (cond_both (place.top || is_closed) [] (Eol ∷ []) (Adds default) (λ _. adds_nothing default) (λ _. adds_eol default ending)))
+
+  mutual
+    unfolding start_rows void_rows
+
+    block_adds : (place : Place) (before : Option Block) (b : Block) → IsReadable b → Adds default (block_pieces m place before b)
+    block_adds place before (Paragraph is) h =
+        cond_both place.tight (inline_pieces m is) _ (Adds default) (λ _. inline_adds default m safe is h)
+        (λ _. block_element (bare_tag (codes "p")) (inline_pieces m is) (tt, refl) (inline_adds default m safe is h))
+    block_adds place before (Heading rank is) h =
+        block_element (bare_tag (heading_name rank)) (inline_pieces m is) (heading_is_tag rank h.0) (inline_adds default m safe is h.1)
+    block_adds place before Break h = fresh_line (Void (bare_tag (codes "hr")) ∷ []) (adds_void default (bare_tag (codes "hr")) (tt, refl))
+    block_adds place before (IndentedCode ls) h =
+        let lines = says (flat_map code_line ls) ++ Fresh ∷ [] in
+        block_element (bare_tag (codes "pre")) (element (bare_tag (codes "code")) lines) (tt, refl)
+        (adds_element default (bare_tag (codes "code")) lines (tt, refl) (and_fresh (says (flat_map code_line ls)) (code_adds ls)))
+    block_adds place before (FencedCode info is_closed ls) h =
+        let code = tag (codes "code") (info_attributes info) in
+        let lines = fenced_pieces place is_closed ls in
+        adds_append default (Fresh ∷ element (bare_tag (codes "pre")) (element code lines)) (fresh_unless is_closed)
+        (block_element (bare_tag (codes "pre")) (element code lines) (tt, refl)
+        (adds_element default code lines (code_is_tag info) (fenced_adds place is_closed ls)))
+        (adds_fresh_unless is_closed)
+    block_adds place before (Html ls) h =
+        fresh_line (says (flat_map (html_line m.compile) ls))
+        (adds_parts default (flat_map (html_line m.compile) ls)
+        (each_flat_map IsTextPart (html_line m.compile) ls (λ line. (html_is_text m.compile safe (bytes_of line.codes), (tt, tt)))))
+    block_adds place before Definition h = adds_nothing default
+    block_adds place before (Quote kids) h =
+        let lines = children_pieces m (inside false) None kids in
+        block_element (bare_tag (codes "blockquote")) (lines ++ Fresh ∷ []) (tt, refl) (and_fresh lines (children_add (inside false) None kids h))
+    block_adds place before (ItemList number loose items) h =
+        let lines = children_pieces m (inside (not loose)) None items in
+        block_element (list_tag number) (lines ++ Eol ∷ []) (list_is_tag number)
+        (adds_append default lines (Eol ∷ []) (children_add (inside (not loose)) None items h) (adds_eol default ending))
+    block_adds place before (Item kids) h =
+        let lines = children_pieces m (inside place.tight) None kids in
+        let plainly = ends_plainly place.tight (last_shown None kids) in
+        block_element (bare_tag (codes "li")) (lines ++ fresh_unless plainly) (tt, refl)
+        (adds_append default lines (fresh_unless plainly) (children_add (inside place.tight) None kids h) (adds_fresh_unless plainly))
+    block_adds place before (Ending ending) h =
+        cond_both (is_silent place before) [] (Says (Words (ending_bytes ending)) ∷ []) (Adds default) (λ _. adds_nothing default)
+        (λ _. adds_says default (Words (ending_bytes ending)) tt)
+    block_adds place before (Blank ending) h = adds_nothing default
+
+    children_add : (place : Place) (before : Option Block) (bs : Blocks) → AreReadable bs → Adds default (children_pieces m place before bs)
+    children_add place before Nil h = adds_nothing default
+    children_add place before (Cons b bs) h =
+        adds_append default (block_pieces m place before b) (children_pieces m place (Some b) bs) (block_adds place before b h.0)
+        (children_add place (Some b) bs h.1)
+
+  pub page_is_safe : (page : Page) → AreReadable page.blocks → IsSafePage (layout default (document_pieces m page))
+  page_is_safe page h =
+      let lines = children_pieces m at_top None page.blocks in
+      let last = fresh_unless (not page.ends_blank) in
+      page_of_pieces default (lines ++ last)
+      (adds_append default lines last (children_add at_top None page.blocks h) (adds_fresh_unless (not page.ends_blank)))

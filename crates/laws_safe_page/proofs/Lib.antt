@@ -1,0 +1,11 @@
+pub mod Each
+pub mod Values
+pub mod Tags
+pub mod Pieces
+pub mod Links
+pub mod InlineAdds
+pub mod BlockAdds
+pub mod InlineReads
+pub mod BlockReads
+pub mod PageReads
+pub mod SafeHtml

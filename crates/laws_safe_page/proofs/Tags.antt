@@ -1,0 +1,55 @@
+-- Tags, as they are printed, are tags of a safe page.
+use Rattle.std.proofs.Common.{◌≡◌, ℕ, true, List, [], ◌∷◌, ◌++◌, codes, sym, refl, ap, ◌∙◌, subst, append_assoc}
+use Rattle.std.specs.List.{flat_map}
+use Rattle.definition_page.specs.Tags.{said_bytes, Attribute, attribute_bytes, Tag, tag_bytes, start_tag, end_tag, void_tag}
+use Rattle.html_safe_page.specs.Table.{Row, start_rows, void_rows}
+use Rattle.html_safe_page.specs.SafePage as safe
+use Rattle.html_safe_page.specs.SafePage.{IsSafePage, is_tag_of, spell_text, spell_attributes, spell_tag}
+use Rattle.html_safe_page.specs.Reader.{attribute, tag_of}
+use Rattle.html_safe_page.proofs.Text.{spell_text-append}
+use Rattle.html_safe_page.proofs.Sound.{tag_append}
+use Rattle.html_safe_page.proofs.Closing.{closed}
+use Rattle.laws_safe_page.proofs.Values.{IsText}
+
+-- the value of each attribute is a text
+abbrev pub HaveTexts : List Attribute → Type 0
+HaveTexts [] = Unit {0}
+HaveTexts (a ∷ others) = IsText (flat_map said_bytes a.value) × HaveTexts others
+
+-- attributes with their texts
+abbrev pub with_texts : (attributes : List Attribute) → HaveTexts attributes → List safe.Attribute
+with_texts [] h = []
+with_texts (a ∷ others) h = attribute a.name h.0.0 ∷ with_texts others h.1
+
+abbrev pub tag_with : (t : Tag) → HaveTexts t.attributes → safe.Tag
+tag_with t h = tag_of t.name (with_texts t.attributes h)
+
+-- a tag is one of these rows
+abbrev pub IsTag : List Row → Tag → Type 0
+IsTag rows t = (texts : HaveTexts t.attributes) × (is_tag_of rows (tag_with t texts) ≡ true)
+
+attributes_spelled : (attributes : List Attribute) (h : HaveTexts attributes)
+    → flat_map attribute_bytes attributes ≡ spell_attributes (with_texts attributes h) []
+attributes_spelled [] h = refl
+attributes_spelled (a ∷ others) h =
+    let start = a.name ++ codes "=\"" in
+    let value = flat_map said_bytes a.value in
+    let rest = flat_map attribute_bytes others in
+    ap (λ x. 32 ∷ x)
+    (append_assoc (start ++ value) (34 ∷ []) rest
+    ∙ append_assoc start value (34 ∷ rest)
+    ∙ ap (λ x. start ++ (x ++ (34 ∷ rest))) h.0.1
+    ∙ ap (λ x. start ++ x) (spell_text-append h.0.0 (34 ∷ rest))
+    ∙ ap (λ x. start ++ spell_text h.0.0 (34 ∷ x)) (attributes_spelled others h.1))
+
+tag_spelled : (t : Tag) (h : HaveTexts t.attributes) (after : List ℕ) → tag_bytes t ++ after ≡ spell_tag (tag_with t h) after
+tag_spelled t h after = ap (λ x. (t.name ++ x) ++ after) (attributes_spelled t.attributes h) ∙ sym (tag_append (tag_with t h) [] after)
+
+pub page_around : (t : Tag) (inside : List ℕ) → IsTag start_rows t → IsSafePage inside → IsSafePage (start_tag t ++ (inside ++ end_tag t.name))
+page_around t inside i p =
+    let rest = inside ++ end_tag t.name in
+    subst IsSafePage (sym (ap (λ x. 60 ∷ x) (append_assoc (tag_bytes t) (62 ∷ []) rest ∙ tag_spelled t i.0 (62 ∷ rest))))
+    (closed.tags_around (tag_with t i.0) inside i.1 p)
+
+pub page_of_void : (t : Tag) → IsTag void_rows t → IsSafePage (void_tag t)
+page_of_void t i = subst IsSafePage (sym (ap (λ x. 60 ∷ x) (tag_spelled t i.0 (codes " />")))) (closed.void_tag (tag_with t i.0) i.1)

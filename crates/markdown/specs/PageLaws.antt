@@ -1,0 +1,23 @@
+-- What the calls promise of a page besides that it is the definition's.
+use Rattle.std.specs.Prelude.{◌≡◌, ◌≢◌, ℕ, true, false, List, [], ◌++◌, codes}
+use Rattle.markdown_options.specs.declared.configuration.Options.{Options}
+use Rattle.definition_text.specs.Encode.{encode}
+use Rattle.definition_text.specs.Lines.{has_mark}
+use Rattle.markdown_definition.specs.Html.{html}
+use Rattle.markdown_definition.specs.TextTables.{TextTables}
+use Rattle.laws_inline.specs.Escaped.{escaped, IsTrimmedLine}
+use Rattle.laws_quote.specs.Quoted.{quoted}
+use Rattle.laws_quote_page.specs.Laws.{IsQuotable, quote_around}
+use Rattle.laws_quote_page.specs.Squeeze.{squeeze}
+
+-- the page of a text with `> ` before every line is a block quote around the page of that text, but for line endings beside tags
+abbrev pub QuotesPage : TextTables → Options → List ℕ → List ℕ → Type 0
+QuotesPage tables options value page =
+    (text : List ℕ) → value ≡ quoted text → IsQuotable text options.parse.constructs
+    → squeeze page ≡ squeeze (quote_around (html tables text options))
+
+-- the page of an escaped line is a paragraph that says the line, where escapes are on
+abbrev pub SaysEscapedLine : Options → List ℕ → List ℕ → Type 0
+SaysEscapedLine options value page =
+    (line : List ℕ) → value ≡ escaped line → options.parse.constructs.character_escape ≡ true → line ≢ [] → IsTrimmedLine line → has_mark line ≡ false
+    → page ≡ codes "<p>" ++ encode line ++ codes "</p>"

@@ -1,0 +1,60 @@
+//! Math (in neither standard): texts and their HTML.
+ghost use Rattle.std.specs.Prelude.{◌≡◌, true};
+ghost use Rattle.markdown_options.specs.Built.{is_built};
+
+use markdown::{Options, RunError};
+use tests_helpers::{blocks, first_wrong, plain};
+
+/// Math among the blocks of CommonMark.
+const MATH: [(&str, &str); 7] = [
+    (
+        "$$\n\n  \n$$",
+        "<pre><code class=\"language-math math-display\">\n  \n</code></pre>",
+    ),
+    (
+        "   $$\n   aaa\n    aaa\n  aaa\n   $$",
+        "<pre><code class=\"language-math math-display\">aaa\n aaa\naaa\n</code></pre>",
+    ),
+    (
+        "    $$\n    aaa\n    $$",
+        "<pre><code>$$\naaa\n$$\n</code></pre>",
+    ),
+    (
+        "$$\naaa\n$$$\nb",
+        "<pre><code class=\"language-math math-display\">aaa\n</code></pre>\n<p>b</p>",
+    ),
+    (
+        "foo\n---\n$$\nbar\n$$\n# baz",
+        "<h2>foo</h2>\n<pre><code class=\"language-math math-display\">bar\n</code></pre>\n<h1>baz</h1>",
+    ),
+    ("$$a$\nb", "<p>$$a$\nb</p>"),
+    ("$\na\n$", "<p>$\na\n$</p>"),
+];
+
+/// Math alone.
+const ALONE: [(&str, &str); 1] = [(
+    "```\n$$ x\n```\n$$",
+    "<p>```</p>\n<pre><code class=\"language-math math-display\">```\n</code></pre>",
+)];
+
+/// These options, with math.
+fn with_math(options: Options) -> Options
+    requires { is_built options.parse.constructs ≡ true }
+    ensures { is_built result.parse.constructs ≡ true }
+{
+    let mut options = options;
+    options.parse.constructs.math_flow = true;
+    options
+}
+
+#[test]
+fn prints_math(rt: HostRuntime) -> Result<(), RunError> {
+    assert_eq!(rt; first_wrong(rt.alloc(), &MATH, &with_math(blocks()))?, None);
+    Ok(())
+}
+
+#[test]
+fn prints_math_alone(rt: HostRuntime) -> Result<(), RunError> {
+    assert_eq!(rt; first_wrong(rt.alloc(), &ALONE, &with_math(plain()))?, None);
+    Ok(())
+}

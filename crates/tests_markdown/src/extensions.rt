@@ -1,0 +1,298 @@
+//! Extensions: texts and their HTML.
+ghost use Rattle.std.specs.Prelude.{◌≡◌, true};
+ghost use Rattle.markdown_options.specs.Built.{is_built};
+
+use markdown::{Options, RunError};
+use tests_helpers::first_wrong;
+
+/// Runs of tildes (GFM 6.5).
+pub(crate) const STRIKETHROUGH: [(&str, &str); 31] = [
+    (
+        "~~Hi~~ Hello, ~there~ world!",
+        "<p><del>Hi</del> Hello, <del>there</del> world!</p>",
+    ),
+    (
+        "This ~~has a\n\nnew paragraph~~.",
+        "<p>This ~~has a</p>\n<p>new paragraph~~.</p>",
+    ),
+    (
+        "This will ~~~not~~~ strike.",
+        "<p>This will ~~~not~~~ strike.</p>",
+    ),
+    ("~a~~", "<p>~a~~</p>"),
+    ("~~a~", "<p>~~a~</p>"),
+    ("~~a *b~~ c*", "<p><del>a *b</del> c*</p>"),
+    ("*a ~~b* c~~", "<p><em>a ~~b</em> c~~</p>"),
+    ("~~a~~b~~", "<p><del>a</del>b~~</p>"),
+    ("~a ~b~ c~", "<p><del>a <del>b</del> c</del></p>"),
+    ("a~~b~~c", "<p>a<del>b</del>c</p>"),
+    ("~~ a~~", "<p>~~ a~~</p>"),
+    ("~~a ~~", "<p>~~a ~~</p>"),
+    ("~~a\\~~", "<p>~~a~~</p>"),
+    ("[~~a](b)~~", "<p><a href=\"b\">~~a</a>~~</p>"),
+    ("![~~a~~](b)", "<p><img src=\"b\" alt=\"a\" /></p>"),
+    ("~~[a](b)~~", "<p><del><a href=\"b\">a</a></del></p>"),
+    (
+        "***~~a~~***",
+        "<p><em><strong><del>a</del></strong></em></p>",
+    ),
+    ("~~**a**~~", "<p><del><strong>a</strong></del></p>"),
+    ("~~a~~ ~~b~~", "<p><del>a</del> <del>b</del></p>"),
+    ("~~`~~`", "<p>~~<code>~~</code></p>"),
+    ("~", "<p>~</p>"),
+    ("~~", "<p>~~</p>"),
+    ("~~~~", "<pre><code></code></pre>\n"),
+    ("~a~*b*", "<p><del>a</del><em>b</em></p>"),
+    ("~~a~~~", "<p>~~a~~~</p>"),
+    (
+        "~~~a~~",
+        "<pre><code class=\"language-a~~\"></code></pre>\n",
+    ),
+    ("~~a ~b~ c~~", "<p><del>a <del>b</del> c</del></p>"),
+    ("~a ~~b~~ c~", "<p><del>a <del>b</del> c</del></p>"),
+    ("\\~a~", "<p>~a~</p>"),
+    ("&#126;a~", "<p>~a~</p>"),
+    (
+        "> ~~a\n> b~~",
+        "<blockquote>\n<p><del>a\nb</del></p>\n</blockquote>",
+    ),
+];
+
+/// Math in a text.
+pub(crate) const MATH_TEXT: [(&str, &str); 23] = [
+    (
+        "$a$",
+        "<p><code class=\"language-math math-inline\">a</code></p>",
+    ),
+    (
+        "$$a$$",
+        "<p><code class=\"language-math math-inline\">a</code></p>",
+    ),
+    ("$$a$", "<p>$$a$</p>"),
+    ("$a$$", "<p>$a$$</p>"),
+    (
+        "$ a $",
+        "<p><code class=\"language-math math-inline\">a</code></p>",
+    ),
+    (
+        "$  $",
+        "<p><code class=\"language-math math-inline\">  </code></p>",
+    ),
+    (
+        "$\n a\n$",
+        "<p><code class=\"language-math math-inline\"> a</code></p>",
+    ),
+    ("a$b", "<p>a$b</p>"),
+    (
+        "$`a$`",
+        "<p><code class=\"language-math math-inline\">`a</code>`</p>",
+    ),
+    ("`$a`$", "<p><code>$a</code>$</p>"),
+    (
+        "$$$a$$$ $$b$$",
+        "<p><code class=\"language-math math-inline\">a</code> <code class=\"language-math math-inline\">b</code></p>",
+    ),
+    ("\\$a$", "<p>$a$</p>"),
+    (
+        "$a\\$",
+        "<p><code class=\"language-math math-inline\">a\\</code></p>",
+    ),
+    (
+        "$a*b$*",
+        "<p><code class=\"language-math math-inline\">a*b</code>*</p>",
+    ),
+    (
+        "*a$b*c$",
+        "<p>*a<code class=\"language-math math-inline\">b*c</code></p>",
+    ),
+    (
+        "[$a](b)$",
+        "<p>[<code class=\"language-math math-inline\">a](b)</code></p>",
+    ),
+    ("![$a$](b)", "<p><img src=\"b\" alt=\"a\" /></p>"),
+    (
+        "$a<b>$",
+        "<p><code class=\"language-math math-inline\">a&lt;b&gt;</code></p>",
+    ),
+    (
+        "$&amp;$",
+        "<p><code class=\"language-math math-inline\">&amp;amp;</code></p>",
+    ),
+    (
+        "$a$b$c$",
+        "<p><code class=\"language-math math-inline\">a</code>b<code class=\"language-math math-inline\">c</code></p>",
+    ),
+    ("$", "<p>$</p>"),
+    (
+        "$$",
+        "<pre><code class=\"language-math math-display\"></code></pre>\n",
+    ),
+    (
+        "> $a\n> b$",
+        "<blockquote>\n<p><code class=\"language-math math-inline\">a b</code></p>\n</blockquote>",
+    ),
+];
+
+/// Blocks of math.
+pub(crate) const MATH_FLOW: [(&str, &str); 17] = [
+    (
+        "$$\na\n$$",
+        "<pre><code class=\"language-math math-display\">a\n</code></pre>",
+    ),
+    (
+        "$$\na",
+        "<pre><code class=\"language-math math-display\">a\n</code></pre>\n",
+    ),
+    (
+        "$$ x\na\n$$",
+        "<pre><code class=\"language-math math-display\">a\n</code></pre>",
+    ),
+    ("$$ x $\na", "<p>$$ x $\na</p>"),
+    (
+        "$$\na\n$\n$$",
+        "<pre><code class=\"language-math math-display\">a\n$\n</code></pre>",
+    ),
+    (
+        "$$$\na\n$$\n$$$",
+        "<pre><code class=\"language-math math-display\">a\n$$\n</code></pre>",
+    ),
+    (
+        "  $$\n  a\n b\n$$ \t",
+        "<pre><code class=\"language-math math-display\">a\nb\n</code></pre>",
+    ),
+    ("    $$\na", "<pre><code>$$\n</code></pre>\n<p>a</p>"),
+    (
+        "b\n$$\na\n$$\nb",
+        "<p>b</p>\n<pre><code class=\"language-math math-display\">a\n</code></pre>\n<p>b</p>",
+    ),
+    (
+        "> $$\n> a\nb",
+        "<blockquote>\n<pre><code class=\"language-math math-display\">a\n</code></pre>\n</blockquote>\n<p>b</p>",
+    ),
+    (
+        "- $$\n  a\n\n  b\n  $$",
+        "<ul>\n<li>\n<pre><code class=\"language-math math-display\">a\n\nb\n</code></pre>\n</li>\n</ul>",
+    ),
+    (
+        "$$\n\n",
+        "<pre><code class=\"language-math math-display\">\n</code></pre>\n",
+    ),
+    (
+        "$$\n<&>\n$$",
+        "<pre><code class=\"language-math math-display\">&lt;&amp;&gt;\n</code></pre>",
+    ),
+    (
+        "$\na\n$",
+        "<p><code class=\"language-math math-inline\">a</code></p>",
+    ),
+    ("```\n$$\n```", "<pre><code>$$\n</code></pre>"),
+    (
+        "$$\n```\n$$",
+        "<pre><code class=\"language-math math-display\">```\n</code></pre>",
+    ),
+    (
+        "$$\na\n~~~\n$$ b\n$$",
+        "<pre><code class=\"language-math math-display\">a\n~~~\n$$ b\n</code></pre>",
+    ),
+];
+
+/// Metadata at the front.
+pub(crate) const FRONTMATTER: [(&str, &str); 18] = [
+    ("---\nx\n---\n# a", "<h1>a</h1>"),
+    ("---\na", "<hr />\n<p>a</p>"),
+    ("--- \t\nx\n---\na", "<p>a</p>"),
+    ("+++\nx\n+++\na", "<p>a</p>"),
+    ("---\nx\n+++\na", "<hr />\n<p>x\n+++\na</p>"),
+    ("----\nx\n----\na", "<hr />\n<h2>x</h2>\n<p>a</p>"),
+    (" ---\nx\n---\na", "<hr />\n<h2>x</h2>\n<p>a</p>"),
+    ("---\n---\na", "<p>a</p>"),
+    ("---\nx\n--- \t", ""),
+    ("---\nx\n---\n", ""),
+    ("---\nx\n---\n\n\na\n", "<p>a</p>\n"),
+    ("---\r\nx\n---\na\n\nb", "<p>a</p>\n<p>b</p>"),
+    ("\u{FEFF}---\nx\n---\na", "<p>a</p>"),
+    ("\n---\nx\n---\na", "<hr />\n<h2>x</h2>\n<p>a</p>"),
+    ("---\nx\n----\n---\n*a*", "<p><em>a</em></p>"),
+    ("+++\n+++", ""),
+    ("---\nx\n ---\n---\n- a", "<ul>\n<li>a</li>\n</ul>"),
+    ("---\n```\n---\na", "<p>a</p>"),
+];
+
+/// The same where one tilde is none.
+const TWO_TILDES: [(&str, &str); 3] = [
+    ("~a~", "<p>~a~</p>"),
+    ("~~a~~", "<p><del>a</del></p>"),
+    ("~a ~~b~~ c~", "<p>~a <del>b</del> c~</p>"),
+];
+
+/// The same where one dollar is none.
+const TWO_DOLLARS: [(&str, &str); 3] = [
+    ("$a$", "<p>$a$</p>"),
+    (
+        "$$a$$",
+        "<p><code class=\"language-math math-inline\">a</code></p>",
+    ),
+    (
+        "$a $$b$$ c$",
+        "<p>$a <code class=\"language-math math-inline\">b</code> c$</p>",
+    ),
+];
+
+/// What these texts are while the extensions are off.
+const OFF: [(&str, &str); 4] = [
+    ("~~a~~", "<p>~~a~~</p>"),
+    ("$a$", "<p>$a$</p>"),
+    ("$$\na\n$$", "<p>$$\na\n$$</p>"),
+    ("---\na\n---\nb", "<hr />\n<h2>a</h2>\n<p>b</p>"),
+];
+
+/// CommonMark with strikethrough, math and frontmatter.
+pub(crate) fn extensions() -> Options
+    ensures { is_built result.parse.constructs ≡ true }
+{
+    let mut options = Options::default();
+    options.parse.constructs.gfm_strikethrough = true;
+    options.parse.constructs.math_text = true;
+    options.parse.constructs.math_flow = true;
+    options.parse.constructs.frontmatter = true;
+    options
+}
+
+#[test]
+fn strikes_text_through(rt: HostRuntime) -> Result<(), RunError> {
+    assert_eq!(rt;
+        first_wrong(rt.alloc(), &STRIKETHROUGH, &extensions())?,
+        None
+    );
+    let mut options = extensions();
+    options.parse.gfm_strikethrough_single_tilde = false;
+    assert_eq!(rt; first_wrong(rt.alloc(), &TWO_TILDES, &options)?, None);
+    Ok(())
+}
+
+#[test]
+fn prints_math_in_texts(rt: HostRuntime) -> Result<(), RunError> {
+    assert_eq!(rt; first_wrong(rt.alloc(), &MATH_TEXT, &extensions())?, None);
+    let mut options = extensions();
+    options.parse.math_text_single_dollar = false;
+    assert_eq!(rt; first_wrong(rt.alloc(), &TWO_DOLLARS, &options)?, None);
+    Ok(())
+}
+
+#[test]
+fn prints_blocks_of_math(rt: HostRuntime) -> Result<(), RunError> {
+    assert_eq!(rt; first_wrong(rt.alloc(), &MATH_FLOW, &extensions())?, None);
+    Ok(())
+}
+
+#[test]
+fn skips_frontmatter(rt: HostRuntime) -> Result<(), RunError> {
+    assert_eq!(rt; first_wrong(rt.alloc(), &FRONTMATTER, &extensions())?, None);
+    Ok(())
+}
+
+#[test]
+fn reads_no_extension_that_is_off(rt: HostRuntime) -> Result<(), RunError> {
+    assert_eq!(rt; first_wrong(rt.alloc(), &OFF, &Options::default())?, None);
+    Ok(())
+}

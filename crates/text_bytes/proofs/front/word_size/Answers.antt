@@ -1,0 +1,16 @@
+use Rattle.std.proofs.Common.{◌≡◌, true, false, not, refl, sym, ap, ◌∙◌, rules, arith}
+use Rattle.std.proofs.lemmas.Bool.{cond-true, cond-false}
+use Rattle.std.proofs.lemmas.Iterator.{YieldsList-from_slice, IsFirst-from_position, index_from_first}
+use borrow.Author.Tests.{tests}
+use Rattle.std.specs.List.{position_or_len}
+use Rattle.definition_text.specs.Content.{is_space}
+use Rattle.text_bytes.proofs.front.word_size.Goals as goal
+
+pub returns-clause-size : goal.returns-clause-size
+returns-clause-size c =
+    let first =
+    IsFirst-from_position _ _ _ (λ x. is_space x ≡ true) (λ x. is_space x ≡ false) c.position.ensures.ran (YieldsList-from_slice c.args.bytes.now cc) (λ x q k. search (rules, tests))
+    (λ x q k. search (rules, tests)) in
+    c.unwrap_or.ensures
+    ∙ sym (index_from_first (position_or_len is_space) (λ x. is_space x ≡ true) (λ x. is_space x ≡ false) refl (λ x xs h. cond-false (not (is_space x)) _ _ (ap not h))
+    (λ x xs h. cond-true (not (is_space x)) _ _ (ap not h) ∙ omega arith) c.args.bytes.now c.position.result first)
