@@ -10,6 +10,7 @@ pub mod CharacterEscape
 pub mod CharacterReference
 pub mod CodeText
 pub mod MathText
+pub mod GfmTaskListItem
 pub mod Autolink
 pub mod HtmlText
 pub mod HardBreak

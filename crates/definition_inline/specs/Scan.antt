@@ -193,8 +193,14 @@ scan context (suc k) r (c ∷ cs) = scan context k r cs
 abbrev pub whole_text : Reading → Text
 whole_text r = fold (λ inner label. unformed label inner) r.now r.open_labels
 
+-- the inline structure of a content that begins here, without the spaces and tabs at its end (CommonMark 6)
+abbrev pub inlines_from : InlineContext → List InlineCode → Inlines
+inlines_from context content = emphasized (whole_text (scan context 0 (reading (text [] false) []) content)).tokens
+
+-- a content without the spaces and tabs at its start
+abbrev pub unindented : List InlineCode → List InlineCode
+unindented content = drop (prefix_len (λ (c : InlineCode). is_white c.code) content) content
+
 -- the inline structure of a content, without the spaces and tabs at its ends (CommonMark 6)
 abbrev pub inlines : InlineContext → List InlineCode → Inlines
-inlines context content =
-    let start = prefix_len (λ (c : InlineCode). is_white c.code) content in
-    emphasized (whole_text (scan context 0 (reading (text [] false) []) (drop start content))).tokens
+inlines context content = inlines_from context (unindented content)

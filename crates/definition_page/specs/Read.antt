@@ -1,18 +1,19 @@
 -- From the lines of a text to a page (CommonMark appendix).
-use Rattle.std.specs.Prelude.{ℕ, Bool, true, false, if◌then◌else◌, not, ◌&&◌, ◌||◌, List, [], ◌∷◌, Option, None, Some}
+use Rattle.std.specs.Prelude.{ℕ, Bool, true, false, if◌then◌else◌, not, ◌&&◌, ◌||◌, List, [], ◌∷◌, Option, None, Some, drop}
 use Rattle.markdown_options.specs.declared.configuration.ParseOptions.{ParseOptions}
 use Rattle.definition_text.specs.declared.beside.Kind.{Kind}
 use Rattle.definition_text.specs.declared.beside.Kind.TheVariants.{Whitespace}
 use Rattle.definition_text.specs.BlockLines.{BlockLine, own_lines}
-use Rattle.definition_text.specs.InlineCode.{inline_content}
+use Rattle.definition_text.specs.InlineCode.{InlineCode, codes_of, inline_content}
 use Rattle.definition_text.specs.Lines.{without_mark, kind_before_text}
 use Rattle.definition_inline.specs.Inline.{Inlines}
-use Rattle.definition_inline.specs.Scan.{InlineContext, inlines}
+use Rattle.definition_inline.specs.GfmTaskListItem.{check_at, check_size}
+use Rattle.definition_inline.specs.Scan.{InlineContext, inlines, inlines_from, unindented}
 use Rattle.definition_inline.specs.Strings.{string_text}
 use Rattle.definition_block.specs.declared.container.Container.{Container}
 use Rattle.definition_block.specs.declared.container.Container.TheVariants.{Quote, Item}
 use Rattle.definition_block.specs.Blocks as tree
-use Rattle.definition_block.specs.Tree.{blocks}
+use Rattle.definition_block.specs.Tree.{is_ending, blocks}
 use Rattle.definition_block.specs.Lists.{grouped, is_loose}
 use Rattle.definition_page.specs.Targets.{document_definitions, is_label_of}
 use Rattle.definition_page.specs.TextTables.{TextTables}
@@ -26,10 +27,45 @@ pub record Reading : Type 0 where
   pub tables : TextTables
   pub is_defined : List ℕ → Bool
 
--- the inline structure of a paragraph or a heading, which ends where a line does (CommonMark 4.8)
+-- where a block stands: at the top of the document or in a container, and whether in an item with no block before it
+pub record Standing : Type 0 where
+  pub top : Bool
+  pub first : Bool
+
+abbrev pub on_page : Standing
+on_page = record { top = true; first = false }
+
+abbrev pub in_container : Standing
+in_container = record { top = false; first = false }
+
+abbrev pub in_item : Standing
+in_item = record { top = false; first = true }
+
+-- where the next block stands
+abbrev pub next_standing : Standing → tree.Block → Standing
+next_standing standing b = record { top = standing.top; first = standing.first && is_ending b }
+
+-- what inline structure is read by
+abbrev pub context_of : Reading → InlineContext
+context_of r = record { options = r.options; names = r.tables.names; is_defined = r.is_defined }
+
+-- the content of a paragraph or a heading, which ends where a line does (CommonMark 4.8)
+abbrev pub text_content : Reading → List BlockLine → List InlineCode
+text_content r ls = inline_content r.tables.is_punctuation Whitespace ls
+
+-- the inline structure of a heading
 abbrev pub read_text : Reading → List BlockLine → Inlines
-read_text r ls =
-    inlines (record { options = r.options; names = r.tables.names; is_defined = r.is_defined }) (inline_content r.tables.is_punctuation Whitespace ls)
+read_text r ls = inlines (context_of r) (text_content r ls)
+
+-- a paragraph of a content with this check: the rest of its content has the inline structure
+abbrev pub checked_paragraph : Reading → List InlineCode → Option Bool → page.Block
+checked_paragraph r content None = page.Paragraph None (inlines_from (context_of r) content)
+checked_paragraph r content (Some done) = page.Paragraph (Some done) (inlines_from (context_of r) (drop check_size content))
+
+-- a paragraph, which may be the first block of an item (CommonMark 4.8 and GFM 5.3)
+abbrev pub read_paragraph : Reading → Bool → List BlockLine → page.Block
+read_paragraph r first ls =
+    let content = unindented (text_content r ls) in checked_paragraph r content (check_at r.options.constructs first (codes_of content))
 
 -- the text of an info string, if there is one (CommonMark 4.5)
 abbrev pub info_text : Reading → List ℕ → Option (List ℕ)
@@ -59,25 +95,25 @@ list_number (tree.Cons (tree.Holds c kids) bs) = container_number c
 list_number bs = None
 
 abbrev mutual
-  -- a block that isn't an ending, at the top or not
-  pub read_block : Reading → Bool → tree.Block → page.Blocks → page.Blocks
-  read_block r top (tree.Paragraph ls) others = page.Cons (page.Paragraph (read_text r ls)) others
-  read_block r top (tree.Heading rank ls) others = page.Cons (page.Heading rank (read_text r ls)) others
-  read_block r top tree.Break others = page.Cons page.Break others
-  read_block r top (tree.IndentedCode ls) others = page.Cons (page.IndentedCode ls) others
-  read_block r top (tree.FencedCode info is_closed ls) others =
-      page.Cons (page.FencedCode (info_text r info) is_closed (code_lines top is_closed ls)) (after_code top is_closed others)
-  read_block r top (tree.Html ls) others = page.Cons (page.Html ls) others
-  read_block r top (tree.Definition label destination title) others = page.Cons page.Definition others
-  read_block r top (tree.Holds Quote kids) others = page.Cons (page.Quote (read_blocks r false kids)) others
-  read_block r top (tree.Holds (Item item) kids) others = page.Cons (page.Item (read_blocks r false kids)) others
-  read_block r top (tree.Items items) others = page.Cons (page.ItemList (list_number items) (is_loose items) (read_blocks r false items)) others
-  read_block r top (tree.Ending ending) others = cons_ending ending others
-  read_block r top (tree.Blank ending) others = cons_blank ending others
+  -- a block that stands here, before others
+  pub read_block : Reading → Standing → tree.Block → page.Blocks → page.Blocks
+  read_block r standing (tree.Paragraph ls) others = page.Cons (read_paragraph r standing.first ls) others
+  read_block r standing (tree.Heading rank ls) others = page.Cons (page.Heading rank (read_text r ls)) others
+  read_block r standing tree.Break others = page.Cons page.Break others
+  read_block r standing (tree.IndentedCode ls) others = page.Cons (page.IndentedCode ls) others
+  read_block r standing (tree.FencedCode info is_closed ls) others =
+      page.Cons (page.FencedCode (info_text r info) is_closed (code_lines standing.top is_closed ls)) (after_code standing.top is_closed others)
+  read_block r standing (tree.Html ls) others = page.Cons (page.Html ls) others
+  read_block r standing (tree.Definition label destination title) others = page.Cons page.Definition others
+  read_block r standing (tree.Holds Quote kids) others = page.Cons (page.Quote (read_blocks r in_container kids)) others
+  read_block r standing (tree.Holds (Item item) kids) others = page.Cons (page.Item (read_blocks r in_item kids)) others
+  read_block r standing (tree.Items items) others = page.Cons (page.ItemList (list_number items) (is_loose items) (read_blocks r in_container items)) others
+  read_block r standing (tree.Ending ending) others = cons_ending ending others
+  read_block r standing (tree.Blank ending) others = cons_blank ending others
 
-  pub read_blocks : Reading → Bool → tree.Blocks → page.Blocks
-  read_blocks r top tree.Nil = page.Nil
-  read_blocks r top (tree.Cons b bs) = read_block r top b (read_blocks r top bs)
+  pub read_blocks : Reading → Standing → tree.Blocks → page.Blocks
+  read_blocks r standing tree.Nil = page.Nil
+  read_blocks r standing (tree.Cons b bs) = read_block r standing b (read_blocks r (next_standing standing b) bs)
 
 -- whether the last child is the ending of a blank line; `before` says it of the child before these
 abbrev pub is_blank_ending : tree.Block → Bool
@@ -92,7 +128,7 @@ ends_blank before (tree.Cons b bs) = ends_blank (is_blank_ending b) bs
 abbrev pub page_with : TextTables → ParseOptions → List link.Definition → tree.Blocks → Page
 page_with tables options definitions bs =
     let r : Reading = record { options = options; tables = tables; is_defined = is_label_of definitions } in
-    record { blocks = read_blocks r true (grouped bs); definitions = definitions; ends_blank = ends_blank false bs }
+    record { blocks = read_blocks r on_page (grouped bs); definitions = definitions; ends_blank = ends_blank false bs }
 
 -- the page of the children of a document: items are grouped to lists, and contents read by all of its definitions
 abbrev pub page_of : TextTables → ParseOptions → tree.Blocks → Page

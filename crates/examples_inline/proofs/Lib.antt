@@ -5,6 +5,7 @@ mod CodeText
 mod MathText
 mod Attention
 mod GfmStrikethrough
+mod GfmTaskListItem
 mod LabelStartLink
 mod LabelStartImage
 mod Autolink

@@ -89,6 +89,13 @@ with_strikethrough single_tilde = record default_options {
   };
 }
 
+-- default options with task list items, whose boxes can be changed or not
+abbrev pub with_tasks : Bool → Options
+with_tasks checkable = record default_options {
+  parse = record default_parse_options { constructs = record default_constructs { gfm_task_list_item = true } };
+  compile = record default_compile_options { gfm_task_list_item_checkable = checkable };
+}
+
 -- ---- contents
 
 -- the HTML of the content of these lines, before a character of this kind in the text

@@ -11,7 +11,7 @@ use Rattle.definition_page.specs.Targets.{document_definitions}
 use Rattle.definition_page.specs.Pieces.{print}
 use Rattle.definition_page.specs.BlockPieces.{at_top, children_pieces, fresh_unless}
 use Rattle.definition_page.specs.DocumentPieces.{default_ending}
-use Rattle.definition_page.specs.Read.{read_blocks, ends_blank}
+use Rattle.definition_page.specs.Read.{on_page, read_blocks, ends_blank}
 use Rattle.definition_page.specs.Html.{html}
 use Rattle.html_bytes.specs.Document.{document}
 use Rattle.html_bytes.specs.Pieces as bytes
@@ -32,8 +32,8 @@ html_is tables text options =
     let bs = blocks options.parse.constructs (kind_before_text text) (without_mark text) in
     let ds = document_definitions bs in
     let blank = ends_blank false bs in
-    let kids = children_pieces (m default options tables ds) at_top None (read_blocks (r default options tables ds) true (grouped bs)) in
-    let shown = old.children_pieces (document options tables ds) true false false (grouped bs) in
+    let kids = children_pieces (m default options tables ds) at_top None (read_blocks (r default options tables ds) on_page (grouped bs)) in
+    let shown = old.children_pieces (document options tables ds) on_page false false (grouped bs) in
     fold-append (print default) [] kids (fresh_unless (not blank))
     ∙ ap (λ x. fold (print default) x (fresh_unless (not blank))) (document_same default options tables ds (grouped bs) [])
     ∙ last_same default blank (fold (bytes.print default) [] shown)

@@ -1,13 +1,14 @@
 -- What a document gives to its texts, and what they print.
-use Rattle.std.specs.Prelude.{ℕ, List}
+use Rattle.std.specs.Prelude.{ℕ, Bool, List, ◌++◌, Option, None, Some, drop}
 use Rattle.markdown_options.specs.declared.configuration.Options.{Options}
 use Rattle.definition_text.specs.declared.beside.Kind.TheVariants.{Whitespace}
 use Rattle.definition_text.specs.BlockLines.{BlockLine}
 use Rattle.definition_inline.specs.Definition.{Definition}
-use Rattle.definition_text.specs.InlineCode.{inline_content}
-use Rattle.definition_inline.specs.Scan.{InlineContext, inlines}
+use Rattle.definition_text.specs.InlineCode.{InlineCode, codes_of, inline_content}
+use Rattle.definition_inline.specs.GfmTaskListItem.{check_at, check_size}
+use Rattle.definition_inline.specs.Scan.{InlineContext, inlines, inlines_from, unindented}
 use Rattle.definition_inline.specs.Strings.{string_text}
-use Rattle.html_bytes.specs.InlineHtml.{InlineMeaning, inline_html}
+use Rattle.html_bytes.specs.InlineHtml.{InlineMeaning, inline_html, check_html}
 use Rattle.html_bytes.specs.Meaning.{inline_meaning}
 use Rattle.definition_page.specs.TextTables.{TextTables}
 use Rattle.definition_page.specs.Targets.{is_label_of, linked_by}
@@ -29,9 +30,20 @@ context_of d = record { options = d.options.parse; names = d.tables.names; is_de
 abbrev pub meaning_of : Document → InlineMeaning
 meaning_of d = inline_meaning d.options.parse.constructs d.options.compile d.tables.names (linked_by d.definitions)
 
--- the text of a paragraph or a heading, which ends where a line does (CommonMark 4.8)
+-- the text of a heading, which ends where a line does (CommonMark 4.2 and 4.3)
 abbrev pub text_of : Document → List BlockLine → List ℕ
 text_of d ls = inline_html (meaning_of d) (inlines (context_of d) (inline_content d.tables.is_punctuation Whitespace ls))
+
+-- the text of a paragraph of a content with this check
+abbrev pub checked_text : Document → List InlineCode → Option Bool → List ℕ
+checked_text d content None = inline_html (meaning_of d) (inlines_from (context_of d) content)
+checked_text d content (Some done) = check_html d.options.compile done ++ inline_html (meaning_of d) (inlines_from (context_of d) (drop check_size content))
+
+-- the text of a paragraph, which may be the first block of an item (CommonMark 4.8 and GFM 5.3)
+abbrev pub paragraph_of : Document → Bool → List BlockLine → List ℕ
+paragraph_of d first ls =
+    let content = unindented (inline_content d.tables.is_punctuation Whitespace ls) in
+    checked_text d content (check_at d.options.parse.constructs first (codes_of content))
 
 -- the text of an info string (CommonMark 4.5)
 abbrev pub info_of : Document → List ℕ → List ℕ

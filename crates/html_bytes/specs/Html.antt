@@ -17,8 +17,8 @@ use Rattle.definition_block.specs.Tree.{Block, Paragraph, Heading, Break, Indent
 use Rattle.definition_block.specs.Lists.{grouped, is_loose}
 use Rattle.definition_page.specs.Targets.{document_definitions}
 use Rattle.definition_page.specs.TextTables.{TextTables}
-use Rattle.definition_page.specs.Read.{list_number, ends_blank}
-use Rattle.html_bytes.specs.Document.{Document, document, text_of, info_of}
+use Rattle.definition_page.specs.Read.{Standing, on_page, in_container, in_item, next_standing, list_number, ends_blank}
+use Rattle.html_bytes.specs.Document.{Document, document, text_of, paragraph_of, info_of}
 use Rattle.html_bytes.specs.Pieces.{Piece, Bytes, Eol, Fresh, layout}
 
 -- ---- lines
@@ -93,40 +93,41 @@ ends_tight tight before (Cons (Definition label destination title) bs) = ends_ti
 ends_tight tight before (Cons b bs) = ends_tight tight (before && is_ending b) bs
 
 abbrev mutual
-  -- a child, at the top or not, of a tight item or not, after a child that silences an ending or not
-  pub block_pieces : Document → Bool → Bool → Bool → Block → List Piece
-  block_pieces d top tight silent (Paragraph ls) =
-      if tight then Bytes (text_of d ls) ∷ [] else Fresh ∷ Bytes (codes "<p>") ∷ Bytes (text_of d ls) ∷ Bytes (codes "</p>") ∷ []
-  block_pieces d top tight silent (Heading rank ls) =
+  -- a child that stands here, of a tight item or not, after a child that silences an ending or not
+  pub block_pieces : Document → Standing → Bool → Bool → Block → List Piece
+  block_pieces d standing tight silent (Paragraph ls) =
+      let text = paragraph_of d standing.first ls in
+      if tight then Bytes text ∷ [] else Fresh ∷ Bytes (codes "<p>") ∷ Bytes text ∷ Bytes (codes "</p>") ∷ []
+  block_pieces d standing tight silent (Heading rank ls) =
       Fresh ∷ Bytes (heading_tag rank) ∷ Bytes (text_of d ls) ∷ Bytes (heading_end rank) ∷ []
-  block_pieces d top tight silent Break = Fresh ∷ Bytes (codes "<hr />") ∷ []
-  block_pieces d top tight silent (IndentedCode ls) =
+  block_pieces d standing tight silent Break = Fresh ∷ Bytes (codes "<hr />") ∷ []
+  block_pieces d standing tight silent (IndentedCode ls) =
       Fresh ∷ Bytes (codes "<pre><code>") ∷ Bytes (code_of ls) ∷ Fresh ∷ Bytes (codes "</code></pre>") ∷ []
-  block_pieces d top tight silent (FencedCode info closed ls) =
-      Fresh ∷ Bytes (codes "<pre><code" ++ class_of d info ++ codes ">") ∷ fenced_content top closed ls
+  block_pieces d standing tight silent (FencedCode info closed ls) =
+      Fresh ∷ Bytes (codes "<pre><code" ++ class_of d info ++ codes ">") ∷ fenced_content standing.top closed ls
       ++ Bytes (codes "</code></pre>") ∷ fresh_unless closed
-  block_pieces d top tight silent (Html ls) = Fresh ∷ Bytes (html_of d.options.compile ls) ∷ []
-  block_pieces d top tight silent (Definition label destination title) = []
-  block_pieces d top tight silent (Holds Quote kids) =
-      Fresh ∷ Bytes (codes "<blockquote>") ∷ children_pieces d false false false kids ++ Fresh ∷ Bytes (codes "</blockquote>") ∷ []
-  block_pieces d top tight silent (Holds (Item item) kids) =
-      Fresh ∷ Bytes (codes "<li>") ∷ children_pieces d false tight false kids ++ fresh_unless (ends_tight tight true kids) ++ Bytes (codes "</li>") ∷ []
-  block_pieces d top tight silent (Items items) =
-      Fresh ∷ Bytes (number_tag (list_number items)) ∷ children_pieces d false (not (is_loose items)) false items
+  block_pieces d standing tight silent (Html ls) = Fresh ∷ Bytes (html_of d.options.compile ls) ∷ []
+  block_pieces d standing tight silent (Definition label destination title) = []
+  block_pieces d standing tight silent (Holds Quote kids) =
+      Fresh ∷ Bytes (codes "<blockquote>") ∷ children_pieces d in_container false false kids ++ Fresh ∷ Bytes (codes "</blockquote>") ∷ []
+  block_pieces d standing tight silent (Holds (Item item) kids) =
+      Fresh ∷ Bytes (codes "<li>") ∷ children_pieces d in_item tight false kids ++ fresh_unless (ends_tight tight true kids) ++ Bytes (codes "</li>") ∷ []
+  block_pieces d standing tight silent (Items items) =
+      Fresh ∷ Bytes (number_tag (list_number items)) ∷ children_pieces d in_container (not (is_loose items)) false items
       ++ Eol ∷ Bytes (number_end (list_number items)) ∷ []
-  block_pieces d top tight silent (Ending ending) = if silent then [] else Bytes (ending_text ending) ∷ []
-  block_pieces d top tight silent (Blank ending) = []
+  block_pieces d standing tight silent (Ending ending) = if silent then [] else Bytes (ending_text ending) ∷ []
+  block_pieces d standing tight silent (Blank ending) = []
 
-  pub children_pieces : Document → Bool → Bool → Bool → Blocks → List Piece
-  children_pieces d top tight silent Nil = []
-  children_pieces d top tight silent (Cons b bs) = block_pieces d top tight silent b ++ children_pieces d top tight (silences top tight silent b) bs
+  pub children_pieces : Document → Standing → Bool → Bool → Blocks → List Piece
+  children_pieces d standing tight silent Nil = []
+  children_pieces d standing tight silent (Cons b bs) = block_pieces d standing tight silent b ++ children_pieces d (next_standing standing b) tight (silences standing.top tight silent b) bs
 
 -- the ending of a blank line asks for a fresh line where it is the very last
 abbrev pub last_piece : Bool → List Piece
 last_piece blank = if blank then Fresh ∷ [] else []
 
 abbrev pub document_pieces : Document → Blocks → List Piece
-document_pieces d bs = children_pieces d true false false (grouped bs) ++ last_piece (ends_blank false bs)
+document_pieces d bs = children_pieces d on_page false false (grouped bs) ++ last_piece (ends_blank false bs)
 
 -- ---- the whole
 

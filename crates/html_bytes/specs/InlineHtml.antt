@@ -1,5 +1,5 @@
 -- What the inline structure of a content prints (CommonMark 6).
-use Rattle.std.specs.Prelude.{ℕ, List, [], ◌∷◌, ◌++◌, Option, None, Some, codes}
+use Rattle.std.specs.Prelude.{ℕ, Bool, if◌then◌else◌, List, [], ◌∷◌, ◌++◌, Option, None, Some, codes}
 use Rattle.std.specs.List.{flat_map}
 use Rattle.markdown_options.specs.declared.configuration.Constructs.{Constructs}
 use Rattle.markdown_options.specs.declared.configuration.CompileOptions.{CompileOptions}
@@ -111,3 +111,18 @@ abbrev mutual
   pub inline_html : InlineMeaning → Inlines → List ℕ
   inline_html meaning Nil = []
   inline_html meaning (Cons i is) = part_html meaning i ++ inline_html meaning is
+
+-- ---- check boxes
+
+abbrev pub disabled_attribute : CompileOptions → List ℕ
+disabled_attribute options = if options.gfm_task_list_item_checkable then [] else codes " disabled=\"\""
+
+abbrev pub checked_attribute : Bool → List ℕ
+checked_attribute done = if done then codes " checked=\"\"" else []
+
+abbrev pub check_attributes : CompileOptions → Bool → List ℕ
+check_attributes options done = disabled_attribute options ++ checked_attribute done
+
+-- a check box, which can't be changed unless that is asked for (GFM 5.3)
+abbrev pub check_html : CompileOptions → Bool → List ℕ
+check_html options done = codes "<input type=\"checkbox\"" ++ check_attributes options done ++ codes " />"

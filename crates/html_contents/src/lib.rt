@@ -2,6 +2,7 @@
 #![tactic(auto)]
 
 pub mod buffers;
+mod gfm_task_list_item;
 pub mod texts;
 
 pub use buffers::TextBuffers;

@@ -1,21 +1,22 @@
 //! The texts of paragraphs, headings and info strings (CommonMark 4.2, 4.3, 4.5 and 4.8).
 ghost use Rattle.std.specs.Prelude.{◌≡◌, ◌++◌, ◌∷◌, [], List, OnOk, string_bytes};
-ghost use Rattle.html_bytes.specs.Document.{context_of, meaning_of, text_of, info_of};
+ghost use Rattle.html_bytes.specs.Document.{context_of, meaning_of, text_of, paragraph_of, info_of};
 ghost use Rattle.definition_text.specs.Encode.{encode};
 ghost use Rattle.html_bytes.specs.InlineHtml.{inline_html};
 ghost use Rattle.definition_inline.specs.Definition.{Definition};
 ghost use Rattle.block_rows.specs.ParagraphLines.{HaveNoEnding, AreLines};
 ghost use Rattle.block_rows.specs.Rows.{piece_line, piece_lines, whole_lines};
-ghost use Rattle.definition_inline.specs.Scan.{inlines};
+ghost use Rattle.definition_inline.specs.Scan.{inlines, inlines_from};
 ghost use Rattle.definition_text.specs.BlockLines.{own_lines};
-ghost use Rattle.inline_content.specs.View.{content_view};
+ghost use Rattle.inline_content.specs.View.{content_view, view_at};
+ghost use Rattle.inline_parser.specs.Scanned.{IsPlace};
 
 use crate::buffers::TextBuffers;
 use block_rows::Piece;
 use html_inline::{Printing, Scratch, push_encoded_string, push_rows};
 use inline_content::{Content, whole_content};
 use inline_labels::LabelTable;
-use inline_parser::inline_rows;
+use inline_parser::{content_start, inline_rows};
 use inline_rows::Linked;
 use markdown_options::{Options, Tables};
 use std::alloc::{AllocError, Allocator};
@@ -34,8 +35,7 @@ pub struct Texts<'a, T, A: Allocator + Clone> {
 impl<'a, T: Tables, A: Allocator + Clone> Texts<'a, T, A> {
     ghost use Rattle.html_contents.specs.Texts.{HasDefinitions, document_by};
 
-    /// Prints the text of a paragraph's lines, or of a heading's, without the last ending
-    /// (CommonMark 4.3 and 4.8).
+    /// Prints the text of a heading's lines, without the last ending (CommonMark 4.3).
     pub fn push_text(
         &self,
         out: &mut String<A>,
@@ -48,6 +48,25 @@ impl<'a, T: Tables, A: Allocator + Clone> Texts<'a, T, A> {
         let alloc = buffers.alloc.clone()?;
         buffers.content.join(lines)?;
         self.push_content(out, &mut buffers.scratch, alloc, buffers.content.content())
+    }
+
+    /// Prints the text of a paragraph's lines, without the last ending. It has a check where it is
+    /// the first block of an item and begins with one (CommonMark 4.8 and GFM 5.3).
+    pub fn push_paragraph(
+        &self,
+        out: &mut String<A>,
+        buffers: &mut TextBuffers<A>,
+        first: bool,
+        lines: &[Piece<'_>],
+    ) -> Result<(), AllocError>
+        ensures { (ds : List Definition) → HasDefinitions self.now.labels.now self.now.links.now ds → AreLines (piece_lines lines.now) →
+            let text = paragraph_of (document_by T.Tables self.now ds) first (own_lines (piece_lines lines.now)) in
+            OnOk result (string_bytes out.new ≡ string_bytes out.old ++ text) }
+    {
+        let alloc = buffers.alloc.clone()?;
+        buffers.content.join(lines)?;
+        let content = buffers.content.content();
+        self.push_checked(out, &mut buffers.scratch, alloc, first, content)
     }
 
     /// Prints the text of one line, which may be empty, without its ending (CommonMark 4.2).
@@ -66,19 +85,23 @@ impl<'a, T: Tables, A: Allocator + Clone> Texts<'a, T, A> {
         self.push_content(out, &mut buffers.scratch, alloc, buffers.content.content())
     }
 
-    /// Prints the first lines of a text, so many, without the last ending (CommonMark 4.8).
+    /// Prints a paragraph of the first lines of a text, so many, without the last ending (CommonMark
+    /// 4.8 and GFM 5.3).
     pub fn push_whole(
         &self,
         out: &mut String<A>,
         buffers: &mut TextBuffers<A>,
+        first: bool,
         count: usize,
         text: &str,
     ) -> Result<(), AllocError>
         ensures { (ds : List Definition) → HasDefinitions self.now.labels.now self.now.links.now ds →
-            OnOk result (string_bytes out.new ≡ string_bytes out.old ++ text_of (document_by T.Tables self.now ds) (own_lines (whole_lines count text.now))) }
+            let said = paragraph_of (document_by T.Tables self.now ds) first (own_lines (whole_lines count text.now)) in
+            OnOk result (string_bytes out.new ≡ string_bytes out.old ++ said) }
     {
         let alloc = buffers.alloc.clone()?;
-        self.push_content(out, &mut buffers.scratch, alloc, whole_content(count, text))
+        let content = whole_content(count, text);
+        self.push_checked(out, &mut buffers.scratch, alloc, first, content)
     }
 
     /// Prints what an info string, which has no line ending, stands for (CommonMark 4.5).
@@ -102,8 +125,26 @@ impl<'a, T: Tables, A: Allocator + Clone> Texts<'a, T, A> {
             let structure = inlines (context_of d) (content_view (T.punctuation_of self.now.tables.now) content.entry) in
             OnOk result (string_bytes out.new ≡ string_bytes out.old ++ inline_html (meaning_of d) structure) }
     {
+        self.push_from(out, scratch, alloc, content, content_start(content))
+    }
+
+    /// Prints the inline structure of a content from a place on.
+    pub(crate) fn push_from<'c>(
+        &self,
+        out: &mut String<A>,
+        scratch: &mut Scratch<A>,
+        alloc: A,
+        content: Content<'c>,
+        start: &'c str,
+    ) -> Result<(), AllocError>
+        requires { IsPlace content.text.now start.now }
+        ensures { (ds : List Definition) → HasDefinitions self.now.labels.now self.now.links.now ds →
+            let d = document_by T.Tables self.now ds in
+            let structure = inlines_from (context_of d) (view_at (T.punctuation_of self.now.tables.now) content.entry start.now) in
+            OnOk result (string_bytes out.new ≡ string_bytes out.old ++ inline_html (meaning_of d) structure) }
+    {
         let parse = &self.options.parse;
-        let rows = inline_rows(alloc, parse, self.tables, self.labels, content)?;
+        let rows = inline_rows(alloc, parse, self.tables, self.labels, content, start)?;
         let printing = Printing {
             on: &parse.constructs,
             compile: &self.options.compile,

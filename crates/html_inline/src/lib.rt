@@ -5,6 +5,7 @@ pub mod autolink;
 pub mod character_reference;
 pub mod code_text;
 pub mod form;
+pub mod gfm_task_list_item;
 pub mod html_text;
 pub mod label_end;
 pub mod leaf;
@@ -15,6 +16,7 @@ mod stack;
 pub mod string;
 pub mod url;
 
+pub use gfm_task_list_item::push_check;
 pub use printing::{Printing, Scratch};
 pub use rows::push_rows;
 pub use string::{push_encoded_string, push_string};

@@ -9,6 +9,7 @@ use Rattle.definition_block.specs.Tree.{Block, Paragraph, Heading, Break, Indent
 use Rattle.definition_block.specs.Lists.{after_endings, has_gap, is_loose, list_marker, before, grouped, grouped_block}
 use Rattle.html_bytes.specs.Pieces.{Piece, Bytes, Eol, Fresh, print}
 use Rattle.html_bytes.specs.Document.{Document}
+use Rattle.definition_page.specs.Read.{in_container, in_item}
 use Rattle.html_bytes.specs.Html.{block_pieces, children_pieces, ends_tight, fresh_unless, number_tag, number_end}
 use Rattle.block_rows.specs.Rows.{Single, Exit, rows_of, block_rows}
 use Rattle.html_page.specs.declared.level.Level.{Level}
@@ -18,7 +19,7 @@ use Rattle.html_page.specs.declared.loose.Place.{Place}
 use Rattle.html_page.specs.declared.loose.Ahead.{Ahead}
 use Rattle.html_page.specs.Printable.{IsPrintable, CanBePrinted}
 use Rattle.html_page.specs.Loose.{place_at}
-use Rattle.html_page.specs.Levels.{is_document, is_list, level_of, new_level, after_block, level_after}
+use Rattle.html_page.specs.Levels.{standing_of, is_list, level_of, new_level, after_block, level_after}
 use Rattle.html_page.specs.PrinterView.{PrinterView, printer_at, in_list, start_item, exit_of, leave_list_if, print_row, print_all, more}
 use Rattle.html_page.proofs.Ahead.{ahead_of, ahead_of_item, before_item_is, list_ahead, after_list, on_list, off_list, no_marker}
 use Rattle.html_page.proofs.Places.{places_in, places_within}
@@ -34,7 +35,7 @@ module _ (d : Document) (default : List ℕ) where
 
   -- what blocks print at a level
   abbrev at_level : Level → Blocks → List Piece
-  at_level l bs = children_pieces d (is_document l.holder) l.tight l.silent bs
+  at_level l bs = children_pieces d (standing_of l) l.tight l.silent bs
 
   -- ---- what is to be shown
 
@@ -46,12 +47,12 @@ module _ (d : Document) (default : List ℕ) where
 
   -- on a list that is open in a level
   abbrev on_list_at : List ℕ → Option ℕ → Bool → Bool → Level → List Level → List Place → PrinterView
-  on_list_at out number tight plain l outer places = printer_at out (level_of (holder.List number) tight plain false) (l ∷ outer) places
+  on_list_at out number tight plain l outer places = printer_at out (level_of (holder.List number) tight plain false false) (l ∷ outer) places
 
   -- after the rest of a list, and what follows it
   abbrev list_then : List ℕ → Option ℕ → Bool → Level → Blocks → Blocks → List Level → List Place → PrinterView
   list_then out number tight l items others outer places =
-      printer_at (lay (lay out (children_pieces d false tight false items ++ Eol ∷ Bytes (number_end number) ∷ [])) (at_level l others)) (level_past l others) outer places
+      printer_at (lay (lay out (children_pieces d in_container tight false items ++ Eol ∷ Bytes (number_end number) ∷ [])) (at_level l others)) (level_past l others) outer places
 
   abbrev pub ListPrinted : Blocks → Type 0
   ListPrinted bs = (number : Option ℕ) (tight plain : Bool) (l : Level) (out : List ℕ) (outer : List Level) (places : List Place)
@@ -63,23 +64,23 @@ module _ (d : Document) (default : List ℕ) where
 
   -- the end of an item
   item_left : (number : Option ℕ) (tight last : Bool) (l inner : Level) (out : List ℕ) (outer : List Level) (places : List Place) → inner.holder ≡ holder.Item last
-      → print_row d default (printer_at out inner (level_of (holder.List number) tight false false ∷ l ∷ outer) places) Exit
+      → print_row d default (printer_at out inner (level_of (holder.List number) tight false false false ∷ l ∷ outer) places) Exit
       ≡ leave_list_if default last (on_list_at (lay out (fresh_unless inner.plain ++ Bytes (codes "</li>") ∷ [])) number tight false l outer places)
   item_left number tight last l inner out outer places is =
-      ap (λ (k : Holder). exit_of default k (printer_at out inner (level_of (holder.List number) tight false false ∷ l ∷ outer) places)) is
+      ap (λ (k : Holder). exit_of default k (printer_at out inner (level_of (holder.List number) tight false false false ∷ l ∷ outer) places)) is
 
   -- an item on a list that is open
   item_printed : (item : ItemOf) (kids : Blocks) (place : Place) (number : Option ℕ) (tight plain : Bool) (l : Level) (out : List ℕ) (outer : List Level) (places : List Place)
       → ChildrenPrinted kids
       → print_all d default (on_list_at out number tight plain l outer (place ∷ (places_within kids ++ places))) (block_rows (Holds (Item item) kids))
-      ≡ leave_list_if default (not place.goes_on) (on_list_at (lay out (block_pieces d false tight false (Holds (Item item) (grouped kids)))) number tight false l outer places)
+      ≡ leave_list_if default (not place.goes_on) (on_list_at (lay out (block_pieces d in_container tight false (Holds (Item item) (grouped kids)))) number tight false l outer places)
   item_printed item kids place number tight plain l out outer places k =
       let gs = grouped kids in
       let start : List Piece = Fresh ∷ Bytes (codes "<li>") ∷ [] in
       let new = new_level (holder.Item (not place.goes_on)) tight in
       let inner = level_past new gs in
-      let around : List Level = level_of (holder.List number) tight false false ∷ l ∷ outer in
-      let body = children_pieces d false tight false gs in
+      let around : List Level = level_of (holder.List number) tight false false false ∷ l ∷ outer in
+      let body = children_pieces d in_item tight false gs in
       let end : List Piece = Bytes (codes "</li>") ∷ [] in
       fold-append (print_row d default) (printer_at (lay out start) new around (places_within kids ++ places)) (rows_of kids) (Exit ∷ [])
       ∙ ap (λ (p : PrinterView). print_row d default p Exit) (k new (lay out start) around places refl)
@@ -114,7 +115,7 @@ module _ (d : Document) (default : List ℕ) where
       → print_all d default (print_row d default (printer_at out l outer (places_within bs ++ places)) (Single b)) (rows_of bs)
       ≡ printer_at (lay out (at_level l (Cons b (grouped bs)))) (level_past l (Cons b (grouped bs))) outer places
   leaf_step b bs children l out outer places no_list =
-      let own = block_pieces d (is_document l.holder) l.tight l.silent b in
+      let own = block_pieces d (standing_of l) l.tight l.silent b in
       let after = level_after l (Single b) in
       children after (lay out own) outer places no_list
       ∙ ap (λ x. printer_at x (level_past after (grouped bs)) outer places) (lay_more out own (at_level after (grouped bs)))
@@ -128,7 +129,7 @@ module _ (d : Document) (default : List ℕ) where
       let gs = grouped kids in
       let start : List Piece = Fresh ∷ Bytes (codes "<blockquote>") ∷ [] in
       let new = new_level holder.Quote false in
-      let body = children_pieces d false false false gs in
+      let body = children_pieces d in_container false false gs in
       let end : List Piece = Fresh ∷ Bytes (codes "</blockquote>") ∷ [] in
       let left = places_within bs ++ places in
       ap (λ (p : PrinterView). print_all d default p (rows_of bs))
@@ -166,16 +167,16 @@ module _ (d : Document) (default : List ℕ) where
       let start : List Piece = Fresh ∷ Bytes (number_tag item.number) ∷ [] in
       let end : List Piece = Eol ∷ Bytes (number_end item.number) ∷ [] in
       let tight = not place.loose in
-      let own = block_pieces d false tight false b in
+      let own = block_pieces d in_container tight false b in
       let items = on_list goes_on gs in
       let others = off_list goes_on gs in
-      let body = λ (t : Bool). children_pieces d false t false (Cons b items) in
+      let body = λ (t : Bool). children_pieces d in_container t false (Cons b items) in
       let at = λ (x : List ℕ). printer_at x (level_past (after_block l) others) outer places in
       ap (λ (p : PrinterView). print_all d default p (rows_of bs))
       (list_started item kids place l out outer (places_within kids ++ left) no_list
       ∙ item_printed item kids place item.number tight true (after_block l) (lay out start) outer left k)
       ∙ item_then goes_on bs item.number tight (after_block l) (lay (lay out start) own) outer places no_list (next_marker item gs some) children list
-      ∙ ap at (split_list (lay out start) own (children_pieces d false tight false items) end (at_level (after_block l) others))
+      ∙ ap at (split_list (lay out start) own (children_pieces d in_container tight false items) end (at_level (after_block l) others))
       ∙ ap (λ (loose : Bool). at (lay (lay (lay out start) (body (not loose) ++ end)) (at_level (after_block l) others))) (place_loose item (grouped kids) gs some)
       ∙ ap at (lay_more out (start ++ (body (not (is_loose (Cons b items))) ++ end)) (at_level (after_block l) others))
       ∙ ap (λ (cs : Blocks). printer_at (lay out (at_level l cs)) (level_past l cs) outer places) (sym (before_item_is item (grouped kids) gs some))
@@ -192,13 +193,13 @@ module _ (d : Document) (default : List ℕ) where
   ending_on_list : (own : List Piece) (bs : Blocks) → ListPrinted bs → (number : Option ℕ) (tight plain : Bool) (l : Level) (out : List ℕ) (outer : List Level) (places : List Place)
       → is_list l.holder ≡ false → 1 ≤ list_marker (after_endings (grouped bs))
       → print_all d default (on_list_at (lay out own) number tight plain l outer (places_within bs ++ places)) (rows_of bs)
-      ≡ printer_at (lay (lay out ((own ++ children_pieces d false tight false (list_ahead (grouped bs))) ++ Eol ∷ Bytes (number_end number) ∷ [])) (at_level l (after_list (grouped bs))))
+      ≡ printer_at (lay (lay out ((own ++ children_pieces d in_container tight false (list_ahead (grouped bs))) ++ Eol ∷ Bytes (number_end number) ∷ [])) (at_level l (after_list (grouped bs))))
       (level_past l (after_list (grouped bs))) outer places
   ending_on_list own bs list number tight plain l out outer places no_list some =
       let others = after_list (grouped bs) in
       list number tight plain l (lay out own) outer places no_list some
       ∙ ap (λ x. printer_at x (level_past l others) outer places)
-      (split_list out own (children_pieces d false tight false (list_ahead (grouped bs))) (Eol ∷ Bytes (number_end number) ∷ []) (at_level l others))
+      (split_list out own (children_pieces d in_container tight false (list_ahead (grouped bs))) (Eol ∷ Bytes (number_end number) ∷ []) (at_level l others))
 
   item_on_list : (item : ItemOf) (kids bs : Blocks) → 1 ≤ item.marker → ChildrenPrinted kids → ChildrenPrinted bs → ListPrinted bs → OnListPrinted (Holds (Item item) kids) bs
   item_on_list item kids bs some k children list number tight plain l out outer places no_list listed_ahead =
@@ -207,13 +208,13 @@ module _ (d : Document) (default : List ℕ) where
       let goes_on = list_marker (after_endings gs) == item.marker in
       let place = place_at (ahead_of gs) item.marker (has_gap (grouped kids)) in
       let left = places_within bs ++ places in
-      let own = block_pieces d false tight false b in
+      let own = block_pieces d in_container tight false b in
       let items = on_list goes_on gs in
       let others = off_list goes_on gs in
       ap (λ (p : PrinterView). print_all d default p (rows_of bs)) (item_printed item kids place number tight plain l out outer left k)
       ∙ item_then goes_on bs number tight l (lay out own) outer places no_list (next_marker item gs some) children list
       ∙ ap (λ x. printer_at x (level_past l others) outer places)
-      (split_list out own (children_pieces d false tight false items) (Eol ∷ Bytes (number_end number) ∷ []) (at_level l others))
+      (split_list out own (children_pieces d in_container tight false items) (Eol ∷ Bytes (number_end number) ∷ []) (at_level l others))
       ∙ ap (λ (cs : Blocks). list_then out number tight l (list_ahead cs) (after_list cs) outer places) (sym (before_item_is item (grouped kids) gs some))
 
   -- ---- all blocks
@@ -239,9 +240,9 @@ module _ (d : Document) (default : List ℕ) where
 
   list_step : (b : Block) (bs : Blocks) → IsPrintable b → KidsPrinted b → ChildrenPrinted bs → ListPrinted bs → OnListPrinted b bs
   list_step (Ending None) bs h k children list number tight plain l out outer places no_list some =
-      ending_on_list (block_pieces d false tight false (Ending None)) bs list number tight plain l out outer places no_list some
+      ending_on_list (block_pieces d in_container tight false (Ending None)) bs list number tight plain l out outer places no_list some
   list_step (Ending (Some ending)) bs h k children list number tight plain l out outer places no_list some =
-      ending_on_list (block_pieces d false tight false (Ending (Some ending))) bs list number tight plain l out outer places no_list some
+      ending_on_list (block_pieces d in_container tight false (Ending (Some ending))) bs list number tight plain l out outer places no_list some
   list_step (Blank None) bs h k children list number tight plain l out outer places no_list some =
       ending_on_list [] bs list number tight plain l out outer places no_list some
   list_step (Blank (Some ending)) bs h k children list number tight plain l out outer places no_list some =

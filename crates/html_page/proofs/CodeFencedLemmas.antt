@@ -14,6 +14,8 @@ use Rattle.definition_text.specs.BlockLines.{BlockLine, own_lines, last_ending}
 use Rattle.definition_block.specs.Tree.{FencedCode}
 use Rattle.html_bytes.specs.Pieces.{Piece as PrinterView, Bytes, Fresh, print}
 use Rattle.html_bytes.specs.Document.{Document, info_of}
+use Rattle.definition_page.specs.Read.{Standing}
+use Rattle.html_page.specs.Levels.{standing_at}
 use Rattle.html_bytes.specs.Html.{block_pieces, class_of, code_of, fenced_content, fresh_unless}
 use Rattle.block_rows.specs.Rows.{piece_line, piece_lines, first_codes}
 use Rattle.block_rows.proofs.RowSteps.{no_piece}
@@ -55,7 +57,7 @@ pub open_laid : (d : Document) (e inner after : LineEnding) (info : List ℕ) (t
     → closed ≡ false → inner ≡ e → after ≡ e
     → fresh ≡ print (ending_bytes e) out Fresh → tag ≡ fresh ++ codes "<pre><code" → class ≡ tag ++ class_of d info → start ≡ class ++ codes ">"
     → content ≡ layout_after inner start (fenced_content top closed ls) → end ≡ content ++ codes "</code></pre>"
-    → print (ending_bytes after) end Fresh ≡ layout_after e out (block_pieces d top false false (FencedCode info closed ls))
+    → print (ending_bytes after) end Fresh ≡ layout_after e out (block_pieces d (standing_at top) false false (FencedCode info closed ls))
 open_laid d e inner after info top closed ls out fresh tag class start content end not_closed same_inner same_after is_fresh is_tag is_class is_start is_content is_end =
     ap (λ x. print (ending_bytes x) end Fresh) same_after
     ∙ ap (λ x. print (ending_bytes e) x Fresh) (is_end ∙ ap (λ x. x ++ codes "</code></pre>") whole)
@@ -92,12 +94,12 @@ content_is count pieces =
     ∙ sym (take-map piece_line count (drop 1 pieces))
     ∙ ap (take count) (sym (drop-map piece_line 1 pieces))
 
-pub fenced_laid : (d : Document) (e : LineEnding) (out : List ℕ) (top tight silent closed : Bool) (count : ℕ) (pieces : List Piece)
+pub fenced_laid : (d : Document) (e : LineEnding) (out : List ℕ) (s : Standing) (tight silent closed : Bool) (count : ℕ) (pieces : List Piece)
     → 1 + count ≤ length pieces → list_all is_byte (first_codes (piece_lines pieces)) ≡ true
-    → layout_after e out (block_pieces d top false false (FencedCode (get_or pieces 0 no_piece).text.now closed (piece_lines (take count (take (length pieces - 1) (drop 1 pieces))))))
-    ≡ layout_after e out (block_pieces d top tight silent (FencedCode (first_codes (piece_lines pieces)) closed (take count (drop 1 (piece_lines pieces)))))
-fenced_laid d e out top tight silent closed count pieces enough h =
+    → layout_after e out (block_pieces d (standing_at s.top) false false (FencedCode (get_or pieces 0 no_piece).text.now closed (piece_lines (take count (take (length pieces - 1) (drop 1 pieces))))))
+    ≡ layout_after e out (block_pieces d s tight silent (FencedCode (first_codes (piece_lines pieces)) closed (take count (drop 1 (piece_lines pieces)))))
+fenced_laid d e out s tight silent closed count pieces enough h =
     let info = (get_or pieces 0 no_piece).text.now in
-    ap (λ ls. layout_after e out (block_pieces d top tight silent (FencedCode info closed ls))) (content_is count pieces)
-    ∙ ap (λ x. layout_after e out (block_pieces d top tight silent (FencedCode x closed (take count (drop 1 (piece_lines pieces))))))
+    ap (λ ls. layout_after e out (block_pieces d s tight silent (FencedCode info closed ls))) (content_is count pieces)
+    ∙ ap (λ x. layout_after e out (block_pieces d s tight silent (FencedCode x closed (take count (drop 1 (piece_lines pieces))))))
     (sym (info_is pieces (omega arith) h))

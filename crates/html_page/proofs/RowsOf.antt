@@ -10,6 +10,7 @@ use Rattle.definition_block.specs.Lists.{grouped}
 use Rattle.html_bytes.specs.Pieces.{print, layout}
 use Rattle.html_bytes.specs.Document.{Document}
 use Rattle.definition_page.specs.Read.{ends_blank, is_blank_ending}
+use Rattle.definition_page.specs.Read.{on_page}
 use Rattle.html_bytes.specs.Html.{children_pieces, last_piece, document_pieces}
 use Rattle.block_rows.specs.Rows.{BlockRow, Single, Exit, start_row, rows_of, block_rows, spaced_definition}
 use Rattle.html_page.specs.declared.level.Holder.TheVariants as holder
@@ -51,7 +52,7 @@ rows_end_blank (Cons b bs) blank h =
 
 pub rows_html_of : (d : Document) (default : List ℕ) (bs : Blocks) → CanBePrinted bs → rows_html d default (rows_of bs) ≡ layout default (document_pieces d bs)
 rows_html_of d default bs h =
-    let pieces = children_pieces d true false false (grouped bs) in
+    let pieces = children_pieces d on_page false false (grouped bs) in
     let start = new_level holder.Document false in
     let last = λ (out : List ℕ) (blank : Bool). fold (print default) out (last_piece blank) in
     let blank = ends_blank_rows (rows_of bs) in

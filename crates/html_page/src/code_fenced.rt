@@ -9,6 +9,7 @@ ghost use Rattle.definition_block.specs.Tree.{FencedCode};
 ghost use Rattle.html_bytes.specs.Html.{block_pieces, class_of, fenced_content};
 ghost use Rattle.block_rows.specs.Rows.{piece_lines};
 ghost use Rattle.html_contents.specs.Texts.{document_by};
+ghost use Rattle.html_page.specs.Levels.{standing_at};
 ghost use Rattle.html_page.specs.Prints.{LaysOut, Prints};
 
 use crate::page::Page;
@@ -29,7 +30,7 @@ impl<A: Allocator + Clone> Page<A> {
     ) -> Result<(), AllocError>
         ensures default { self.new.default_ending ≡ self.old.default_ending }
         ensures printed { (ds : List Definition) → HaveNoEnding info.now → let code = FencedCode info.now closed (piece_lines lines.now) in
-            OnOk result (LaysOut self.old self.new (block_pieces (document_by T.Tables texts.now ds) top false false code)) }
+            OnOk result (LaysOut self.old self.new (block_pieces (document_by T.Tables texts.now ds) (standing_at top) false false code)) }
     {
         self.fresh()?;
         self.html.push_str("<pre><code")?;

@@ -3,6 +3,7 @@ ghost use Rattle.std.specs.Prelude.{◌≡◌, OnOk, true, false};
 ghost use Rattle.html_bytes.specs.Document.{Document};
 ghost use Rattle.definition_text.specs.BlockLines.{own_lines};
 ghost use Rattle.definition_block.specs.Tree.{IndentedCode};
+ghost use Rattle.definition_page.specs.Read.{on_page};
 ghost use Rattle.html_bytes.specs.Html.{block_pieces};
 ghost use Rattle.block_rows.specs.Rows.{piece_lines};
 ghost use Rattle.html_page.specs.Prints.{LaysOut};
@@ -16,7 +17,7 @@ impl<A: Allocator + Clone> Page<A> {
     pub(crate) fn indented_code(&mut self, lines: &[Piece<'_>]) -> Result<(), AllocError>
         ensures default { self.new.default_ending ≡ self.old.default_ending }
         ensures printed { (d : Document) → let code = IndentedCode (own_lines (piece_lines lines.now)) in
-            OnOk result (LaysOut self.old self.new (block_pieces d true false false code)) }
+            OnOk result (LaysOut self.old self.new (block_pieces d on_page false false code)) }
     {
         self.fresh()?;
         self.html.push_str("<pre><code>")?;

@@ -31,6 +31,7 @@ impl<A: Allocator + Clone> Printer<A> {
         self.outer.push(Level {
             plain: false,
             silent: false,
+            first: false,
             ..self.level
         })?;
         self.level = Level::new(holder, tight);

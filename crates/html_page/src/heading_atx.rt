@@ -3,6 +3,7 @@ ghost use Rattle.std.specs.Prelude.{◌≡◌, ◌≤◌, ◌∷◌, [], List, O
 ghost use Rattle.definition_inline.specs.Definition.{Definition};
 ghost use Rattle.definition_text.specs.BlockLines.{own_lines};
 ghost use Rattle.definition_block.specs.Tree.{Heading};
+ghost use Rattle.definition_page.specs.Read.{on_page};
 ghost use Rattle.html_bytes.specs.Html.{block_pieces};
 ghost use Rattle.block_rows.specs.ParagraphLines.{HaveNoEnding};
 ghost use Rattle.block_rows.specs.Rows.{piece_line};
@@ -27,7 +28,7 @@ impl<A: Allocator + Clone> Page<A> {
         ensures default { self.new.default_ending ≡ self.old.default_ending }
         ensures printed { (ds : List Definition) → HasDefinitions texts.now.labels.now texts.now.links.now ds →
             HaveNoEnding (piece_line line.now).codes → let ls = own_lines (piece_line line.now ∷ []) in
-            OnOk result (LaysOut self.old self.new (block_pieces (document_by T.Tables texts.now ds) true false false (Heading rank ls))) }
+            OnOk result (LaysOut self.old self.new (block_pieces (document_by T.Tables texts.now ds) on_page false false (Heading rank ls))) }
     {
         self.fresh()?;
         self.heading_tag("<h", rank)?;

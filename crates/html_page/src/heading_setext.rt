@@ -4,6 +4,7 @@ ghost use Rattle.html_bytes.specs.Document.{text_of};
 ghost use Rattle.definition_inline.specs.Definition.{Definition};
 ghost use Rattle.definition_text.specs.BlockLines.{own_lines};
 ghost use Rattle.definition_block.specs.Tree.{Heading};
+ghost use Rattle.definition_page.specs.Read.{on_page};
 ghost use Rattle.html_bytes.specs.Html.{block_pieces};
 ghost use Rattle.block_rows.specs.Rows.{piece_lines};
 ghost use Rattle.html_contents.specs.Texts.{HasDefinitions, document_by};
@@ -28,7 +29,7 @@ impl<A: Allocator + Clone> Page<A> {
         ensures default { self.new.default_ending ≡ self.old.default_ending }
         ensures printed { (ds : List Definition) → HasDefinitions texts.now.labels.now texts.now.links.now ds →
             let ls = own_lines (piece_lines lines.now) in AreHeadingLines ls →
-            OnOk result (LaysOut self.old self.new (block_pieces (document_by T.Tables texts.now ds) true false false (Heading rank ls))) }
+            OnOk result (LaysOut self.old self.new (block_pieces (document_by T.Tables texts.now ds) on_page false false (Heading rank ls))) }
     {
         self.fresh()?;
         self.heading_tag("<h", rank)?;

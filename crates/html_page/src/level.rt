@@ -27,6 +27,8 @@ pub(crate) struct Level {
     pub(crate) plain: bool,
     /// Whether the last row silences an ending right after it.
     pub(crate) silent: bool,
+    /// Whether it is an item, and no block stands in it yet (GFM 5.3).
+    pub(crate) first: bool,
 }
 
 impl Level {
@@ -39,6 +41,7 @@ impl Level {
             tight,
             plain: true,
             silent: false,
+            first: matches!(holder, Holder::Item { .. }),
         }
     }
 
@@ -47,17 +50,18 @@ impl Level {
     pub(crate) fn after(self, row: Row) -> Level
         ensures { (ls : List BlockLine) → result ≡ level_after self (row_value row ls) }
     {
-        let (plain, silent) = match row {
-            Row::Paragraph(_) | Row::WholeParagraph(_) => (self.tight, self.tight),
-            Row::Definition(_) => (self.plain, true),
-            Row::UnclosedCode(_) => (false, self.is_document()),
-            Row::Ending(None) | Row::Blank(None) => (self.plain, self.silent),
-            Row::Ending(_) | Row::Blank(_) => (self.plain, false),
-            _ => (false, false),
+        let (plain, silent, first) = match row {
+            Row::Paragraph(_) | Row::WholeParagraph(_) => (self.tight, self.tight, false),
+            Row::Definition(_) => (self.plain, true, false),
+            Row::UnclosedCode(_) => (false, self.is_document(), false),
+            Row::Ending(None) | Row::Blank(None) => (self.plain, self.silent, self.first),
+            Row::Ending(_) | Row::Blank(_) => (self.plain, false, self.first),
+            _ => (false, false, false),
         };
         Level {
             plain,
             silent,
+            first,
             ..self
         }
     }

@@ -45,9 +45,9 @@ impl<A: Allocator + Clone> Page<A> {
     {
         let top = level.is_document();
         match row {
-            Row::Paragraph(count) => self.paragraph(texts, level.tight, &lines[..count]),
+            Row::Paragraph(count) => self.paragraph(texts, level.tight, level.first, &lines[..count]),
             Row::WholeParagraph(count) => {
-                self.whole_paragraph(texts, level.tight, count, lines[0].text)
+                self.whole_paragraph(texts, level.tight, level.first, count, lines[0].text)
             }
             Row::Heading(rank) => self.heading_atx(texts, rank, &lines[0]),
             Row::SetextHeading { rank, count } => self.heading_setext(texts, rank, &lines[..count]),

@@ -7,6 +7,7 @@ ghost use Rattle.definition_block.specs.Tree.{Paragraph};
 ghost use Rattle.html_bytes.specs.Html.{block_pieces};
 ghost use Rattle.block_rows.specs.Rows.{piece_lines, whole_lines};
 ghost use Rattle.html_contents.specs.Texts.{HasDefinitions, document_by};
+ghost use Rattle.html_page.specs.Levels.{standing_first};
 ghost use Rattle.html_page.specs.Prints.{LaysOut};
 
 use crate::page::Page;
@@ -16,24 +17,26 @@ use markdown_options::Tables;
 use std::alloc::{AllocError, Allocator};
 
 impl<A: Allocator + Clone> Page<A> {
-    /// Prints a paragraph (CommonMark 4.8). That of a tight item is its text alone.
+    /// Prints a paragraph, which may be the first block of an item (CommonMark 4.8). That of a tight
+    /// item is its text alone.
     pub(crate) fn paragraph<T: Tables>(
         &mut self,
         texts: &Texts<'_, T, A>,
         tight: bool,
+        first: bool,
         lines: &[Piece<'_>],
     ) -> Result<(), AllocError>
         ensures default { self.new.default_ending ≡ self.old.default_ending }
         ensures printed { (ds : List Definition) → HasDefinitions texts.now.labels.now texts.now.links.now ds → AreLines (piece_lines lines.now) →
             let paragraph = Paragraph (own_lines (piece_lines lines.now)) in
-            OnOk result (LaysOut self.old self.new (block_pieces (document_by T.Tables texts.now ds) true tight false paragraph)) }
+            OnOk result (LaysOut self.old self.new (block_pieces (document_by T.Tables texts.now ds) (standing_first first) tight false paragraph)) }
     {
         if tight {
-            return texts.push_text(&mut self.html, &mut self.buffers, lines);
+            return texts.push_paragraph(&mut self.html, &mut self.buffers, first, lines);
         }
         self.fresh()?;
         self.html.push_str("<p>")?;
-        texts.push_text(&mut self.html, &mut self.buffers, lines)?;
+        texts.push_paragraph(&mut self.html, &mut self.buffers, first, lines)?;
         self.html.push_str("</p>")
     }
 
@@ -42,21 +45,22 @@ impl<A: Allocator + Clone> Page<A> {
         &mut self,
         texts: &Texts<'_, T, A>,
         tight: bool,
+        first: bool,
         count: usize,
         text: &str,
     ) -> Result<(), AllocError>
         ensures default { self.new.default_ending ≡ self.old.default_ending }
         ensures printed { (ds : List Definition) → HasDefinitions texts.now.labels.now texts.now.links.now ds →
             let paragraph = Paragraph (own_lines (whole_lines count text.now)) in
-            OnOk result (LaysOut self.old self.new (block_pieces (document_by T.Tables texts.now ds) true tight false paragraph)) }
+            OnOk result (LaysOut self.old self.new (block_pieces (document_by T.Tables texts.now ds) (standing_first first) tight false paragraph)) }
         ensures bytes { (k : ℕ) → slice_index text.now k < 256 }
     {
         if tight {
-            return texts.push_whole(&mut self.html, &mut self.buffers, count, text);
+            return texts.push_whole(&mut self.html, &mut self.buffers, first, count, text);
         }
         self.fresh()?;
         self.html.push_str("<p>")?;
-        texts.push_whole(&mut self.html, &mut self.buffers, count, text)?;
+        texts.push_whole(&mut self.html, &mut self.buffers, first, count, text)?;
         self.html.push_str("</p>")
     }
 }

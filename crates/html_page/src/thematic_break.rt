@@ -2,6 +2,7 @@
 ghost use Rattle.std.specs.Prelude.{◌≡◌, ◌<◌, OnOk, true, false};
 ghost use Rattle.html_bytes.specs.Document.{Document};
 ghost use Rattle.definition_block.specs.Tree.{Break};
+ghost use Rattle.definition_page.specs.Read.{on_page};
 ghost use Rattle.html_bytes.specs.Html.{block_pieces};
 ghost use Rattle.html_page.specs.Prints.{LaysOut};
 
@@ -12,7 +13,7 @@ impl<A: Allocator + Clone> Page<A> {
     /// Prints a thematic break (CommonMark 4.1).
     pub(crate) fn thematic_break(&mut self) -> Result<(), AllocError>
         ensures default { self.new.default_ending ≡ self.old.default_ending }
-        ensures printed { (d : Document) → OnOk result (LaysOut self.old self.new (block_pieces d true false false Break)) }
+        ensures printed { (d : Document) → OnOk result (LaysOut self.old self.new (block_pieces d on_page false false Break)) }
     {
         self.fresh()?;
         self.html.push_str("<hr />")

@@ -6,6 +6,7 @@ pub mod Codes
 pub mod Endings
 pub mod FirstBytes
 pub mod Fronts
+pub mod GfmTaskListItemLemmas
 pub mod HtmlTextLemmas
 pub mod RawRuns
 pub mod CharacterReferenceLemmas

@@ -7,6 +7,7 @@ pub mod character_escape;
 pub mod character_reference;
 pub mod code_text;
 pub mod cut;
+pub mod gfm_task_list_item;
 pub mod hard_break_escape;
 pub mod hard_break_trailing;
 pub mod html_text;
@@ -19,4 +20,5 @@ mod raw_text;
 pub mod searches;
 pub mod space;
 
+pub use gfm_task_list_item::Check;
 pub use leaf::{Leaf, LeafPart};

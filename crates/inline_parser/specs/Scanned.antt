@@ -72,16 +72,16 @@ pub record StartsLabel (bytes : List ℕ) (start : LabelStart) : Type 0 where
   pub end : IsEnd bytes (length (start_bytes (start_view start)))
   pub first : take (length (start_bytes (start_view start))) bytes ≡ start_bytes (start_view start)
 
--- what all of a content is read as, but for the spaces and tabs at its start
-abbrev pub scanned : ParseOptions → (List ℕ → Option (List ℕ)) → (ℕ → Bool) → List Definition → Content → scan.Reading
-scanned options names is_punctuation ds content =
-    let view = content_view is_punctuation content in
-    scan.scan (context_by options names ds) 0 (scan.reading (scan.text [] false) []) (drop (prefix_len (λ (c : InlineCode). is_white c.code) view) view)
+-- what a content is read as from a place on
+abbrev pub scanned : ParseOptions → (List ℕ → Option (List ℕ)) → (ℕ → Bool) → List Definition → Content → List ℕ → scan.Reading
+scanned options names is_punctuation ds content start =
+    scan.scan (context_by options names ds) 0 (scan.reading (scan.text [] false) []) (view_at is_punctuation content start)
 
--- a content that is being read to this end
-pub record IsScanning {A : Type 0} (options : ParseOptions) (names : List ℕ → Option (List ℕ)) (is_punctuation : ℕ → Bool) (labels : LabelTable A) (content : Content) (s : Scanner A) : Type 0 where
+-- a content that is being read from this place to this end
+pub record IsScanning {A : Type 0} (options : ParseOptions) (names : List ℕ → Option (List ℕ)) (is_punctuation : ℕ → Bool) (labels : LabelTable A) (content : Content) (start : List ℕ) (s : Scanner A) : Type 0 where
   pub placed : IsPlaced content s
-  pub follows : (ds : List Definition) → HasLabels labels (labels_of ds) → Follows options names is_punctuation ds content s (scanned options names is_punctuation ds content)
+  pub follows : (ds : List Definition) → HasLabels labels (labels_of ds)
+      → Follows options names is_punctuation ds content s (scanned options names is_punctuation ds content start)
 
 -- whatever the document's definitions are and whatever is read in the end, the new state leads there as the old one did, unless memory ran out
 abbrev pub GoesOn : {T A B C : Type 0} → (List ℕ → Option (List ℕ)) → (ℕ → Bool) → Source T A → Scanner A → Result B C → Scanner A → Type 0

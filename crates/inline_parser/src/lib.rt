@@ -6,4 +6,4 @@ mod plain;
 mod reading;
 pub mod scan;
 
-pub use scan::inline_rows;
+pub use scan::{content_start, inline_rows};

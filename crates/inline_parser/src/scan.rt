@@ -1,7 +1,7 @@
 //! The scan of a content from left to right (CommonMark 6 and appendix, phase 2).
 //!
 //!     content ::= white* (text | leaf | run | start | ']')*
-ghost use Rattle.std.specs.Prelude.{◌≡◌, ◌<◌, ◌≤◌, ◌==◌, ◌&&◌, ℕ, List, [], ◌∷◌, Option, None, true, length, map, IfOk, IfSome, OnOk, take, drop, slice_index};
+ghost use Rattle.std.specs.Prelude.{◌≡◌, ◌<◌, ◌≤◌, ◌==◌, ◌&&◌, ℕ, Bool, List, [], ◌∷◌, Option, None, true, length, map, IfOk, IfSome, OnOk, take, drop, slice_index};
 ghost use Rattle.std.specs.List.{prefix_len};
 ghost use Rattle.std.specs.Option.{option_map};
 ghost use Rattle.std.specs.Str.{IsCharBoundary};
@@ -13,7 +13,7 @@ ghost use Rattle.definition_page.specs.InlinePieces.{leads_to};
 ghost use Rattle.inline_rows.specs.InlineRows.{inline_rows};
 ghost use Rattle.definition_inline.specs.Definition.{Definition};
 ghost use Rattle.definition_inline.specs.Scan as scan;
-ghost use Rattle.definition_inline.specs.Scan.{inlines, label_start_at, read_tokens, start_bytes};
+ghost use Rattle.definition_inline.specs.Scan.{inlines_from, unindented, label_start_at, read_tokens, start_bytes};
 ghost use Rattle.definition_inline.specs.Spans.{Item, Delimiters};
 ghost use Rattle.definition_page.specs.Targets.{labels_of, linked_at, linked_by};
 ghost use Rattle.inline_runs.specs.View.{run_view};
@@ -60,18 +60,20 @@ pub(crate) struct Scanner<'a, A: Allocator> {
     pub(crate) reading: Reading<'a, A>,
 }
 
-/// The inline structure of a content as rows (CommonMark 6).
+/// The inline structure of a content from a place on, as rows (CommonMark 6).
 pub fn inline_rows<'a, T: Tables, A: Allocator + Clone>(
     alloc: A,
     options: &'a ParseOptions,
     tables: &'a T,
     labels: &'a LabelTable<A>,
     content: Content<'a>,
+    start: &'a str,
 ) -> Result<Vec<InlineRow<'a>, A>, AllocError>
+    requires { IsPlace content.text.now start.now }
     ensures { (ds : List Definition) → HasLabels labels.now (labels_of ds) →
         IfOk result (λ rows. rows_view (linked_at ds) rows.items
         ≡ inline_rows (leads_to (linked_by ds))
-        (inlines (context_by options.now (T.reference_of tables.now) ds) (content_view (T.punctuation_of tables.now) content.entry))) }
+        (inlines_from (context_by options.now (T.reference_of tables.now) ds) (view_at (T.punctuation_of tables.now) content.entry start.now))) }
 {
     let source = Source {
         options,
@@ -81,7 +83,7 @@ pub fn inline_rows<'a, T: Tables, A: Allocator + Clone>(
     };
     let mut scanner = Scanner {
         searches: Searches::new(alloc.clone()?, content.text()),
-        rest: after_white(content.text()),
+        rest: start,
         reading: Reading::new(alloc)?,
     };
     while !scanner.rest.is_empty() {
@@ -91,7 +93,16 @@ pub fn inline_rows<'a, T: Tables, A: Allocator + Clone>(
     reading.finish()
 }
 
-/// The content after its spaces and tabs.
+/// A content after the spaces and tabs at its start.
+pub fn content_start<'a>(content: Content<'a>) -> &'a str
+    ensures place { IsPlace content.entry.text.now result.now }
+    ensures view { (is_punctuation : ℕ → Bool) →
+        view_at is_punctuation content.entry result.now ≡ unindented (content_view is_punctuation content.entry) }
+{
+    after_white(content.text())
+}
+
+/// A text after its spaces and tabs.
 fn after_white(text: &str) -> &str
     ensures place { IsPlace text.now result.now }
     ensures size { size_before text.now result.now ≡ prefix_len is_white (content_codes text.now) }

@@ -1,5 +1,5 @@
 -- Pages are the same by options that print raw HTML and URLs alike.
-use Rattle.std.proofs.Common.{◌≡◌, ℕ, false, not, cond, List, [], ◌∷◌, ◌++◌, Option, None, Some, refl, ap, ◌∙◌, map}
+use Rattle.std.proofs.Common.{◌≡◌, ℕ, Bool, false, not, cond, List, [], ◌∷◌, ◌++◌, Option, None, Some, refl, ap, ◌∙◌, map}
 use Rattle.std.specs.Prelude.{codes}
 use Rattle.std.specs.List.{flat_map}
 use Rattle.markdown_options.specs.declared.configuration.CompileOptions.{CompileOptions}
@@ -12,13 +12,14 @@ use Rattle.definition_page.specs.Pieces.{Void, Says, Eol, Fresh}
 use Rattle.definition_page.specs.InlinePieces.{Meaning, link_url, image_url, url_of, title_attribute, address, raw_html, HtmlLine, html_lines, html_line_says, later_line_says, html_lines_say, leads_to, link_tag, image_tag, part_says, description, element, part_pieces, inline_pieces}
 use Rattle.definition_page.specs.Page as page
 use Rattle.definition_page.specs.Page.{Page}
-use Rattle.definition_page.specs.BlockPieces.{Place, at_top, inside, html_line, says, heading_name, list_tag, last_shown, ends_plainly, fresh_unless, block_pieces, children_pieces, document_pieces}
+use Rattle.definition_page.specs.BlockPieces.{checkable_attributes, done_attributes, check_pieces, Place, at_top, inside, html_line, says, heading_name, list_tag, last_shown, ends_plainly, fresh_unless, block_pieces, children_pieces, document_pieces}
 
 -- options that print raw HTML and URLs alike
 pub record Alike (one another : CompileOptions) : Type 0 where
   pub raw : (html : List ℕ) → raw_html one html ≡ raw_html another html
   pub link : (url : List ℕ) → link_url one url ≡ link_url another url
   pub image : (url : List ℕ) → image_url one url ≡ image_url another url
+  pub checkable : one.gfm_task_list_item_checkable ≡ another.gfm_task_list_item_checkable
 
 module _ (m : Meaning) (compile : CompileOptions) (alike : Alike compile m.compile) where
   abbrev other : Meaning
@@ -95,13 +96,21 @@ module _ (m : Meaning) (compile : CompileOptions) (alike : Alike compile m.compi
       ap (λ said. (said ∷ Words (ending_text l.ending) ∷ []) ++ flat_map (html_line compile) ls) (alike.raw (bytes_of l.codes))
       ∙ ap (λ said. html_line m.compile l ++ said) (same_html ls)
 
-  same_paragraph : (place : Place) (before : Option page.Block) (is : Inlines)
-      → block_pieces other place before (page.Paragraph is) ≡ block_pieces m place before (page.Paragraph is)
-  same_paragraph place before is = ap (λ ps. cond place.tight ps (Fresh ∷ element (bare_tag (codes "p")) ps)) (same_inlines is)
+  same_check : (check : Option Bool) → check_pieces compile check ≡ check_pieces m.compile check
+  same_check None = refl
+  same_check (Some done) =
+      ap (λ checkable. Void (tag (codes "input") (attribute (codes "type") (codes "checkbox") ∷ checkable_attributes checkable ++ done_attributes done)) ∷ [])
+      alike.checkable
+
+  same_paragraph : (place : Place) (before : Option page.Block) (check : Option Bool) (is : Inlines)
+      → block_pieces other place before (page.Paragraph check is) ≡ block_pieces m place before (page.Paragraph check is)
+  same_paragraph place before check is =
+      ap (λ ps. cond place.tight ps (Fresh ∷ element (bare_tag (codes "p")) ps))
+      (ap (λ ps. ps ++ inline_pieces other is) (same_check check) ∙ ap (λ ps. check_pieces m.compile check ++ ps) (same_inlines is))
 
   mutual
     same_block : (place : Place) (before : Option page.Block) (b : page.Block) → block_pieces other place before b ≡ block_pieces m place before b
-    same_block place before (page.Paragraph is) = same_paragraph place before is
+    same_block place before (page.Paragraph check is) = same_paragraph place before check is
     same_block place before (page.Heading rank is) = ap (λ ps. Fresh ∷ element (bare_tag (heading_name rank)) ps) (same_inlines is)
     same_block place before (page.Html ls) = ap (λ said. Fresh ∷ says said) (same_html ls)
     same_block place before (page.Quote kids) =

@@ -1,4 +1,5 @@
 //! Options that make no difference.
 #![tactic(auto)]
 
+pub mod gfm_task_list_item;
 pub mod laws;

@@ -19,7 +19,7 @@ use Rattle.definition_page.specs.Pieces.{Close, Fresh, layout}
 use Rattle.definition_page.specs.InlinePieces.{Meaning}
 use Rattle.definition_page.specs.BlockPieces.{at_top, inside, fresh_unless, children_pieces}
 use Rattle.definition_page.specs.DocumentPieces.{pieces, default_ending}
-use Rattle.definition_page.specs.Read.{Reading, read_blocks, ends_blank, page_with, read_after}
+use Rattle.definition_page.specs.Read.{Reading, on_page, in_container, read_blocks, ends_blank, page_with, read_after}
 use Rattle.definition_page.specs.Html.{html}
 use Rattle.laws_quote.specs.Quoted.{quoted}
 use Rattle.laws_quote.specs.Laws.{quoted_line, quote_of}
@@ -68,7 +68,7 @@ module _ (tables : TextTables) (options : Options) (default : LineEnding) (ds : 
 
   -- children in a quote, squeezed
   abbrev squeezed_kids : tree.Blocks → Squeezed
-  squeezed_kids bs = print_siblings default meaning (inside false) None (read_blocks reading false (grouped bs)) nothing_yet
+  squeezed_kids bs = print_siblings default meaning (inside false) None (read_blocks reading in_container (grouped bs)) nothing_yet
 
   last_line : (said : Bool) (s : Squeezed) → (with_pieces default s (fresh_unless said)).kept ≡ s.kept
   last_line true s = refl
@@ -76,7 +76,7 @@ module _ (tables : TextTables) (options : Options) (default : LineEnding) (ds : 
 
   squeeze_page : (bs : tree.Blocks) → squeeze (page_bytes bs) ≡ (squeezed_kids bs).kept
   squeeze_page bs =
-      let kids = children_pieces meaning at_top None (read_blocks reading true (grouped bs)) in
+      let kids = children_pieces meaning at_top None (read_blocks reading on_page (grouped bs)) in
       let said = not (ends_blank false bs) in
       ap (λ s. s.kept) (pieces_printed default (kids ++ fresh_unless said) [])
       ∙ ap (λ s. s.kept) (fold-append (with_piece default) nothing_yet kids (fresh_unless said))
@@ -89,7 +89,7 @@ module _ (tables : TextTables) (options : Options) (default : LineEnding) (ds : 
       at_last (λ last. (squeezed_kids (tree.join bs last)).kept ≡ (squeezed_kids bs).kept) kids
       (ap (λ all. (squeezed_kids all).kept) (join-nil bs))
       (λ last ends.
-      ap (λ all. (print_siblings default meaning (inside false) None (read_blocks reading false all) nothing_yet).kept) (grouped-join bs last ends)
+      ap (λ all. (print_siblings default meaning (inside false) None (read_blocks reading in_container all) nothing_yet).kept) (grouped-join bs last ends)
       ∙ keep_join default meaning reading (grouped bs) last ends None nothing_yet)
 
   -- a quote is what its children are, between its tags
@@ -98,7 +98,7 @@ module _ (tables : TextTables) (options : Options) (default : LineEnding) (ds : 
       let f = with_piece default in
       let start = codes "<blockquote>" in
       let s = after_text start nothing_yet in
-      let inner = children_pieces meaning (inside false) None (read_blocks reading false (grouped kids)) in
+      let inner = children_pieces meaning (inside false) None (read_blocks reading in_container (grouped kids)) in
       let end = Close (codes "blockquote") ∷ [] in
       let kept = (ap (λ t. t.kept) (fold-append f s inner (Fresh ∷ []))
       ∙ kept_at_fresh default (with_pieces default s inner)

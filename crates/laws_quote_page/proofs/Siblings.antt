@@ -14,7 +14,7 @@ use Rattle.definition_page.specs.Tags.{Words, said_bytes, end_tag, tag, bare_tag
 use Rattle.definition_page.specs.Pieces.{Piece, Open, Close, Says, Eol, Fresh}
 use Rattle.definition_page.specs.InlinePieces.{Meaning, element}
 use Rattle.definition_page.specs.Page as page
-use Rattle.definition_page.specs.Read.{Reading, read_text, info_text, without_ending, list_number, read_block, read_blocks}
+use Rattle.definition_page.specs.Read.{Reading, Standing, on_page, in_container, in_item, read_text, info_text, without_ending, list_number, read_block, read_blocks}
 use Rattle.definition_block.specs.Lists.{is_loose}
 use Rattle.definition_page.specs.BlockPieces.{Place, at_top, inside, code_line, says, info_attributes, is_silent, fenced_pieces, block_pieces, children_pieces}
 use Rattle.laws_quote_page.specs.Squeeze.{Squeezed, with_bytes}
@@ -27,7 +27,7 @@ use Rattle.laws_quote_page.proofs.Printed.{with_piece, with_pieces, kept_at_fres
 ending_alike : (m : Meaning) (before : Option page.Block) (ending : LineEnding)
     → block_pieces m at_top before (page.Ending ending) ≡ block_pieces m (inside false) before (page.Ending ending)
 ending_alike m None ending = refl
-ending_alike m (Some (page.Paragraph is)) ending = refl
+ending_alike m (Some (page.Paragraph check is)) ending = refl
 ending_alike m (Some page.Definition) ending = refl
 ending_alike m (Some b) ending = refl
 
@@ -42,22 +42,26 @@ fenced_alike m before info ls =
     ap (λ ps. Fresh ∷ (element (bare_tag (codes "pre")) (element (tag (codes "code") (info_attributes info)) ps) ++ []))
     (lines_alike ls)
 
+-- where a block stands that isn't the first in an item
+abbrev standing_at : Bool → Standing
+standing_at top = record { top = top; first = false }
+
 -- what a block is read as at the top and in a quote: one that prints the same; nothing, of an ending that isn't there; or fenced code that isn't closed
 data ReadBoth (m : Meaning) (r : Reading) (b : tree.Block) : Type 0 where
-  Alike : (c : page.Block) → ((top : Bool) (others : page.Blocks) → read_block r top b others ≡ page.Cons c others)
+  Alike : (c : page.Block) → ((top : Bool) (others : page.Blocks) → read_block r (standing_at top) b others ≡ page.Cons c others)
       → ((before : Option page.Block) → block_pieces m at_top before c ≡ block_pieces m (inside false) before c) → ReadBoth m r b
-  Nothing : ((top : Bool) (others : page.Blocks) → read_block r top b others ≡ others) → ReadBoth m r b
+  Nothing : ((top : Bool) (others : page.Blocks) → read_block r (standing_at top) b others ≡ others) → ReadBoth m r b
   Unclosed : (info : Option (List ℕ)) (ls : List BlockLine)
-      → ((others : page.Blocks) → read_block r true b others ≡ page.Cons (page.FencedCode info false ls) (without_ending others))
-      → ((others : page.Blocks) → read_block r false b others ≡ page.Cons (page.FencedCode info false (own_lines ls)) others) → ReadBoth m r b
+      → ((others : page.Blocks) → read_block r on_page b others ≡ page.Cons (page.FencedCode info false ls) (without_ending others))
+      → ((others : page.Blocks) → read_block r in_container b others ≡ page.Cons (page.FencedCode info false (own_lines ls)) others) → ReadBoth m r b
 
 closed_read : (r : Reading) (info : List ℕ) (ls : List BlockLine) (top : Bool) (others : page.Blocks)
-    → read_block r top (tree.FencedCode info true ls) others ≡ page.Cons (page.FencedCode (info_text r info) true ls) others
+    → read_block r (standing_at top) (tree.FencedCode info true ls) others ≡ page.Cons (page.FencedCode (info_text r info) true ls) others
 closed_read r info ls true others = refl
 closed_read r info ls false others = refl
 
 read_both : (m : Meaning) (r : Reading) (b : tree.Block) → ReadBoth m r b
-read_both m r (tree.Paragraph ls) = Alike (page.Paragraph (read_text r ls)) (λ top others. refl) (λ before. refl)
+read_both m r (tree.Paragraph ls) = Alike (page.Paragraph None (read_text r ls)) (λ top others. refl) (λ before. refl)
 read_both m r (tree.Heading rank ls) = Alike (page.Heading rank (read_text r ls)) (λ top others. refl) (λ before. refl)
 read_both m r tree.Break = Alike page.Break (λ top others. refl) (λ before. refl)
 read_both m r (tree.IndentedCode ls) = Alike (page.IndentedCode ls) (λ top others. refl) (λ before. refl)
@@ -66,10 +70,10 @@ read_both m r (tree.FencedCode info true ls) =
 read_both m r (tree.FencedCode info false ls) = Unclosed (info_text r info) ls (λ others. refl) (λ others. refl)
 read_both m r (tree.Html ls) = Alike (page.Html ls) (λ top others. refl) (λ before. refl)
 read_both m r (tree.Definition label destination title) = Alike page.Definition (λ top others. refl) (λ before. refl)
-read_both m r (tree.Holds Quote kids) = Alike (page.Quote (read_blocks r false kids)) (λ top others. refl) (λ before. refl)
-read_both m r (tree.Holds (Item item) kids) = Alike (page.Item (read_blocks r false kids)) (λ top others. refl) (λ before. refl)
+read_both m r (tree.Holds Quote kids) = Alike (page.Quote (read_blocks r in_container kids)) (λ top others. refl) (λ before. refl)
+read_both m r (tree.Holds (Item item) kids) = Alike (page.Item (read_blocks r in_item kids)) (λ top others. refl) (λ before. refl)
 read_both m r (tree.Items items) =
-    Alike (page.ItemList (list_number items) (is_loose items) (read_blocks r false items)) (λ top others. refl) (λ before. refl)
+    Alike (page.ItemList (list_number items) (is_loose items) (read_blocks r in_container items)) (λ top others. refl) (λ before. refl)
 read_both m r (tree.Ending None) = Nothing (λ top others. refl)
 read_both m r (tree.Ending (Some ending)) = Alike (page.Ending ending) (λ top others. refl) (λ before. ending_alike m before ending)
 read_both m r (tree.Blank None) = Nothing (λ top others. refl)
@@ -181,7 +185,7 @@ module _ (default : LineEnding) (m : Meaning) where
 
   module _ (r : Reading) where
     same_cons : (b : tree.Block) (outer inner : page.Blocks) → ReadBoth m r b → PrintSame outer inner
-        → PrintSame (read_block r true b outer) (read_block r false b inner)
+        → PrintSame (read_block r on_page b outer) (read_block r in_container b inner)
     same_cons b outer inner (Alike c read alike) same before s =
         ap (λ bs. print_siblings at_top before bs s) (read true outer)
         ∙ print-cons at_top before c outer s
@@ -208,9 +212,9 @@ module _ (default : LineEnding) (m : Meaning) where
         ∙ sym (ap (λ bs. print_siblings (inside false) before bs s) (read_inner inner))
 
     -- children print the same at the top and in a quote
-    pub same_in_quote : (bs : tree.Blocks) → PrintSame (read_blocks r true bs) (read_blocks r false bs)
+    pub same_in_quote : (bs : tree.Blocks) → PrintSame (read_blocks r on_page bs) (read_blocks r in_container bs)
     same_in_quote tree.Nil = λ before s. refl
-    same_in_quote (tree.Cons b bs) = same_cons b (read_blocks r true bs) (read_blocks r false bs) (read_both m r b) (same_in_quote bs)
+    same_in_quote (tree.Cons b bs) = same_cons b (read_blocks r on_page bs) (read_blocks r in_container bs) (read_both m r b) (same_in_quote bs)
 
     -- ---- an ending at the end
 
@@ -225,7 +229,7 @@ module _ (default : LineEnding) (m : Meaning) where
         ∙ same (Some b) (print_block (inside false) before b s)
         ∙ sym (ap (λ t. t.kept) (print-cons (inside false) before b cs s))
 
-    keep_read : (b : tree.Block) (bs cs : page.Blocks) → ReadBoth m r b → KeepSame bs cs → KeepSame (read_block r false b bs) (read_block r false b cs)
+    keep_read : (b : tree.Block) (bs cs : page.Blocks) → ReadBoth m r b → KeepSame bs cs → KeepSame (read_block r in_container b bs) (read_block r in_container b cs)
     keep_read b bs cs (Alike c read alike) same before s =
         ap (λ all. (print_siblings (inside false) before all s).kept) (read false bs)
         ∙ keep_cons c bs cs same before s
@@ -244,7 +248,7 @@ module _ (default : LineEnding) (m : Meaning) where
     keep_ending true ending s = refl
     keep_ending false ending s = kept_at_said s (Some ending)
 
-    keep_last : (last : tree.Block) → tree.is_ending last ≡ true → KeepSame (read_blocks r false (tree.one last)) page.Nil
+    keep_last : (last : tree.Block) → tree.is_ending last ≡ true → KeepSame (read_blocks r in_container (tree.one last)) page.Nil
     keep_last (tree.Ending None) e before s = refl
     keep_last (tree.Ending (Some ending)) e before s = keep_ending (is_silent (inside false) before) ending s
     keep_last (tree.Blank None) e before s = refl
@@ -253,7 +257,7 @@ module _ (default : LineEnding) (m : Meaning) where
 
     -- an ending after the children keeps what is kept
     pub keep_join : (bs : tree.Blocks) (last : tree.Block) → tree.is_ending last ≡ true
-        → KeepSame (read_blocks r false (tree.join bs (tree.one last))) (read_blocks r false bs)
+        → KeepSame (read_blocks r in_container (tree.join bs (tree.one last))) (read_blocks r in_container bs)
     keep_join tree.Nil last e = keep_last last e
     keep_join (tree.Cons b bs) last e =
-        keep_read b (read_blocks r false (tree.join bs (tree.one last))) (read_blocks r false bs) (read_both m r b) (keep_join bs last e)
+        keep_read b (read_blocks r in_container (tree.join bs (tree.one last))) (read_blocks r in_container bs) (read_both m r b) (keep_join bs last e)

@@ -7,11 +7,11 @@ use Rattle.markdown_options.specs.declared.line_ending.LineEnding.TheVariants.{C
 use Rattle.markdown_options.specs.LineEndings.{ending_bytes}
 use Rattle.definition_text.specs.BlockLines.{BlockLine}
 use Rattle.definition_text.specs.Columns.{bytes_of}
-use Rattle.definition_page.specs.Tags.{Words, Number, Tag, tag, bare_tag}
+use Rattle.definition_page.specs.Tags.{Words, Number, Tag, tag, bare_tag, attribute}
 use Rattle.definition_page.specs.Pieces.{Piece, Void, Says, Eol, Fresh, layout}
 use Rattle.definition_page.specs.Page.{Page, Block, Paragraph, Heading, Break, IndentedCode, FencedCode, Html, Definition, Quote, ItemList, Item, Ending, Blank, Blocks, Nil, Cons}
 use Rattle.definition_page.specs.InlinePieces.{Meaning, element, inline_pieces}
-use Rattle.definition_page.specs.BlockPieces.{Place, at_top, inside, code_line, html_line, says, heading_name, info_attributes, list_tag, is_silent, last_shown, ends_plainly, fresh_unless, fenced_pieces, block_pieces, children_pieces, document_pieces}
+use Rattle.definition_page.specs.BlockPieces.{checkable_attributes, done_attributes, check_tag, check_pieces, Place, at_top, inside, code_line, html_line, says, heading_name, info_attributes, list_tag, is_silent, last_shown, ends_plainly, fresh_unless, fenced_pieces, block_pieces, children_pieces, document_pieces}
 use Rattle.html_safe_page.specs.Table.{start_rows, void_rows}
 use Rattle.html_safe_page.specs.SafePage.{IsSafePage}
 use Rattle.html_safe_page.proofs.Closing.{closed}
@@ -32,7 +32,7 @@ is_rank rank = (eqb rank 1 || eqb rank 2 || eqb rank 3) || (eqb rank 4 || eqb ra
 -- headings have such ranks, and the codes of line endings are those, at any depth
 abbrev mutual
   pub IsReadable : Block → Type 0
-  IsReadable (Paragraph is) = AllEndLines is
+  IsReadable (Paragraph check is) = AllEndLines is
   IsReadable (Heading rank is) = (is_rank rank ≡ true) × AllEndLines is
   IsReadable (Quote kids) = AreReadable kids
   IsReadable (ItemList number loose items) = AreReadable items
@@ -73,6 +73,14 @@ list_is_tag (Some number) =
     cond_both (eqb number 1) [] _ (λ attributes. IsTag start_rows (tag (codes "ol") attributes)) (λ _. (tt, refl))
     (λ _. ((value_spelled (Number number ∷ []) (tt, tt), tt), refl))
 
+check_is_tag : (checkable done : Bool)
+    → IsTag void_rows (tag (codes "input") (attribute (codes "type") (codes "checkbox") ∷ checkable_attributes checkable ++ done_attributes done))
+unfolding void_rows
+check_is_tag true true = ((words_text (codes "checkbox"), (words_text [], tt)), refl)
+check_is_tag true false = ((words_text (codes "checkbox"), tt), refl)
+check_is_tag false true = ((words_text (codes "checkbox"), (words_text [], (words_text [], tt))), refl)
+check_is_tag false false = ((words_text (codes "checkbox"), (words_text [], tt)), refl)
+
 pub ending_is_safe : (ending : LineEnding) → IsSafePage (ending_bytes ending)
 ending_is_safe CarriageReturnLineFeed = closed.both
 ending_is_safe CarriageReturn = closed.carriage_return
@@ -104,13 +112,18 @@ module _ (default : List ℕ) (ending : IsSafePage default) (m : Meaning) (safe 
       (adds_append default (says (flat_map code_line (line ∷ others))) _ (code_adds (line ∷ others))
       (cond_both (place.top || is_closed) [] (Eol ∷ []) (Adds default) (λ _. adds_nothing default) (λ _. adds_eol default ending)))
 
+  check_adds : (check : Option Bool) → Adds default (check_pieces m.compile check)
+  check_adds None = adds_nothing default
+  check_adds (Some done) = adds_void default (check_tag m.compile done) (check_is_tag m.compile.gfm_task_list_item_checkable done)
+
   mutual
     unfolding start_rows void_rows
 
     block_adds : (place : Place) (before : Option Block) (b : Block) → IsReadable b → Adds default (block_pieces m place before b)
-    block_adds place before (Paragraph is) h =
-        cond_both place.tight (inline_pieces m is) _ (Adds default) (λ _. inline_adds default m safe is h)
-        (λ _. block_element (bare_tag (codes "p")) (inline_pieces m is) (tt, refl) (inline_adds default m safe is h))
+    block_adds place before (Paragraph check is) h =
+        let text = check_pieces m.compile check ++ inline_pieces m is in
+        let p = adds_append default (check_pieces m.compile check) (inline_pieces m is) (check_adds check) (inline_adds default m safe is h) in
+        cond_both place.tight text _ (Adds default) (λ _. p) (λ _. block_element (bare_tag (codes "p")) text (tt, refl) p)
     block_adds place before (Heading rank is) h =
         block_element (bare_tag (heading_name rank)) (inline_pieces m is) (heading_is_tag rank h.0) (inline_adds default m safe is h.1)
     block_adds place before Break h = fresh_line (Void (bare_tag (codes "hr")) ∷ []) (adds_void default (bare_tag (codes "hr")) (tt, refl))

@@ -20,7 +20,7 @@ use Rattle.definition_inline.specs.LabelEnd.{Ended}
 use Rattle.definition_inline.specs.Attention.{Run, run_at}
 use Rattle.definition_inline.specs.Pairing.{Pair, pairs}
 use Rattle.definition_inline.specs.Spans.{Token, Item, Delimiters, runs_of, Span, IsEmphasis, IsStrong, IsStrikethrough, span_of, SpanRow, Holds, Opens, Closes, bytes_taken, run_rows, rows_from, OpenSpan, Nest, nest, spanned, leave, nest_row, emphasized}
-use Rattle.definition_inline.specs.Scan.{InlineContext, leaf_at, LabelStart, LinkStart, ImageStart, label_start_at, start_bytes, start_tokens, label_part, Text, text, OpenLabel, Reading, reading, read_tokens, unformed, formed, Step, Next, data_step, ended_step, ended_by, label_end_step, last_step, label_step, run_step, leaf_step, step, and_then, scan, whole_text, inlines}
+use Rattle.definition_inline.specs.Scan.{InlineContext, leaf_at, LabelStart, LinkStart, ImageStart, label_start_at, start_bytes, start_tokens, label_part, Text, text, OpenLabel, Reading, reading, read_tokens, unformed, formed, Step, Next, data_step, ended_step, ended_by, label_end_step, last_step, label_step, run_step, leaf_step, step, and_then, scan, whole_text, inlines, inlines_from, unindented}
 use Rattle.laws_safe_page.proofs.Each.{Each, each-append, each_map, each_mapped, each_same, WhereSome, where_passed}
 use Rattle.laws_safe_page.proofs.InlineAdds.{EndsLines, AllEndLines}
 
@@ -267,9 +267,12 @@ module _ (context : InlineContext) where
   whole_ends inner [] p h = p
   whole_ends inner (label ∷ others) p h = whole_ends (unformed label inner) others (unformed_ends label inner h.0 p) h.1
 
-  pub inlines_end : (content : List InlineCode) → AllEndLines (inlines context content)
-  inlines_end content =
-      let start = prefix_len (λ (c : InlineCode). is_white c.code) content in
-      let r = scan context 0 (reading (text [] false) []) (drop start content) in
-      let h : ReadingEndsLines r = scan_ends 0 (reading (text [] false) []) (drop start content) (tt, tt) in
+  -- the inline structure of a content from a place on
+  pub from_ends : (content : List InlineCode) → AllEndLines (inlines_from context content)
+  from_ends content =
+      let r = scan context 0 (reading (text [] false) []) content in
+      let h : ReadingEndsLines r = scan_ends 0 (reading (text [] false) []) content (tt, tt) in
       emphasized_ends (whole_text r).tokens (whole_ends r.now r.open_labels h.0 h.1)
+
+  pub inlines_end : (content : List InlineCode) → AllEndLines (inlines context content)
+  inlines_end content = from_ends (unindented content)

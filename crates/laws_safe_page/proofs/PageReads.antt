@@ -1,24 +1,25 @@
 -- Every text is read to a page whose headings have the ranks 1 to 6, and the codes of whose line endings are those.
-use Rattle.std.proofs.Common.{ℕ, Bool, true, false, eqb, ◌&&◌, not, List, Option, None, Some}
+use Rattle.std.proofs.Common.{ℕ, Bool, true, false, eqb, ◌&&◌, not, List, Option, None, Some, drop}
 use Rattle.std.proofs.lemmas.Bool.{cond_both}
 use Rattle.markdown_options.specs.declared.line_ending.LineEnding.{LineEnding}
 use Rattle.markdown_options.specs.declared.configuration.ParseOptions.{ParseOptions}
-use Rattle.definition_text.specs.declared.beside.Kind.TheVariants.{Whitespace}
 use Rattle.definition_text.specs.BlockLines.{BlockLine}
-use Rattle.definition_text.specs.InlineCode.{inline_content}
+use Rattle.definition_text.specs.InlineCode.{InlineCode, codes_of}
 use Rattle.definition_text.specs.Lines.{without_mark, kind_before_text}
+use Rattle.definition_inline.specs.GfmTaskListItem.{check_at, check_size}
+use Rattle.definition_inline.specs.Scan.{unindented}
 use Rattle.definition_block.specs.declared.container.Container.TheVariants.{Quote, Item}
 use Rattle.definition_block.specs.Tree as tree
 use Rattle.definition_block.specs.Tree.{is_ending, join, one, blocks}
 use Rattle.definition_block.specs.Lists.{endings_of, after_endings, item_marker, list_marker, list_items, rest_of, before_list, before, grouped_block, grouped}
 use Rattle.definition_page.specs.Page as page
 use Rattle.definition_page.specs.Page.{cons_ending, cons_blank}
-use Rattle.definition_page.specs.Read.{Reading, read_text, without_ending, after_code, read_block, read_blocks, read}
+use Rattle.definition_page.specs.Read.{Reading, Standing, on_page, in_container, in_item, next_standing, context_of, text_content, read_text, checked_paragraph, read_paragraph, without_ending, after_code, read_block, read_blocks, read}
 use Rattle.definition_page.specs.TextTables.{TextTables}
-use Rattle.laws_safe_page.proofs.BlockAdds.{AreReadable}
+use Rattle.laws_safe_page.proofs.BlockAdds.{IsReadable, AreReadable}
 use Rattle.laws_safe_page.proofs.BlockReads.{IsRanked, AreRanked, ranked_join, blocks_are_ranked}
 use Rattle.laws_safe_page.proofs.InlineAdds.{AllEndLines}
-use Rattle.laws_safe_page.proofs.InlineReads.{inlines_end}
+use Rattle.laws_safe_page.proofs.InlineReads.{from_ends, inlines_end}
 
 -- ---- lists
 
@@ -77,30 +78,38 @@ readable_blank (Some ending) bs p = (tt, p)
 
 module _ (r : Reading) where
   text_ends : (ls : List BlockLine) → AllEndLines (read_text r ls)
-  text_ends ls =
-      inlines_end (record { options = r.options; names = r.tables.names; is_defined = r.is_defined }) (inline_content r.tables.is_punctuation Whitespace ls)
+  text_ends ls = inlines_end (context_of r) (text_content r ls)
+
+  checked_readable : (content : List InlineCode) (found : Option Bool) → IsReadable (checked_paragraph r content found)
+  checked_readable content None = from_ends (context_of r) content
+  checked_readable content (Some done) = from_ends (context_of r) (drop check_size content)
+
+  paragraph_readable : (first : Bool) (ls : List BlockLine) → IsReadable (read_paragraph r first ls)
+  paragraph_readable first ls =
+      let content = unindented (text_content r ls) in checked_readable content (check_at r.options.constructs first (codes_of content))
 
   mutual
-    readable_block : (top : Bool) (b : tree.Block) (others : page.Blocks) → IsRanked b → AreReadable others → AreReadable (read_block r top b others)
-    readable_block top (tree.Paragraph ls) others h p = (text_ends ls, p)
-    readable_block top (tree.Heading rank ls) others h p = ((h, text_ends ls), p)
-    readable_block top tree.Break others h p = (tt, p)
-    readable_block top (tree.IndentedCode ls) others h p = (tt, p)
-    readable_block top (tree.FencedCode info is_closed ls) others h p = (tt, readable_after_code top is_closed others p)
-    readable_block top (tree.Html ls) others h p = (tt, p)
-    readable_block top (tree.Definition label destination title) others h p = (tt, p)
-    readable_block top (tree.Holds Quote kids) others h p = (readable_blocks false kids h, p)
-    readable_block top (tree.Holds (Item item) kids) others h p = (readable_blocks false kids h, p)
-    readable_block top (tree.Items items) others h p = (readable_blocks false items h, p)
-    readable_block top (tree.Ending ending) others h p = readable_ending ending others p
-    readable_block top (tree.Blank ending) others h p = readable_blank ending others p
+    readable_block : (s : Standing) (b : tree.Block) (others : page.Blocks) → IsRanked b → AreReadable others → AreReadable (read_block r s b others)
+    readable_block s (tree.Paragraph ls) others h p = (paragraph_readable s.first ls, p)
+    readable_block s (tree.Heading rank ls) others h p = ((h, text_ends ls), p)
+    readable_block s tree.Break others h p = (tt, p)
+    readable_block s (tree.IndentedCode ls) others h p = (tt, p)
+    readable_block s (tree.FencedCode info is_closed ls) others h p = (tt, readable_after_code s.top is_closed others p)
+    readable_block s (tree.Html ls) others h p = (tt, p)
+    readable_block s (tree.Definition label destination title) others h p = (tt, p)
+    readable_block s (tree.Holds Quote kids) others h p = (readable_blocks in_container kids h, p)
+    readable_block s (tree.Holds (Item item) kids) others h p = (readable_blocks in_item kids h, p)
+    readable_block s (tree.Items items) others h p = (readable_blocks in_container items h, p)
+    readable_block s (tree.Ending ending) others h p = readable_ending ending others p
+    readable_block s (tree.Blank ending) others h p = readable_blank ending others p
 
-    readable_blocks : (top : Bool) (bs : tree.Blocks) → AreRanked bs → AreReadable (read_blocks r top bs)
-    readable_blocks top tree.Nil p = tt
-    readable_blocks top (tree.Cons b bs) p = readable_block top b (read_blocks r top bs) p.0 (readable_blocks top bs p.1)
+    readable_blocks : (s : Standing) (bs : tree.Blocks) → AreRanked bs → AreReadable (read_blocks r s bs)
+    readable_blocks s tree.Nil p = tt
+    readable_blocks s (tree.Cons b bs) p =
+        readable_block s b (read_blocks r (next_standing s b) bs) p.0 (readable_blocks (next_standing s b) bs p.1)
 
 pub page_is_readable : (tables : TextTables) (options : ParseOptions) (text : List ℕ) → AreReadable (read tables options text).blocks
 page_is_readable tables options text =
     let on = options.constructs in
     let bs = blocks on (kind_before_text text) (without_mark text) in
-    readable_blocks _ true (grouped bs) (ranked_grouped bs (blocks_are_ranked on (kind_before_text text) (without_mark text)))
+    readable_blocks _ on_page (grouped bs) (ranked_grouped bs (blocks_are_ranked on (kind_before_text text) (without_mark text)))

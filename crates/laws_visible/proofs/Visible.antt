@@ -23,7 +23,7 @@ use Rattle.definition_block.specs.Frontmatter.{after_frontmatter}
 use Rattle.definition_block.specs.Lists.{before, grouped_block, grouped}
 use Rattle.definition_page.specs.Pieces.{is_fresh}
 use Rattle.html_bytes.specs.Pieces.{Piece, Bytes, Fresh, print, layout}
-use Rattle.definition_page.specs.Read.{ends_blank}
+use Rattle.definition_page.specs.Read.{on_page, ends_blank}
 use Rattle.html_bytes.specs.Html.{silences, block_pieces, children_pieces, last_piece, document_pieces, default_ending, blocks_html, marked_html}
 use Rattle.definition_page.specs.Targets.{document_definitions}
 use Rattle.definition_page.specs.TextTables.{TextTables}
@@ -290,7 +290,7 @@ no_lists (Cons b bs) p = no_item b (grouped bs) p.0 ∙ ap (Cons b) (no_lists bs
 
 -- blocks show what they say, in a document where every construct is off
 module _ (d : Document) (off : d.options.parse.constructs ≡ no_constructs) (default : List ℕ) (nothing_shown : Shows default []) where
-  paragraph_shows : (silent : Bool) (ls : List BlockLine) → AreText ls → PiecesShow default (block_pieces d true false silent (Paragraph ls)) (said_in_lines ls)
+  paragraph_shows : (silent : Bool) (ls : List BlockLine) → AreText ls → PiecesShow default (block_pieces d on_page false silent (Paragraph ls)) (said_in_lines ls)
   paragraph_shows silent ls p =
       let start = codes "<p>" in
       let end = codes "</p>" in
@@ -301,25 +301,25 @@ module _ (d : Document) (off : d.options.parse.constructs ≡ no_constructs) (de
       (pieces_bytes default text said (lines_show d off ls p)) (pieces_bytes default end [] shows_end_of_p) in
       let more = pieces-append default (Bytes start ∷ []) (Bytes text ∷ Bytes end ∷ []) [] (said ++ []) (pieces_bytes default start [] shows_p) last in
       let all = pieces-append default (Fresh ∷ []) (Bytes start ∷ Bytes text ∷ Bytes end ∷ []) [] (said ++ []) (pieces_fresh default nothing_shown) more in
-      subst (PiecesShow default (block_pieces d true false silent (Paragraph ls))) (append-nil said) all
+      subst (PiecesShow default (block_pieces d on_page false silent (Paragraph ls))) (append-nil said) all
 
-  ending_shows : (silent : Bool) (ending : Option LineEnding) → PiecesShow default (block_pieces d true false silent (Ending ending)) []
+  ending_shows : (silent : Bool) (ending : Option LineEnding) → PiecesShow default (block_pieces d on_page false silent (Ending ending)) []
   ending_shows silent ending =
       cond_both silent [] (Bytes (ending_text ending) ∷ []) (λ ps. PiecesShow default ps [])
       (λ _. pieces_none default)
       (λ _. pieces_bytes default (ending_text ending) [] (shows_ending_text ending))
 
-  block_shows : (silent : Bool) (b : Block) → BlockIsText b → PiecesShow default (block_pieces d true false silent b) (said_in_block b)
+  block_shows : (silent : Bool) (b : Block) → BlockIsText b → PiecesShow default (block_pieces d on_page false silent b) (said_in_block b)
   block_shows silent (Paragraph ls) p = paragraph_shows silent ls p
   block_shows silent (Ending ending) p = ending_shows silent ending
   block_shows silent (Blank ending) p = pieces_none default
   block_shows silent b p = absurd p
 
-  blocks_show : (silent : Bool) (bs : Blocks) → BlocksAreText bs → PiecesShow default (children_pieces d true false silent bs) (said_in_blocks bs)
+  blocks_show : (silent : Bool) (bs : Blocks) → BlocksAreText bs → PiecesShow default (children_pieces d on_page false silent bs) (said_in_blocks bs)
   blocks_show silent Nil p = pieces_none default
   blocks_show silent (Cons b bs) p =
       let next = silences true false silent b in
-      pieces-append default (block_pieces d true false silent b) (children_pieces d true false next bs) (said_in_block b) (said_in_blocks bs)
+      pieces-append default (block_pieces d on_page false silent b) (children_pieces d on_page false next bs) (said_in_block b) (said_in_blocks bs)
       (block_shows silent b p.0) (blocks_show next bs p.1)
 
 -- blocks joined
@@ -488,9 +488,9 @@ document_shows : (d : Document) → d.options.parse.constructs ≡ no_constructs
 document_shows d off default bs nothing_shown p =
     let last = last_piece (ends_blank false bs) in
     let shown = blocks_show d off default nothing_shown false bs p in
-    let all = pieces-append default (children_pieces d true false false bs) last (said_in_blocks bs) [] shown (pieces_last default (ends_blank false bs) nothing_shown) in
-    subst (λ cs. Shows (layout default (children_pieces d true false false cs ++ last)) (said_in_blocks bs)) (sym (no_lists bs p))
-    (subst (Shows (layout default (children_pieces d true false false bs ++ last))) (append-nil (said_in_blocks bs)) (all [] [] (λ y. refl)))
+    let all = pieces-append default (children_pieces d on_page false false bs) last (said_in_blocks bs) [] shown (pieces_last default (ends_blank false bs) nothing_shown) in
+    subst (λ cs. Shows (layout default (children_pieces d on_page false false cs ++ last)) (said_in_blocks bs)) (sym (no_lists bs p))
+    (subst (Shows (layout default (children_pieces d on_page false false bs ++ last))) (append-nil (said_in_blocks bs)) (all [] [] (λ y. refl)))
 
 -- what bytes show where nothing follows
 shows_alone : (x t : List ℕ) → Shows x t → visible false x ≡ t

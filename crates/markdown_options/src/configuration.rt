@@ -165,7 +165,6 @@ impl Constructs {
             || self.gfm_footnote_definition
             || self.gfm_label_start_footnote
             || self.gfm_table
-            || self.gfm_task_list_item
     }
 
     /// Whether some of the constructs of MDX are on.

@@ -246,12 +246,13 @@ const OFF: [(&str, &str); 4] = [
     ("---\na\n---\nb", "<hr />\n<h2>a</h2>\n<p>b</p>"),
 ];
 
-/// CommonMark with strikethrough, math and frontmatter.
+/// CommonMark with strikethrough, task list items, math and frontmatter.
 pub(crate) fn extensions() -> Options
     ensures { is_built result.parse.constructs ≡ true }
 {
     let mut options = Options::default();
     options.parse.constructs.gfm_strikethrough = true;
+    options.parse.constructs.gfm_task_list_item = true;
     options.parse.constructs.math_text = true;
     options.parse.constructs.math_flow = true;
     options.parse.constructs.frontmatter = true;

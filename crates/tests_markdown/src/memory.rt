@@ -3,6 +3,7 @@ ghost use Rattle.std.specs.Prelude.{◌≡◌, true};
 ghost use Rattle.markdown_options.specs.Built.{is_built};
 
 use crate::extensions::{FRONTMATTER, MATH_FLOW, MATH_TEXT, STRIKETHROUGH, extensions};
+use crate::gfm_task_list_item::TASKS;
 use crate::inline::{BESIDE, INLINE, MARKED, REFERENCES};
 use crate::rows::{LEAVES, PLAIN, leaves};
 use linked_list_allocator::LocalHeap;
@@ -153,6 +154,7 @@ fn prints_extensions_in_heaps_of_every_size(rt: HostRuntime) -> Result<(), RunEr
         first_wrong_in_heaps(rt.alloc(), &FRONTMATTER, &options)?,
         None
     );
+    assert_eq!(rt; first_wrong_in_heaps(rt.alloc(), &TASKS, &options)?, None);
     Ok(())
 }
 
@@ -165,6 +167,7 @@ fn prints_every_two_texts(rt: HostRuntime) -> Result<(), RunError> {
     assert_eq!(rt; first_unjoined(rt.alloc(), &BESIDE, &options)?, None);
     assert_eq!(rt; first_unjoined(rt.alloc(), &STRIKETHROUGH, &options)?, None);
     assert_eq!(rt; first_unjoined(rt.alloc(), &MATH_FLOW, &options)?, None);
+    assert_eq!(rt; first_unjoined(rt.alloc(), &TASKS, &options)?, None);
     Ok(())
 }
 

@@ -8,9 +8,10 @@ use Rattle.definition_block.specs.Tree.{Paragraph, Heading, IndentedCode, Fenced
 use Rattle.html_bytes.specs.Document.{document}
 use Rattle.block_rows.specs.ParagraphLines.{HaveNoEnding, AreLines}
 use Rattle.definition_page.specs.TextTables.{text_tables}
+use Rattle.definition_page.specs.Read.{on_page}
 use Rattle.html_bytes.specs.Html.{block_pieces}
 use Rattle.block_rows.specs.Rows.{whole_lines, row_value, row_size, first_codes, piece_line, piece_lines}
-use Rattle.html_page.specs.Levels.{row_pieces, is_document}
+use Rattle.html_page.specs.Levels.{row_pieces, standing_of, standing_at, standing_first}
 use Rattle.html_page.specs.Prints.{layout_after}
 use Rattle.html_page.specs.Printable.{AreHeadingLines, IsPrintableRow}
 use Rattle.html_page.proofs.Lines.{first_codes_of, first_line, with_ending}
@@ -30,7 +31,7 @@ returns-in-Paragraph-clause-printed g c = λ ds has.
     with_ending _ (subst (λ (ls : List BlockLine). AreLines (own_lines ls)) (take-map piece_line c.in-Paragraph.count lines)
     (subst (λ (row : Row). IsPrintableRow (row_value row (piece_lines lines))) c.in-Paragraph.is c.requires.printable)) in
     subst (λ (row : Row). OnOk c.paragraph.result (after ≡ layout_after page.default_ending before (row_pieces d c.args.level (row_value row (piece_lines lines))))) (sym c.in-Paragraph.is)
-    (subst (λ (ls : List BlockLine). OnOk c.paragraph.result (after ≡ layout_after page.default_ending before (block_pieces d true c.args.level.tight false (Paragraph (own_lines ls)))))
+    (subst (λ (ls : List BlockLine). OnOk c.paragraph.result (after ≡ layout_after page.default_ending before (block_pieces d (standing_first c.args.level.first) c.args.level.tight false (Paragraph (own_lines ls)))))
     (sym (take-map piece_line c.in-Paragraph.count lines)) (c.paragraph.ensures.printed ds has clean))
 
 pub returns-in-WholeParagraph-clause-printed : goal.returns-in-WholeParagraph-clause-printed
@@ -45,7 +46,7 @@ returns-in-WholeParagraph-clause-printed g c = λ ds has.
     let some : 1 ≤ length lines = subst (λ (row : Row). row_size row ≤ length lines) c.in-WholeParagraph.is c.requires.enough in
     let bytes : (k : ℕ) → get_or piece.text.now k 0 < 256 = c.whole_paragraph.ensures.bytes in
     subst (λ (row : Row). OnOk c.whole_paragraph.result (after ≡ layout_after page.default_ending before (row_pieces d c.args.level (row_value row (piece_lines lines))))) (sym c.in-WholeParagraph.is)
-    (subst (λ (text : List ℕ). OnOk c.whole_paragraph.result (after ≡ layout_after page.default_ending before (block_pieces d true c.args.level.tight false (Paragraph (own_lines (whole_lines count text))))))
+    (subst (λ (text : List ℕ). OnOk c.whole_paragraph.result (after ≡ layout_after page.default_ending before (block_pieces d (standing_first c.args.level.first) c.args.level.tight false (Paragraph (own_lines (whole_lines count text))))))
     (sym (ap bytes_of (first_codes_of lines no_piece some) ∙ bytes_owed piece.owed piece.text.now bytes)) (c.whole_paragraph.ensures.printed ds has))
 
 pub returns-in-Heading-clause-printed : goal.returns-in-Heading-clause-printed
@@ -61,7 +62,7 @@ returns-in-Heading-clause-printed g c = λ ds has.
     let front = first_line lines no_piece some in
     let clean = subst (λ (ls : List BlockLine). AreHeadingLines (own_lines ls)) front fits.1 in
     subst (λ (row : Row). OnOk c.heading_atx.result (after ≡ layout_after page.default_ending before (row_pieces d c.args.level (row_value row (piece_lines lines))))) (sym c.in-Heading.is)
-    (subst (λ (ls : List BlockLine). OnOk c.heading_atx.result (after ≡ layout_after page.default_ending before (block_pieces d true false false (Heading c.in-Heading.rank (own_lines ls)))))
+    (subst (λ (ls : List BlockLine). OnOk c.heading_atx.result (after ≡ layout_after page.default_ending before (block_pieces d on_page false false (Heading c.in-Heading.rank (own_lines ls)))))
     (sym front) (c.heading_atx.ensures.printed ds has clean))
 
 pub returns-in-SetextHeading-clause-printed : goal.returns-in-SetextHeading-clause-printed
@@ -76,7 +77,7 @@ returns-in-SetextHeading-clause-printed g c = λ ds has.
     let front = take-map piece_line c.in-SetextHeading.count lines in
     let clean = subst (λ (ls : List BlockLine). AreHeadingLines (own_lines ls)) front fits.1 in
     subst (λ (row : Row). OnOk c.heading_setext.result (after ≡ layout_after page.default_ending before (row_pieces d c.args.level (row_value row (piece_lines lines))))) (sym c.in-SetextHeading.is)
-    (subst (λ (ls : List BlockLine). OnOk c.heading_setext.result (after ≡ layout_after page.default_ending before (block_pieces d true false false (Heading c.in-SetextHeading.rank (own_lines ls)))))
+    (subst (λ (ls : List BlockLine). OnOk c.heading_setext.result (after ≡ layout_after page.default_ending before (block_pieces d on_page false false (Heading c.in-SetextHeading.rank (own_lines ls)))))
     (sym front) (c.heading_setext.ensures.printed ds has clean))
 
 pub returns-in-Break-clause-printed : goal.returns-in-Break-clause-printed
@@ -97,7 +98,7 @@ returns-in-Html-clause-printed g c = λ ds has.
     let after = string_bytes c.html_block.new.self.html in
     let lines = c.args.lines.now in
     subst (λ (row : Row). OnOk c.html_block.result (after ≡ layout_after page.default_ending before (row_pieces d c.args.level (row_value row (piece_lines lines))))) (sym c.in-Html.is)
-    (subst (λ (ls : List BlockLine). OnOk c.html_block.result (after ≡ layout_after page.default_ending before (block_pieces d true false false (Html (own_lines ls)))))
+    (subst (λ (ls : List BlockLine). OnOk c.html_block.result (after ≡ layout_after page.default_ending before (block_pieces d on_page false false (Html (own_lines ls)))))
     (sym (take-map piece_line c.in-Html.count lines)) c.html_block.ensures.printed)
 
 pub returns-in-IndentedCode-clause-printed : goal.returns-in-IndentedCode-clause-printed
@@ -108,7 +109,7 @@ returns-in-IndentedCode-clause-printed g c = λ ds has.
     let after = string_bytes c.indented_code.new.self.html in
     let lines = c.args.lines.now in
     subst (λ (row : Row). OnOk c.indented_code.result (after ≡ layout_after page.default_ending before (row_pieces d c.args.level (row_value row (piece_lines lines))))) (sym c.in-IndentedCode.is)
-    (subst (λ (ls : List BlockLine). OnOk c.indented_code.result (after ≡ layout_after page.default_ending before (block_pieces d true false false (IndentedCode (own_lines ls)))))
+    (subst (λ (ls : List BlockLine). OnOk c.indented_code.result (after ≡ layout_after page.default_ending before (block_pieces d on_page false false (IndentedCode (own_lines ls)))))
     (sym (take-map piece_line c.in-IndentedCode.count lines)) (c.indented_code.ensures.printed d))
 
 pub returns-in-FencedCode-clause-printed : goal.returns-in-FencedCode-clause-printed
@@ -126,8 +127,8 @@ returns-in-FencedCode-clause-printed g c = λ ds has.
     let bytes = fits.0 in
     let clear : HaveNoEnding (get_or lines 0 no_piece).text.now = subst HaveNoEnding (info_is lines (omega (arith, enough)) bytes) fits.1 in
     subst (λ (row : Row). OnOk c.fenced_code.result (after ≡ layout_after page.default_ending before (row_pieces d c.args.level (row_value row (piece_lines lines))))) (sym c.in-FencedCode.is)
-    (subst (λ x. OnOk c.fenced_code.result (after ≡ x)) (ap (λ (top : Bool). layout_after page.default_ending before (block_pieces d top false false (FencedCode (get_or lines 0 no_piece).text.now true (piece_lines (take count (take (length lines - 1) (drop 1 lines))))))) c.is_document-top.ensures
-    ∙ fenced_laid d page.default_ending before (is_document l.holder) l.tight l.silent true count lines enough bytes) (c.fenced_code.ensures.printed ds clear))
+    (subst (λ x. OnOk c.fenced_code.result (after ≡ x)) (ap (λ (top : Bool). layout_after page.default_ending before (block_pieces d (standing_at top) false false (FencedCode (get_or lines 0 no_piece).text.now true (piece_lines (take count (take (length lines - 1) (drop 1 lines))))))) c.is_document-top.ensures
+    ∙ fenced_laid d page.default_ending before (standing_of l) l.tight l.silent true count lines enough bytes) (c.fenced_code.ensures.printed ds clear))
 
 pub returns-in-UnclosedCode-clause-printed : goal.returns-in-UnclosedCode-clause-printed
 returns-in-UnclosedCode-clause-printed g c = λ ds has.
@@ -144,5 +145,5 @@ returns-in-UnclosedCode-clause-printed g c = λ ds has.
     let bytes = fits.0 in
     let clear : HaveNoEnding (get_or lines 0 no_piece).text.now = subst HaveNoEnding (info_is lines (omega (arith, enough)) bytes) fits.1 in
     subst (λ (row : Row). OnOk c.fenced_code-in-UnclosedCode.result (after ≡ layout_after page.default_ending before (row_pieces d c.args.level (row_value row (piece_lines lines))))) (sym c.in-UnclosedCode.is)
-    (subst (λ x. OnOk c.fenced_code-in-UnclosedCode.result (after ≡ x)) (ap (λ (top : Bool). layout_after page.default_ending before (block_pieces d top false false (FencedCode (get_or lines 0 no_piece).text.now false (piece_lines (take count (take (length lines - 1) (drop 1 lines))))))) c.is_document-top.ensures
-    ∙ fenced_laid d page.default_ending before (is_document l.holder) l.tight l.silent false count lines enough bytes) (c.fenced_code-in-UnclosedCode.ensures.printed ds clear))
+    (subst (λ x. OnOk c.fenced_code-in-UnclosedCode.result (after ≡ x)) (ap (λ (top : Bool). layout_after page.default_ending before (block_pieces d (standing_at top) false false (FencedCode (get_or lines 0 no_piece).text.now false (piece_lines (take count (take (length lines - 1) (drop 1 lines))))))) c.is_document-top.ensures
+    ∙ fenced_laid d page.default_ending before (standing_of l) l.tight l.silent false count lines enough bytes) (c.fenced_code-in-UnclosedCode.ensures.printed ds clear))

@@ -1,13 +1,13 @@
 use Rattle.std.proofs.Common.{ap, ◌∙◌}
 use Rattle.html_bytes.specs.Document.{context_of, document}
-use Rattle.definition_inline.specs.Scan.{inlines}
+use Rattle.definition_inline.specs.Scan.{inlines_from}
 use Rattle.definition_page.specs.Targets.{linked_at, linked_by}
-use Rattle.inline_content.specs.View.{content_view}
+use Rattle.inline_content.specs.View.{view_at}
 use Rattle.html_inline.specs.Opens.{place_linked}
 use Rattle.inline_rows.specs.View.{rows_view}
 use Rattle.definition_page.specs.TextTables.{text_tables}
 use Rattle.html_contents.proofs.Places.{same_place, same_rows}
-use Rattle.html_contents.proofs.texts.Texts.push_content.Goals as goal
+use Rattle.html_contents.proofs.texts.Texts.push_from.Goals as goal
 
 -- src/texts.rt:92:5
 pub returns : goal.returns
@@ -15,7 +15,7 @@ returns g c ds known =
     let texts = c.args.self.now in
     let is_punctuation = g.T.Tables.punctuation_of texts.tables.now in
     let d = document texts.options.now (text_tables (g.T.Tables.reference_of texts.tables.now) is_punctuation) ds in
-    c.push_rows.ensures (linked_by ds) (inlines (context_of d) (content_view is_punctuation c.args.content))
+    c.push_rows.ensures (linked_by ds) (inlines_from (context_of d) (view_at is_punctuation c.args.content c.args.start.now))
     (ap (rows_view (place_linked texts.links.now)) c.as_slice.ensures.value
     ∙ same_rows (place_linked texts.links.now) (linked_at ds) (same_place texts.links.now ds known.leads) c.in_ok-rows.rows.items
     ∙ c.in_ok-rows.ensures ds known.has_labels)

@@ -1,0 +1,68 @@
+-- Where task list items are off, no paragraph has a check.
+use Rattle.std.proofs.Common.{◌≡◌, ℕ, Bool, true, false, cond, ◌&&◌, not, List, Option, None, Some, refl, sym, ap, subst, ◌∙◌}
+use Rattle.std.proofs.lemmas.Bool.{cond_both}
+use Rattle.markdown_options.specs.declared.line_ending.LineEnding.{LineEnding}
+use Rattle.definition_text.specs.BlockLines.{BlockLine}
+use Rattle.definition_text.specs.InlineCode.{InlineCode, codes_of}
+use Rattle.definition_text.specs.Lines.{without_mark, kind_before_text}
+use Rattle.definition_inline.specs.GfmTaskListItem.{check_of, check_at}
+use Rattle.definition_inline.specs.Scan.{unindented}
+use Rattle.definition_block.specs.declared.container.Container.TheVariants.{Quote, Item}
+use Rattle.definition_block.specs.Tree as tree
+use Rattle.definition_block.specs.Tree.{blocks}
+use Rattle.definition_block.specs.Lists.{grouped}
+use Rattle.definition_page.specs.Page as page
+use Rattle.definition_page.specs.Page.{cons_ending, cons_blank}
+use Rattle.definition_page.specs.Read.{Reading, Standing, on_page, in_container, in_item, next_standing, text_content, checked_paragraph, read_paragraph, without_ending, after_code, read_block, read_blocks, read}
+use Rattle.laws_options.specs.GfmTaskListItem.{IsUnchecked, HasNoCheck, HaveNoChecks, TaskListItemOffLaw}
+
+unchecked_rest : (bs : page.Blocks) → HaveNoChecks bs → HaveNoChecks (without_ending bs)
+unchecked_rest (page.Cons (page.Ending ending) bs) p = p.1
+unchecked_rest bs p = p
+
+unchecked_after_code : (top is_closed : Bool) (bs : page.Blocks) → HaveNoChecks bs → HaveNoChecks (after_code top is_closed bs)
+unchecked_after_code top is_closed bs p = cond_both (top && not is_closed) _ _ HaveNoChecks (λ _. unchecked_rest bs p) (λ _. p)
+
+unchecked_ending : (ending : Option LineEnding) (bs : page.Blocks) → HaveNoChecks bs → HaveNoChecks (cons_ending ending bs)
+unchecked_ending None bs p = p
+unchecked_ending (Some ending) bs p = (tt, p)
+
+unchecked_blank : (ending : Option LineEnding) (bs : page.Blocks) → HaveNoChecks bs → HaveNoChecks (cons_blank ending bs)
+unchecked_blank None bs p = p
+unchecked_blank (Some ending) bs p = (tt, p)
+
+no_check_by : (first : Bool) (found : Option Bool) → cond (first && false) found None ≡ None
+no_check_by true found = refl
+no_check_by false found = refl
+
+module _ (r : Reading) (off : r.options.constructs.gfm_task_list_item ≡ false) where
+  no_check : (first : Bool) (codes : List ℕ) → check_at r.options.constructs first codes ≡ None
+  no_check first codes = ap (λ on. cond (first && on) (check_of codes) None) off ∙ no_check_by first (check_of codes)
+
+  unchecked_paragraph : (first : Bool) (ls : List BlockLine) → HasNoCheck (read_paragraph r first ls)
+  unchecked_paragraph first ls =
+      let content = unindented (text_content r ls) in
+      subst (λ found. HasNoCheck (checked_paragraph r content found)) (sym (no_check first (codes_of content))) tt
+
+  mutual
+    unchecked_block : (s : Standing) (b : tree.Block) (others : page.Blocks) → HaveNoChecks others → HaveNoChecks (read_block r s b others)
+    unchecked_block s (tree.Paragraph ls) others p = (unchecked_paragraph s.first ls, p)
+    unchecked_block s (tree.Heading rank ls) others p = (tt, p)
+    unchecked_block s tree.Break others p = (tt, p)
+    unchecked_block s (tree.IndentedCode ls) others p = (tt, p)
+    unchecked_block s (tree.FencedCode info is_closed ls) others p = (tt, unchecked_after_code s.top is_closed others p)
+    unchecked_block s (tree.Html ls) others p = (tt, p)
+    unchecked_block s (tree.Definition label destination title) others p = (tt, p)
+    unchecked_block s (tree.Holds Quote kids) others p = (unchecked_blocks in_container kids, p)
+    unchecked_block s (tree.Holds (Item item) kids) others p = (unchecked_blocks in_item kids, p)
+    unchecked_block s (tree.Items items) others p = (unchecked_blocks in_container items, p)
+    unchecked_block s (tree.Ending ending) others p = unchecked_ending ending others p
+    unchecked_block s (tree.Blank ending) others p = unchecked_blank ending others p
+
+    unchecked_blocks : (s : Standing) (bs : tree.Blocks) → HaveNoChecks (read_blocks r s bs)
+    unchecked_blocks s tree.Nil = tt
+    unchecked_blocks s (tree.Cons b bs) = unchecked_block s b (read_blocks r (next_standing s b) bs) (unchecked_blocks (next_standing s b) bs)
+
+pub task_list_item_off_law : TaskListItemOffLaw
+task_list_item_off_law tables text options off =
+    unchecked_blocks _ off on_page (grouped (blocks options.constructs (kind_before_text text) (without_mark text)))

@@ -1,0 +1,28 @@
+-- Pages without checks.
+use Rattle.std.specs.Prelude.{◌≡◌, ℕ, Bool, false, List, Option, None, Some}
+use Rattle.markdown_options.specs.declared.configuration.ParseOptions.{ParseOptions}
+use Rattle.definition_page.specs.TextTables.{TextTables}
+use Rattle.definition_page.specs.Page.{Block, Paragraph, Quote, ItemList, Item, Blocks, Nil, Cons}
+use Rattle.definition_page.specs.Read.{read}
+
+abbrev pub IsUnchecked : Option Bool → Type 0
+IsUnchecked None = Unit {0}
+IsUnchecked (Some done) = ⊥
+
+-- no paragraph has a check, at any depth
+abbrev mutual
+  pub HasNoCheck : Block → Type 0
+  HasNoCheck (Paragraph check is) = IsUnchecked check
+  HasNoCheck (Quote kids) = HaveNoChecks kids
+  HasNoCheck (ItemList number loose items) = HaveNoChecks items
+  HasNoCheck (Item kids) = HaveNoChecks kids
+  HasNoCheck b = Unit {0}
+
+  pub HaveNoChecks : Blocks → Type 0
+  HaveNoChecks Nil = Unit {0}
+  HaveNoChecks (Cons b bs) = HasNoCheck b × HaveNoChecks bs
+
+-- where task list items are off, no paragraph of a page has a check (GFM 5.3)
+abbrev pub TaskListItemOffLaw : Type 0
+TaskListItemOffLaw =
+    (tables : TextTables) (text : List ℕ) (options : ParseOptions) → options.constructs.gfm_task_list_item ≡ false → HaveNoChecks (read tables options text).blocks

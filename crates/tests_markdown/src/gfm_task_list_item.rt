@@ -1,0 +1,128 @@
+//! Task list items (GFM 5.3): texts and their HTML.
+ghost use Rattle.std.specs.Prelude.{◌≡◌, true};
+ghost use Rattle.markdown_options.specs.Built.{is_built};
+
+use crate::extensions::extensions;
+use markdown::{Options, RunError};
+use tests_helpers::first_wrong;
+
+/// Task list items (GFM 5.3).
+pub(crate) const TASKS: [(&str, &str); 42] = [
+    ("- [ ] a", "<ul>\n<li><input type=\"checkbox\" disabled=\"\" /> a</li>\n</ul>"),
+    ("- [x] a", "<ul>\n<li><input type=\"checkbox\" disabled=\"\" checked=\"\" /> a</li>\n</ul>"),
+    ("* [X] a", "<ul>\n<li><input type=\"checkbox\" disabled=\"\" checked=\"\" /> a</li>\n</ul>"),
+    (
+        "- [ ] foo\n- [x] bar",
+        "<ul>\n<li><input type=\"checkbox\" disabled=\"\" /> foo</li>\n<li><input type=\"checkbox\" disabled=\"\" checked=\"\" /> bar</li>\n</ul>",
+    ),
+    (
+        "- [x] foo\n  - [ ] bar\n  - [x] baz\n- [ ] bim",
+        "<ul>\n<li><input type=\"checkbox\" disabled=\"\" checked=\"\" /> foo\n<ul>\n<li><input type=\"checkbox\" disabled=\"\" /> bar</li>\n<li><input type=\"checkbox\" disabled=\"\" checked=\"\" /> baz</li>\n</ul>\n</li>\n<li><input type=\"checkbox\" disabled=\"\" /> bim</li>\n</ul>",
+    ),
+    (
+        "1. [x] a\n2. [ ] b",
+        "<ol>\n<li><input type=\"checkbox\" disabled=\"\" checked=\"\" /> a</li>\n<li><input type=\"checkbox\" disabled=\"\" /> b</li>\n</ol>",
+    ),
+    ("-\n   [ ] a", "<ul>\n<li><input type=\"checkbox\" disabled=\"\" /> a</li>\n</ul>"),
+    ("- [ ]  ", "<ul>\n<li>[ ]</li>\n</ul>"),
+    ("- [ ]", "<ul>\n<li>[ ]</li>\n</ul>"),
+    ("- [ ]\n  a", "<ul>\n<li><input type=\"checkbox\" disabled=\"\" />\na</li>\n</ul>"),
+    ("- [x]a", "<ul>\n<li>[x]a</li>\n</ul>"),
+    ("- [y] a", "<ul>\n<li>[y] a</li>\n</ul>"),
+    ("- [xx] a", "<ul>\n<li>[xx] a</li>\n</ul>"),
+    ("- [] a", "<ul>\n<li>[] a</li>\n</ul>"),
+    ("- a [x] b", "<ul>\n<li>a [x] b</li>\n</ul>"),
+    (
+        "- [x] a\n\n- [ ] b",
+        "<ul>\n<li>\n<p><input type=\"checkbox\" disabled=\"\" checked=\"\" /> a</p>\n</li>\n<li>\n<p><input type=\"checkbox\" disabled=\"\" /> b</p>\n</li>\n</ul>",
+    ),
+    ("- [\t] a", "<ul>\n<li><input type=\"checkbox\" disabled=\"\" /> a</li>\n</ul>"),
+    ("- [\n  ] a", "<ul>\n<li><input type=\"checkbox\" disabled=\"\" /> a</li>\n</ul>"),
+    ("- [x]\ta", "<ul>\n<li><input type=\"checkbox\" disabled=\"\" checked=\"\" />\ta</li>\n</ul>"),
+    ("- [a]: b\n  [ ] c", "<ul>\n<li>[ ] c</li>\n</ul>"),
+    ("- > [ ] a", "<ul>\n<li>\n<blockquote>\n<p>[ ] a</p>\n</blockquote>\n</li>\n</ul>"),
+    ("- [x] a\n  ===", "<ul>\n<li>\n<h1>[x] a</h1>\n</li>\n</ul>"),
+    ("- # [x] a", "<ul>\n<li>\n<h1>[x] a</h1>\n</li>\n</ul>"),
+    ("[x] a", "<p>[x] a</p>"),
+    ("> [x] a", "<blockquote>\n<p>[x] a</p>\n</blockquote>"),
+    (
+        "> - [x] *a*",
+        "<blockquote>\n<ul>\n<li><input type=\"checkbox\" disabled=\"\" checked=\"\" /> <em>a</em></li>\n</ul>\n</blockquote>",
+    ),
+    ("- a\n\n  [x] b", "<ul>\n<li>\n<p>a</p>\n<p>[x] b</p>\n</li>\n</ul>"),
+    (
+        "- [x] a\n\n  [x] b",
+        "<ul>\n<li>\n<p><input type=\"checkbox\" disabled=\"\" checked=\"\" /> a</p>\n<p>[x] b</p>\n</li>\n</ul>",
+    ),
+    ("- \\[x] a", "<ul>\n<li>[x] a</li>\n</ul>"),
+    (
+        "- [x] [x] a",
+        "<ul>\n<li><input type=\"checkbox\" disabled=\"\" checked=\"\" /> [x] a</li>\n</ul>",
+    ),
+    (
+        "- [x] [a](b)",
+        "<ul>\n<li><input type=\"checkbox\" disabled=\"\" checked=\"\" /> <a href=\"b\">a</a></li>\n</ul>",
+    ),
+    ("- [x](c) a", "<ul>\n<li><a href=\"c\">x</a> a</li>\n</ul>"),
+    ("- [x]: c", "<ul>\n<li></li>\n</ul>"),
+    (
+        "- [x] a\n[x] b",
+        "<ul>\n<li><input type=\"checkbox\" disabled=\"\" checked=\"\" /> a\n[x] b</li>\n</ul>",
+    ),
+    ("-   [x] a", "<ul>\n<li><input type=\"checkbox\" disabled=\"\" checked=\"\" /> a</li>\n</ul>"),
+    (
+        "- `a`\n- [ ] ~~b~~",
+        "<ul>\n<li><code>a</code></li>\n<li><input type=\"checkbox\" disabled=\"\" /> <del>b</del></li>\n</ul>",
+    ),
+    (
+        "- [ ] $a$",
+        "<ul>\n<li><input type=\"checkbox\" disabled=\"\" /> <code class=\"language-math math-inline\">a</code></li>\n</ul>",
+    ),
+    (
+        "- [x]\n- [ ] a",
+        "<ul>\n<li>[x]</li>\n<li><input type=\"checkbox\" disabled=\"\" /> a</li>\n</ul>",
+    ),
+    (
+        "- [x] \n  a",
+        "<ul>\n<li><input type=\"checkbox\" disabled=\"\" checked=\"\" />\na</li>\n</ul>",
+    ),
+    (
+        "- [x]  \n  a",
+        "<ul>\n<li><input type=\"checkbox\" disabled=\"\" checked=\"\" /><br />\na</li>\n</ul>",
+    ),
+    ("- *[x] a*", "<ul>\n<li><em>[x] a</em></li>\n</ul>"),
+    (
+        "+ [x] a\n\n[x]: b",
+        "<ul>\n<li><input type=\"checkbox\" disabled=\"\" checked=\"\" /> a</li>\n</ul>\n",
+    ),
+];
+
+/// Task list items whose boxes can be changed.
+const CHECKABLE: [(&str, &str); 2] = [
+    ("- [ ] a", "<ul>\n<li><input type=\"checkbox\" /> a</li>\n</ul>"),
+    (
+        "- [x] a\n\n  b",
+        "<ul>\n<li>\n<p><input type=\"checkbox\" checked=\"\" /> a</p>\n<p>b</p>\n</li>\n</ul>",
+    ),
+];
+
+/// What these texts are while task list items are off.
+const OFF: [(&str, &str); 2] = [
+    ("- [ ] a", "<ul>\n<li>[ ] a</li>\n</ul>"),
+    ("- [x] a\n\n[x]: b", "<ul>\n<li><a href=\"b\">x</a> a</li>\n</ul>\n"),
+];
+
+#[test]
+fn prints_checks(rt: HostRuntime) -> Result<(), RunError> {
+    let mut options = extensions();
+    assert_eq!(rt; first_wrong(rt.alloc(), &TASKS, &options)?, None);
+    options.compile.gfm_task_list_item_checkable = true;
+    assert_eq!(rt; first_wrong(rt.alloc(), &CHECKABLE, &options)?, None);
+    Ok(())
+}
+
+#[test]
+fn prints_no_checks_that_are_off(rt: HostRuntime) -> Result<(), RunError> {
+    assert_eq!(rt; first_wrong(rt.alloc(), &OFF, &Options::default())?, None);
+    Ok(())
+}
