@@ -5,6 +5,7 @@
 mod devices;
 #[cfg(test)]
 mod extensions;
+#[cfg(test)]
 mod gfm_task_list_item;
 #[cfg(test)]
 mod inline;
