@@ -1,3 +1,4 @@
 pub mod Codes
 pub mod Texts
 pub mod View
+pub mod Bare

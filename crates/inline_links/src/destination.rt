@@ -7,10 +7,12 @@
 //!
 //! A bare destination doesn't begin with `<`, and has no space, no line ending and no control
 //! character but NUL.
-ghost use Rattle.std.specs.Prelude.{◌≡◌, IfSome, ◌<◌, ◌+◌, ◌^◌, false};
+ghost use Rattle.std.specs.Prelude.{◌≡◌, IfSome, ◌<◌, ◌≤◌, ◌+◌, ◌^◌, ◌&&◌, ◌==◌, drop, false, length};
+ghost use Rattle.std.specs.List.{prefix_len};
 ghost use Rattle.definition_text.specs.Content.{content_codes, closed_by, up_to};
 ghost use Rattle.definition_inline.specs.Destination.{ends_angle, angle_end, is_control, open_after, is_too_deep, ends_bare, bare_end, if_any, destination_at};
 ghost use Rattle.inline_links.specs.Codes.{IsShorterRest};
+ghost use Rattle.inline_links.specs.Bare.{is_plain};
 ghost use Rattle.inline_links.specs.View.{found_part};
 
 use crate::code::{is_eol, is_space, may_escape, next_code};
@@ -19,6 +21,8 @@ use crate::part::{Part, closed_by, from, up_to};
 const PARENTHESIS: u16 = b'(' as u16;
 
 const CLOSING_PARENTHESIS: u16 = b')' as u16;
+
+const BACKSLASH: u16 = b'\\' as u16;
 
 const LESS: u16 = b'<' as u16;
 
@@ -71,7 +75,7 @@ fn bare(content: &[u8], depth: Option<usize>) -> Option<Part<'_>>
 {
     let mut escaped = false;
     let mut opened = 0;
-    let mut end = 0;
+    let mut end = after_plain(content, 0);
     while let Some(read) = next_code(content, end) {
         if ends_bare(escaped, opened, read.code) {
             break;
@@ -80,14 +84,51 @@ fn bare(content: &[u8], depth: Option<usize>) -> Option<Part<'_>>
         if is_too_deep(depth, opened) {
             return None;
         }
-        escaped = may_escape(escaped, read.code);
-        end = read.next;
+        end = after_plain(content, read.next);
+        escaped = stays(may_escape(escaped, read.code), end - read.next);
     }
     if opened == 0 && end > 0 {
         Some(up_to(content, end))
     } else {
         None
     }
+}
+
+/// The place after the bytes that neither end a bare destination, nor open or close parentheses,
+/// nor escape what comes next.
+fn after_plain(content: &[u8], at: usize) -> usize
+    requires { at ≤ length content.now }
+    ensures end { result ≡ at + prefix_len is_plain (drop at content.now) }
+    ensures within { result ≤ length content.now }
+{
+    at + plain_size(from(content, at))
+}
+
+/// How many such bytes come first.
+fn plain_size(bytes: &[u8]) -> usize
+    ensures size { result ≡ prefix_len is_plain bytes.now }
+    ensures within { result ≤ length bytes.now }
+{
+    bytes.iter().take_while(|b| is_plain(**b)).count()
+}
+
+/// Whether the next byte is escaped after a run of so many of them.
+fn stays(escaped: bool, run: usize) -> bool
+    ensures { result ≡ (escaped && (run == 0)) }
+{
+    escaped && run == 0
+}
+
+/// A byte that is none of those.
+fn is_plain(byte: u8) -> bool
+    ensures { result ≡ is_plain byte }
+{
+    let code = u16::from(byte);
+    !(is_space(code)
+        || is_control(code)
+        || code == PARENTHESIS
+        || code == CLOSING_PARENTHESIS
+        || code == BACKSLASH)
 }
 
 /// A space, a control character, or a `)` that closes nothing.

@@ -1,6 +1,6 @@
 use Rattle.std.proofs.Common.{◌≡◌, ◌≤◌, ◌-◌, length, drop, false}
 use Rattle.definition_text.specs.Content.{content_codes}
-use Rattle.definition_inline.specs.Destination.{bare_end}
+use Rattle.definition_inline.specs.Destination.{bare_end, is_too_deep}
 use Rattle.inline_links.specs.Codes.{IsCut}
 use Rattle.inline_links.proofs.destination.bare.Given as goal
 
@@ -8,6 +8,7 @@ abbrev pub invariant-loop-read : goal.invariant-loop-read
 invariant-loop-read l = record {
   within : l.end ≤ length l.content;
   few : l.opened ≤ l.end;
+  shallow : is_too_deep l.depth l.opened ≡ false;
   cut : IsCut l.content l.end;
   same : bare_end l.depth l.escaped l.opened (content_codes (drop l.end l.content)) ≡ bare_end l.depth false 0 (content_codes l.content);
 }
