@@ -42,7 +42,7 @@ end_none : (is : Bool) (l : Leaf) → cond is (Some l) None ≡ None → is ≡ 
 end_none true l h = absurd (true≢false (ap is_some h))
 end_none false l h = refl
 
-no_ending : (context : InlineContext) (c : ℕ) (cs : List ℕ) → leaf_at context (c ∷ cs) ≡ None → is_eol c ≡ false
+pub no_ending : (context : InlineContext) (c : ℕ) (cs : List ℕ) → leaf_at context (c ∷ cs) ≡ None → is_eol c ≡ false
 no_ending context c cs h =
     let on = context.options.constructs in
     let all = c ∷ cs in

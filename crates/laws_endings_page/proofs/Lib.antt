@@ -1,0 +1,7 @@
+mod Each
+mod Characters
+mod Neighbours
+mod Fits
+mod InlineReads
+mod BlockReads
+pub mod Law
