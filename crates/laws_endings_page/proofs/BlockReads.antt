@@ -158,7 +158,7 @@ rest_line_fits rest beside p f =
 
 -- ---- lines of a block
 
-own_fit : (ls : List BlockLine) → LinesFit ls → LinesFit (own_lines ls)
+pub own_fit : (ls : List BlockLine) → LinesFit ls → LinesFit (own_lines ls)
 own_fit [] p = tt
 own_fit (line ∷ []) p = ((p.0.0, (tt, tt)), tt)
 own_fit (line ∷ next ∷ others) p = (p.0, own_fit (next ∷ others) p.1)

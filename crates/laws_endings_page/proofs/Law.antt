@@ -5,3 +5,9 @@ use Rattle.laws_endings_page.proofs.Neighbours.{kinds-with}
 use Rattle.laws_endings_page.proofs.Fits.{definition_fits}
 use Rattle.laws_endings_page.proofs.InlineReads.{inlines_fit}
 use Rattle.laws_endings_page.proofs.BlockReads.{blocks_fit}
+use Rattle.laws_endings_page.proofs.Bytes.{fresh-with}
+use Rattle.laws_endings_page.proofs.Saids.{string_text-with}
+use Rattle.laws_endings_page.proofs.Printed.{PiecesWith}
+use Rattle.laws_endings_page.proofs.TextLines.{text_lines_fit}
+use Rattle.laws_endings_page.proofs.Pages.{read_blocks-with}
+use Rattle.laws_endings_page.proofs.Blocks.{children-with}

@@ -4,4 +4,10 @@ mod Neighbours
 mod Fits
 mod InlineReads
 mod BlockReads
+mod Bytes
+mod Saids
+mod Printed
+mod TextLines
+mod Pages
+mod Blocks
 pub mod Law
