@@ -1,20 +1,19 @@
 -- The blocks of a text of whole characters without CR and `&`: their lines are made of its codes, and end in LF.
-use Rattle.std.proofs.Common.{◌≡◌, ℕ, suc, zero, ◌+◌, ◌-◌, Bool, true, false, cond, eqb, ◌&&◌, ◌||◌, not, leb, List, [], ◌∷◌, ◌++◌, Option, None, Some, length, take, drop, map, filter, replicate, refl, sym, ap, ◌∙◌, subst, arith}
-use Rattle.std.specs.Prelude.{IfSome, min, codes}
-use Rattle.std.specs.List.{list_all, prefix_len, suffix_len}
-use Rattle.std.proofs.lemmas.Bool.{cond_both, cond-true, cond-false, and_parts, both_ways}
-use Rattle.std.proofs.lemmas.List.{map-append}
+use Rattle.std.proofs.Common.{◌≡◌, ℕ, suc, zero, ◌+◌, Bool, true, false, cond, eqb, ◌&&◌, not, leb, List, [], ◌∷◌, ◌++◌, Option, None, Some, length, take, drop, map, refl, sym, ap, ◌∙◌, subst, arith}
+use Rattle.std.specs.Prelude.{min}
+use Rattle.std.specs.List.{list_all, prefix_len}
+use Rattle.std.proofs.lemmas.Bool.{cond_both, cond-true, and_parts, both_ways}
 use Rattle.markdown_options.specs.declared.line_ending.LineEnding.{LineEnding}
 use Rattle.markdown_options.specs.declared.line_ending.LineEnding.TheVariants.{CarriageReturnLineFeed, CarriageReturn, LineFeed}
 use Rattle.markdown_options.specs.declared.configuration.Constructs.{Constructs}
 use Rattle.definition_text.specs.declared.beside.Beside.{Beside}
 use Rattle.definition_text.specs.declared.beside.Kind.{Kind}
 use Rattle.definition_text.specs.declared.beside.Kind.TheVariants.{Whitespace}
-use Rattle.definition_text.specs.BlockLines.{BlockLine, block_line, last_ending_or, last_ending, own_lines}
-use Rattle.definition_text.specs.Columns.{Rest, whole, codes_from, columns_after_tab, tab_column, is_tab_column, is_byte, bytes_of, code_byte, block_codes, is_white, indent, is_blank, bare, trimmed}
+use Rattle.definition_text.specs.BlockLines.{BlockLine, last_ending_or, last_ending, own_lines}
+use Rattle.definition_text.specs.Columns.{Rest, whole, is_tab_column, is_byte, bytes_of, code_byte, block_codes, is_white, indent, is_blank, bare, trimmed}
 use Rattle.definition_text.specs.Content.{is_eol, ending_code, line_codes, content_of}
 use Rattle.definition_text.specs.Indents.{small_indent, outdented}
-use Rattle.definition_text.specs.Lines.{TextLine, text_line, in_first_line, after_return, lines}
+use Rattle.definition_text.specs.Lines.{TextLine, lines}
 use Rattle.definition_text.specs.Runs.{run, after_run}
 use Rattle.definition_inline.specs.Definition.{Definition as LinkDefinition, definition_at}
 use Rattle.definition_block.specs.declared.container.Container.{Container}
@@ -30,10 +29,10 @@ use Rattle.definition_block.specs.HeadingAtx.{Atx, atx, begins_apart, ends_apart
 use Rattle.definition_block.specs.HeadingSetext.{underline}
 use Rattle.definition_block.specs.ThematicBreak.{is_break}
 use Rattle.definition_block.specs.Definitions.{lines_before, Cut, cut_into, defined, cut_after, cut_most, cut}
-use Rattle.definition_block.specs.Tree.{Block, Paragraph, Heading, Break, IndentedCode, FencedCode, Html, Definition, Holds, Items, Ending, Blank, Blocks, Nil, Cons, join, one, ended, OpenLeaf, Text, Indented, Fenced, OpenHtml, Opening, Leaf, Inside, Tree as BlockTree, tree, nothing, empty_tree, blanks, paragraph_of, close_leaf, is_ending, all_endings, front, trailing, without_last, last_of, holds, close, leaf_text, open_text, has_text, leaf_with_line, with_line, rest_line, html_with, takes, or_heading, or_fence, or_html, begins, after, break_or_text, text_line_of, text_here, heading_of, underlined, turns, begun, taken, leaf_line, beside_in, start, new, began_blank, goes_on, grow, beside_line, step, steps, children, children_after, blocks}
+use Rattle.definition_block.specs.Tree.{Block, Paragraph, Heading, Break, IndentedCode, FencedCode, Html, Definition, Holds, Items, Ending, Blank, Blocks, Nil, Cons, join, one, ended, OpenLeaf, Text, Indented, Fenced, OpenHtml, Opening, Leaf, Inside, Tree as BlockTree, tree, nothing, empty_tree, blanks, paragraph_of, close_leaf, is_ending, all_endings, front, trailing, without_last, last_of, holds, close, leaf_text, has_text, leaf_with_line, with_line, rest_line, html_with, takes, or_heading, or_fence, or_html, begins, after, break_or_text, text_line_of, text_here, heading_of, underlined, turns, begun, taken, leaf_line, beside_in, start, new, began_blank, goes_on, grow, beside_line, step, steps, children, children_after, blocks}
 use Rattle.laws_endings.proofs.Rests.{FineRest, FineStarted, starts-fine, continues-fine}
-use Rattle.laws_endings_page.proofs.Each.{Each, each-append, each-take, each-drop, each_filter, each_same, WhereSome, where_passed}
-use Rattle.laws_endings_page.proofs.Characters.{IsWhole, AreWhole, IsTextByte}
+use Rattle.laws_endings_page.proofs.Each.{Each, each-append, each-take, each-drop, each_filter, WhereSome, where_passed}
+use Rattle.laws_endings_page.proofs.Characters.{IsWhole, AreWhole}
 use Rattle.laws_endings_page.proofs.Fits.{Single, Plain, TitleFits, DefinitionFits, definition_fits}
 
 -- ---- what is fit

@@ -11,20 +11,20 @@ use Rattle.definition_text.specs.Lines.{ending_text}
 use Rattle.definition_text.specs.Columns.{is_byte, is_tab_column, code_byte, bytes_of}
 use Rattle.definition_text.specs.Encode.{encode}
 use Rattle.definition_inline.specs.Inline.{Linked, Inlines}
-use Rattle.definition_page.specs.Tags.{Said, Words, Number, Attribute, attribute, attribute_bytes, Tag, tag, bare_tag}
-use Rattle.definition_page.specs.Pieces.{Piece, Open, Close, Void, Says, Eol, Fresh}
+use Rattle.definition_page.specs.Tags.{Words, Number, Attribute, attribute, tag, bare_tag}
+use Rattle.definition_page.specs.Pieces.{Piece, Void, Says, Eol, Fresh}
 use Rattle.definition_page.specs.InlinePieces.{Meaning, raw_html, element, inline_pieces}
 use Rattle.definition_page.specs.Page.{Block, Paragraph, Heading, Break, IndentedCode, FencedCode, Html, Definition, Quote, ItemList, Item, Ending, Blank, Blocks, Nil, Cons}
-use Rattle.definition_page.specs.BlockPieces.{Place, at_top, inside, code_line, html_line, says, heading_name, info_attributes, start_attributes, list_tag, is_silent, last_shown, ends_plainly, fresh_unless, fenced_pieces, block_pieces, children_pieces}
+use Rattle.definition_page.specs.BlockPieces.{Place, inside, code_line, html_line, says, heading_name, info_attributes, start_attributes, list_tag, is_silent, last_shown, ends_plainly, fresh_unless, fenced_pieces, block_pieces, children_pieces}
 use Rattle.laws_endings.specs.Endings.{with_ending, ending_with, if_ending_with, codes_with, line_with, lines_with}
 use Rattle.laws_endings.specs.Inlines.{inlines_with}
-use Rattle.laws_endings_page.proofs.Each.{Each, WhereSome, each_filter, each_map}
+use Rattle.laws_endings_page.proofs.Each.{WhereSome, each_filter, each_map}
 use Rattle.laws_endings_page.proofs.Fits.{Plain}
 use Rattle.laws_endings_page.proofs.InlineReads.{AreFit}
 use Rattle.laws_endings_page.proofs.BlockReads.{IsFed, LineFits, LinesFit}
 use Rattle.laws_endings_page.proofs.Bytes.{IsNoFeed, decimal_no_feed, with-append, kept, encode-with}
 use Rattle.laws_endings_page.proofs.Saids.{plains_no_feed, codes-kept, SaidWith, SaidsWith, says_more, says_one, says_append, words-kept, raw-kept}
-use Rattle.laws_endings_page.proofs.Printed.{LinkedFits, BytesWith, AttributesWith, attribute-with, more_attributes, PiecesWith, no_pieces, append-with, more-with, said-with, void_piece-with, eol_piece-with, fresh_piece-with, element-with, saids-with, linked_with, meaning_with, inlines-with}
+use Rattle.laws_endings_page.proofs.Printed.{LinkedFits, BytesWith, AttributesWith, attribute-with, more_attributes, PiecesWith, no_pieces, append-with, more-with, said-with, void_piece-with, eol_piece-with, fresh_piece-with, element-with, saids-with, linked_with, inlines-with}
 use Rattle.laws_endings_page.proofs.Pages.{page_block_with, page_blocks_with, InfoFits, PageBlockFits, PageFits}
 
 space_plain : (c : ℕ) → Plain c → Plain (code_byte c)

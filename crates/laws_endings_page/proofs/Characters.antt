@@ -1,11 +1,11 @@
 -- Characters whose bytes all stand in a line: their kinds don't depend on its ending (UTF-8).
-use Rattle.std.proofs.Common.{◌≡◌, ℕ, zero, suc, ◌+◌, ◌/◌, ◌%◌, ◌<◌, ◌≤◌, Bool, true, false, cond, eqb, ltb, leb, ◌||◌, List, [], ◌∷◌, ◌++◌, inl, inr, ⊎_elim, refl, sym, ap, ◌∙◌, subst, arith, IsUtf8, drop, filter, map}
+use Rattle.std.proofs.Common.{◌≡◌, ℕ, zero, suc, ◌+◌, ◌/◌, ◌%◌, ◌<◌, ◌≤◌, Bool, true, false, cond, eqb, ltb, leb, ◌||◌, List, [], ◌∷◌, ◌++◌, inl, inr, ⊎_elim, refl, sym, ap, ◌∙◌, subst, arith, IsUtf8, drop}
 use Rattle.std.specs.Char.{encode_utf8, IsScalar}
 use Rattle.std.specs.Str.{encode_utf8_all, all_scalars}
 use lib.Utf8.{scalar_cases}
-use Rattle.std.proofs.lemmas.Bool.{cases_lt, cond-true, cond-false, cond_both, lt-ltb, le-ltb, le-leb, and_left, and_from, and_right, lt-leb, ne_eqb, and_parts, eqb-true, true≢false, both_ways, or_cases, false_from_ne_true}
+use Rattle.std.proofs.lemmas.Bool.{cases_lt, cond-true, cond-false, lt-ltb, le-ltb, le-leb, and_left, and_from, and_right, lt-leb, ne_eqb, and_parts, both_ways}
 use Rattle.definition_text.specs.InlineCode.{is_continuation}
-use Rattle.laws_endings_page.proofs.Each.{Each, each-append}
+use Rattle.laws_endings_page.proofs.Each.{Each}
 
 -- how many bytes of a character follow its first
 abbrev pub need : ℕ → ℕ
@@ -105,9 +105,10 @@ spell_one c l a s =
 spell_two : (x y : ℕ) (l : List ℕ) → 192 ≤ x → x < 224 → 128 ≤ y → y < 192 → Spelled l → Spelled (x ∷ y ∷ l)
 spell_two x y l x1 x2 y1 y2 s =
     record {
-      whole =
-          (whole_first x (y ∷ l) x1 (subst (λ n. Begins n (y ∷ l)) (sym (need_one x (omega (arith, x1)) x2)) (goes_on y y1 y2, tt)),
-          (whole_more y l y1 y2, s.whole));
+      whole = (
+        whole_first x (y ∷ l) x1 (subst (λ n. Begins n (y ∷ l)) (sym (need_one x (omega (arith, x1)) x2)) (goes_on y y1 y2, tt)),
+        (whole_more y l y1 y2, s.whole),
+      );
       starts = starts_high x x1;
       bytes = (apart_from x (omega (arith, x2)), (apart_from y (omega (arith, y2)), s.bytes));
     }
@@ -115,10 +116,11 @@ spell_two x y l x1 x2 y1 y2 s =
 spell_three : (x y z : ℕ) (l : List ℕ) → 224 ≤ x → x < 240 → 128 ≤ y → y < 192 → 128 ≤ z → z < 192 → Spelled l → Spelled (x ∷ y ∷ z ∷ l)
 spell_three x y z l x1 x2 y1 y2 z1 z2 s =
     record {
-      whole =
-          (whole_first x (y ∷ z ∷ l) (omega (arith, x1))
-          (subst (λ n. Begins n (y ∷ z ∷ l)) (sym (need_two x x1 x2)) (goes_on y y1 y2, (goes_on z z1 z2, tt))),
-          (whole_more y (z ∷ l) y1 y2, (whole_more z l z1 z2, s.whole)));
+      whole = (
+        whole_first x (y ∷ z ∷ l) (omega (arith, x1))
+            (subst (λ n. Begins n (y ∷ z ∷ l)) (sym (need_two x x1 x2)) (goes_on y y1 y2, (goes_on z z1 z2, tt))),
+        (whole_more y (z ∷ l) y1 y2, (whole_more z l z1 z2, s.whole)),
+      );
       starts = starts_high x (omega (arith, x1));
       bytes = (apart_from x (omega (arith, x2)), (apart_from y (omega (arith, y2)), (apart_from z (omega (arith, z2)), s.bytes)));
     }
@@ -127,14 +129,16 @@ spell_four : (x y z w : ℕ) (l : List ℕ) → 240 ≤ x → x < 256 → 128 �
     → Spelled (x ∷ y ∷ z ∷ w ∷ l)
 spell_four x y z w l x1 x2 y1 y2 z1 z2 w1 w2 s =
     record {
-      whole =
-          (whole_first x (y ∷ z ∷ w ∷ l) (omega (arith, x1))
-          (subst (λ n. Begins n (y ∷ z ∷ w ∷ l)) (sym (need_three x x1)) (goes_on y y1 y2, (goes_on z z1 z2, (goes_on w w1 w2, tt)))),
-          (whole_more y (z ∷ w ∷ l) y1 y2, (whole_more z (w ∷ l) z1 z2, (whole_more w l w1 w2, s.whole))));
+      whole = (
+        whole_first x (y ∷ z ∷ w ∷ l) (omega (arith, x1))
+            (subst (λ n. Begins n (y ∷ z ∷ w ∷ l)) (sym (need_three x x1)) (goes_on y y1 y2, (goes_on z z1 z2, (goes_on w w1 w2, tt)))),
+        (whole_more y (z ∷ w ∷ l) y1 y2, (whole_more z (w ∷ l) z1 z2, (whole_more w l w1 w2, s.whole))),
+      );
       starts = starts_high x (omega (arith, x1));
-      bytes =
-          (apart_from x x2,
-          (apart_from y (omega (arith, y2)), (apart_from z (omega (arith, z2)), (apart_from w (omega (arith, w2)), s.bytes))));
+      bytes = (
+        apart_from x x2,
+        (apart_from y (omega (arith, y2)), (apart_from z (omega (arith, z2)), (apart_from w (omega (arith, w2)), s.bytes))),
+      );
     }
 
 spell_more : (c : ℕ) (l : List ℕ) → c < 2097152 → Spelled l → Spelled (encode_utf8 c ++ l)

@@ -1,5 +1,5 @@
 -- What holds of each element of a list, and of a value where there is one.
-use Rattle.std.proofs.Common.{◌≡◌, ℕ, zero, suc, Bool, true, cond, List, [], ◌∷◌, ◌++◌, Option, None, Some, map, replicate, take, drop, filter}
+use Rattle.std.proofs.Common.{ℕ, zero, suc, Bool, cond, List, [], ◌∷◌, ◌++◌, Option, None, Some, map, replicate, take, drop, filter}
 use Rattle.std.proofs.lemmas.Bool.{cond_both}
 
 abbrev pub Each : {A : Type 0} → (A → Type 0) → List A → Type 0

@@ -1,11 +1,10 @@
 -- The inline structure of a content of codes that stand for themselves: its parts are such codes, and no character reference is among them.
-use Rattle.std.proofs.Common.{◌≡◌, ℕ, suc, zero, ◌+◌, ◌-◌, Bool, true, false, cond, eqb, ◌&&◌, ◌==◌, List, [], ◌∷◌, ◌++◌, map, reverse, replicate, filter, fold, Option, None, Some, length, take, drop, refl, sym, ap, ◌∙◌, subst}
+use Rattle.std.proofs.Common.{◌≡◌, ℕ, suc, zero, ◌+◌, ◌-◌, Bool, true, false, cond, eqb, ◌&&◌, ◌==◌, List, [], ◌∷◌, ◌++◌, map, reverse, replicate, filter, fold, Option, None, Some, take, drop, refl, sym, subst}
 use Rattle.std.specs.Prelude.{codes}
 use Rattle.std.specs.Char.{is_ascii_punctuation}
 use Rattle.std.specs.List.{prefix_len}
-use Rattle.std.proofs.lemmas.Bool.{cond_both, cond-true, cond-false, and_parts, or_cases, cases_Bool}
+use Rattle.std.proofs.lemmas.Bool.{cond_both, cond-false, and_parts}
 use Rattle.markdown_options.specs.declared.configuration.Constructs.{Constructs}
-use Rattle.markdown_options.specs.declared.configuration.ParseOptions.{ParseOptions}
 use Rattle.definition_text.specs.Columns.{is_white, indent}
 use Rattle.definition_text.specs.Bytes.{begins_with, after_all}
 use Rattle.definition_text.specs.Content.{Part, before, up_to, is_eol}
@@ -14,26 +13,26 @@ use Rattle.definition_text.specs.InlineCode.{InlineCode, codes_of}
 use Rattle.definition_inline.specs.Inline.{Target, Resource, Reference, Inline, Data, Escape, Character, Code, Math, Autolink, Html, EscapedBreak, TrailingBreak, LineEnd, Emphasis, Strong, Strikethrough, Link, Image, Inlines, Nil, Cons, followed_by, Leaf, leaf, or_else}
 use Rattle.definition_inline.specs.CharacterEscape.{escape_at}
 use Rattle.definition_inline.specs.CharacterReference.{reference_form, reference_after, reference_of, reference_at}
-use Rattle.definition_inline.specs.CodeText.{code_text, run_of, raw_part, raw_leaf, raw_at, code_text_at}
+use Rattle.definition_inline.specs.CodeText.{run_of, raw_part, raw_leaf, raw_at, code_text_at}
 use Rattle.definition_inline.specs.MathText.{may_open_math, math_text_at}
-use Rattle.definition_inline.specs.Autolink.{is_scheme_byte, is_uri_byte, begins_with_scheme, after_uri, uri_end, is_email_byte, is_domain_byte, is_domain, domain_end, email_end, closed_autolink, autolink_after, autolink_at}
+use Rattle.definition_inline.specs.Autolink.{is_scheme_byte, is_uri_byte, begins_with_scheme, after_uri, uri_end, is_email_byte, is_domain_byte, domain_end, email_end, closed_autolink, autolink_after, autolink_at}
 use Rattle.definition_inline.specs.HtmlText.{html_byte, html_end, html_leaf, html_text_at}
 use Rattle.definition_inline.specs.HardBreak.{line_end_at, escaped_break_at, is_trailing_break, line_spaces_at}
 use Rattle.definition_inline.specs.Space.{after_white, begins_with_space}
-use Rattle.definition_inline.specs.Resource.{LinkResource, resource_end, with_title, opens_title, after_destination, with_destination, resource_inside, resource_at}
+use Rattle.definition_inline.specs.Resource.{LinkResource, resource_end, with_title, opens_title, with_destination, resource_inside, resource_at}
 use Rattle.definition_inline.specs.Label.{label_at}
 use Rattle.definition_inline.specs.Destination.{destination_at}
 use Rattle.definition_inline.specs.Title.{title_at}
 use Rattle.definition_inline.specs.LabelEnd.{Ended, by_text, by_label, by_resource, label_end_at}
-use Rattle.definition_inline.specs.Attention.{Run, is_marker, run_between, run_at}
+use Rattle.definition_inline.specs.Attention.{Run, is_marker, run_at}
 use Rattle.definition_inline.specs.Pairing.{Pair, pairs}
 use Rattle.definition_inline.specs.Spans.{Token, Item, Delimiters, runs_of, Span, IsEmphasis, IsStrong, IsStrikethrough, span_of, SpanRow, Holds, Opens, Closes, bytes_taken, run_rows, rows_from, OpenSpan, Nest, nest, spanned, leave, nest_row, emphasized}
-use Rattle.definition_inline.specs.Scan.{InlineContext, leaf_at, LabelStart, LinkStart, ImageStart, label_start_at, start_bytes, start_tokens, may_form, label_part, Text, text, OpenLabel, Reading, reading, read_tokens, unformed, formed, Step, Next, data_step, ended_step, ended_by, label_end_step, last_step, label_step, run_step, leaf_step, step, and_then, scan, whole_text, inlines}
+use Rattle.definition_inline.specs.Scan.{InlineContext, leaf_at, LabelStart, LinkStart, ImageStart, label_start_at, start_tokens, may_form, label_part, Text, text, OpenLabel, Reading, reading, read_tokens, unformed, formed, Step, Next, data_step, ended_step, ended_by, label_end_step, last_step, label_step, run_step, leaf_step, step, and_then, scan, whole_text, inlines}
 use Rattle.laws_endings.proofs.Contents.{no_ending}
 use Rattle.laws_endings_page.proofs.Each.{Each, each-append, each-take, each-drop, each_map, each_same, WhereSome, where_passed}
 use Rattle.laws_endings_page.proofs.Characters.{may_mark}
 use Rattle.laws_endings_page.proofs.Neighbours.{marker_marks}
-use Rattle.laws_endings_page.proofs.Fits.{Single, Plain, IsNoEnding, each_plain, no_ending_by, plain_byte, all_passed, Apart, before_apart, after_all_apart, after_byte_apart, apart_from, white_fits, PartFits, title_fits, DestinationFits, destination_fits, TitleFits, code_text_fits}
+use Rattle.laws_endings_page.proofs.Fits.{Single, Plain, each_plain, no_ending_by, plain_byte, all_passed, Apart, before_apart, after_all_apart, after_byte_apart, apart_from, white_fits, PartFits, title_fits, DestinationFits, destination_fits, TitleFits, code_text_fits}
 
 -- where something leads: a destination without line endings, and a title
 abbrev pub TargetFits : Target → Type 0
@@ -191,8 +190,14 @@ module _ (on : Constructs) where
   escape_fits (c ∷ []) p = tt
   escape_fits (c ∷ next ∷ cs) p =
       cond_both (on.character_escape && (eqb c 92 && is_ascii_punctuation next)) (Some (leaf (Escape next ∷ []) 2)) None BeginsFit
-      (λ h. ((p.1.0, no_ending_by is_ascii_punctuation next refl refl refl
-      (and_parts (eqb c 92) (is_ascii_punctuation next) (and_parts on.character_escape _ h).1).1), tt))
+      (λ h. (
+        (
+          p.1.0,
+          no_ending_by is_ascii_punctuation next refl refl refl
+              (and_parts (eqb c 92) (is_ascii_punctuation next) (and_parts on.character_escape _ h).1).1,
+        ),
+        tt,
+      ))
       (λ _. tt)
 
   escaped_break_fits : (content : List ℕ) → BeginsFit (escaped_break_at on content)

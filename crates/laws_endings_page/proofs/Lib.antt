@@ -10,4 +10,5 @@ mod Printed
 mod TextLines
 mod Pages
 mod Blocks
+mod Marks
 pub mod Law

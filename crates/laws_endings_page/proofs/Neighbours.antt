@@ -1,15 +1,15 @@
 -- What stands beside the codes of a line with another ending: the same wherever a run may stand.
-use Rattle.std.proofs.Common.{◌≡◌, ℕ, zero, suc, ◌+◌, ◌-◌, ◌*◌, ◌<◌, Bool, true, false, cond, eqb, ltb, ◌||◌, ◌&&◌, List, [], ◌∷◌, ◌++◌, Option, None, Some, inl, inr, ⊎_elim, refl, sym, ap, ◌∙◌, subst, arith, map, drop, slice_index, slice_index_or}
-use Rattle.std.specs.List.{prefix_len, fold}
+use Rattle.std.proofs.Common.{◌≡◌, ℕ, zero, suc, ◌+◌, ◌-◌, ◌*◌, ◌<◌, Bool, true, false, cond, eqb, ltb, ◌||◌, ◌&&◌, List, [], ◌∷◌, Option, None, Some, ⊎_elim, refl, sym, ap, ◌∙◌, arith, map, drop, slice_index, slice_index_or}
+use Rattle.std.specs.List.{prefix_len}
 use Rattle.std.proofs.Math.ListN.{get_or-map}
-use Rattle.std.proofs.lemmas.Bool.{cond-true, cond-false, cond_both, both_ways, false_from_ne_true, eqb-true, eq-eqb, and_parts, or_cases, or_left, or_right, cases_Bool}
+use Rattle.std.proofs.lemmas.Bool.{cond-true, cond-false, both_ways, false_from_ne_true, eqb-true, eq-eqb, and_parts, or_cases, or_left, or_right, cases_Bool}
 use Rattle.std.proofs.lemmas.List.{drop-map}
 use Rattle.markdown_options.specs.declared.line_ending.LineEnding.{LineEnding}
 use Rattle.markdown_options.specs.declared.configuration.ParseOptions.{ParseOptions}
 use Rattle.definition_text.specs.declared.beside.Kind.{Kind}
 use Rattle.definition_text.specs.declared.beside.Kind.TheVariants.{Whitespace}
 use Rattle.definition_text.specs.Columns.{is_white}
-use Rattle.definition_text.specs.Content.{is_eol, line_ending_code}
+use Rattle.definition_text.specs.Content.{is_eol}
 use Rattle.definition_text.specs.InlineCode.{InlineCode, inline_code, codes_of, first_character, is_continuation, character_kind, first_kind, next_kind, with_kinds}
 use Rattle.definition_inline.specs.GfmStrikethrough.{is_tilde}
 use Rattle.definition_inline.specs.Attention.{Run, is_marker, run_between, run_size, run_at}

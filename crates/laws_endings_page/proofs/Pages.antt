@@ -1,19 +1,15 @@
 -- The page of the blocks of a text with another line ending in place of each LF.
-use Rattle.std.proofs.Common.{◌≡◌, ℕ, zero, suc, Bool, true, false, true≢false, cond, eqb, not, ◌||◌, ◌&&◌, leb, List, [], ◌∷◌, ◌++◌, Option, None, Some, refl, sym, ap, ◌∙◌, subst, map}
-use Rattle.std.specs.Prelude.{IfSome}
-use Rattle.std.specs.Option.{option_map}
+use Rattle.std.proofs.Common.{◌≡◌, ℕ, zero, suc, Bool, false, true≢false, cond, eqb, not, ◌||◌, ◌&&◌, leb, List, [], ◌∷◌, ◌++◌, Option, None, Some, refl, sym, ap, ◌∙◌, subst, map}
 use Rattle.std.proofs.lemmas.Bool.{cond_both}
 use Rattle.std.proofs.lemmas.List.{map-append}
 use Rattle.markdown_options.specs.declared.line_ending.LineEnding.{LineEnding}
 use Rattle.markdown_options.specs.declared.line_ending.LineEnding.TheVariants.{CarriageReturnLineFeed, CarriageReturn, LineFeed}
-use Rattle.markdown_options.specs.declared.configuration.Constructs.{Constructs}
 use Rattle.definition_text.specs.declared.beside.Kind.{Kind}
 use Rattle.definition_text.specs.declared.beside.Kind.TheVariants.{Whitespace}
 use Rattle.definition_text.specs.BlockLines.{BlockLine, own_lines}
 use Rattle.definition_text.specs.Columns.{is_tab_column, code_byte}
 use Rattle.definition_text.specs.Content.{ending_code, line_codes}
-use Rattle.definition_text.specs.InlineCode.{InlineCode, codes_of, with_kinds, next_kind, first_kind, inline_code, line_content, inline_content}
-use Rattle.definition_inline.specs.Inline.{Inlines}
+use Rattle.definition_text.specs.InlineCode.{InlineCode, codes_of, with_kinds, next_kind, line_content, inline_content}
 use Rattle.definition_inline.specs.Scan.{InlineContext, inlines}
 use Rattle.definition_inline.specs.Strings.{string_text}
 use Rattle.definition_block.specs.declared.container.Container.TheVariants.{Quote, Item}
@@ -30,13 +26,13 @@ use Rattle.laws_endings.proofs.Cuts.{own_lines-with, line_codes-with, join-with}
 use Rattle.laws_endings.proofs.Matching.{bytes-with}
 use Rattle.laws_endings.proofs.Contents.{inlines-with}
 use Rattle.laws_endings_page.proofs.Each.{Each, each-append, each_map}
-use Rattle.laws_endings_page.proofs.Characters.{Begins, continues_one, IsWhole, AreWhole}
+use Rattle.laws_endings_page.proofs.Characters.{Begins, continues_one, AreWhole}
 use Rattle.laws_endings_page.proofs.Neighbours.{tamed, tamed_inlines, kinds-with, kinds-kept}
 use Rattle.laws_endings_page.proofs.Fits.{Single, Plain}
 use Rattle.laws_endings_page.proofs.InlineReads.{AreFit, inlines_fit}
 use Rattle.laws_endings_page.proofs.BlockReads.{IsFed, WholeBefore, LineFits, LinesFit, BlockFits, BlocksFit, line_singles, join_fits, own_fit}
 use Rattle.laws_endings_page.proofs.Bytes.{IsNoFeed}
-use Rattle.laws_endings_page.proofs.Saids.{plain_no_feed, plains_no_feed, codes-kept, string_text-with}
+use Rattle.laws_endings_page.proofs.Saids.{plains_no_feed, codes-kept, string_text-with}
 
 -- ---- lists
 

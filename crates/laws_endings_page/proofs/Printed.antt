@@ -1,28 +1,26 @@
 -- What the inline structure of a content prints, with another line ending in place of each LF.
-use Rattle.std.proofs.Common.{◌≡◌, ℕ, zero, suc, ◌+◌, Bool, true, false, cond, eqb, ◌||◌, List, [], ◌∷◌, ◌++◌, Option, None, Some, refl, sym, ap, ◌∙◌, map, fold, append_assoc, append-nil, flat_map, true≢false, subst}
+use Rattle.std.proofs.Common.{◌≡◌, ℕ, Bool, true, false, cond, eqb, ◌||◌, List, [], ◌∷◌, ◌++◌, Option, None, Some, refl, sym, ap, ◌∙◌, map, fold, append_assoc, append-nil, flat_map, true≢false, subst}
 use Rattle.std.specs.Prelude.{codes, unwrap_or}
 use Rattle.std.specs.Option.{option_map}
-use Rattle.std.proofs.lemmas.Grind.{flat_map-append}
 use Rattle.std.proofs.lemmas.List.Sums.{fold-append}
 use Rattle.std.proofs.lemmas.Bool.{cond_both}
 use Rattle.markdown_options.specs.declared.line_ending.LineEnding.{LineEnding}
 use Rattle.markdown_options.specs.declared.line_ending.LineEnding.TheVariants.{CarriageReturnLineFeed, CarriageReturn, LineFeed}
-use Rattle.markdown_options.specs.declared.configuration.CompileOptions.{CompileOptions}
 use Rattle.markdown_options.specs.LineEndings.{ending_bytes}
 use Rattle.definition_text.specs.Encode.{plain}
 use Rattle.definition_inline.specs.Inline.{Target, Resource, Reference, Linked, linked, Inline, Data, Escape, Character, Code, Math, Autolink, Html, EscapedBreak, TrailingBreak, LineEnd, Emphasis, Strong, Strikethrough, Link, Image, Inlines, Nil, Cons}
 use Rattle.definition_inline.specs.Strings.{string_text}
 use Rattle.definition_page.specs.Urls.{percent, permitted, sanitized, href_protocols, src_protocols}
-use Rattle.definition_page.specs.Tags.{Said, Words, EndOfLine, said_bytes, Attribute, attribute, attribute_bytes, Tag, tag, bare_tag, tag_bytes, start_tag, end_tag, void_tag}
+use Rattle.definition_page.specs.Tags.{Said, Words, EndOfLine, said_bytes, Attribute, attribute, attribute_bytes, tag, tag_bytes, start_tag, end_tag, void_tag}
 use Rattle.definition_page.specs.Pieces.{Piece, Open, Close, Void, Says, Eol, Fresh, is_fresh, print}
 use Rattle.definition_page.specs.InlinePieces.{Meaning, permitted_url, link_url, image_url, leads_to, url_of, titled, title_attribute, link_tag, image_tag, address, math_tag, html_says, description, element, part_pieces, inline_pieces}
-use Rattle.laws_endings.specs.Endings.{byte_with, with_ending, code_with, codes_with}
+use Rattle.laws_endings.specs.Endings.{with_ending, code_with, codes_with}
 use Rattle.laws_endings.specs.Inlines.{target_with, inline_with, inlines_with}
 use Rattle.laws_endings_page.proofs.Each.{Each, WhereSome}
 use Rattle.laws_endings_page.proofs.Fits.{Plain, TitleFits}
 use Rattle.laws_endings_page.proofs.InlineReads.{TargetFits, IsFit, AreFit}
-use Rattle.laws_endings_page.proofs.Bytes.{IsNoFeed, percent_no_feed, with-append, encode-with, eol-with, fresh-with}
-use Rattle.laws_endings_page.proofs.Saids.{plain_no_feed, plains_no_feed, codes-kept, string_text-with, SaidWith, SaidsWith, then-with, says_one, words-kept, words-codes, html_says-with, description-with}
+use Rattle.laws_endings_page.proofs.Bytes.{IsNoFeed, percent_no_feed, encode-with, eol-with, fresh-with}
+use Rattle.laws_endings_page.proofs.Saids.{plain_no_feed, plains_no_feed, codes-kept, string_text-with, SaidWith, SaidsWith, then-with, says_one, words-kept, html_says-with, description-with}
 
 -- where a link leads fits
 abbrev pub LinkedFits : Linked → Type 0

@@ -1,15 +1,13 @@
 -- The lines of a text of whole characters without CR and `&`.
-use Rattle.std.proofs.Common.{◌≡◌, ℕ, zero, suc, ◌+◌, Bool, true, false, cond, eqb, not, List, [], ◌∷◌, ◌++◌, None, Some, refl, sym, ap, ◌∙◌, subst, replicate, filter, All, inl, inr, ⊎_elim, ◌⊎◌}
-use Rattle.std.specs.Prelude.{◌≢◌}
-use Rattle.std.proofs.lemmas.Bool.{cond_both, cond-true, cond-false, ne_eqb, eqb-true, both_ways, false_from_ne_true, not_from_false, or_from}
-use Rattle.std.proofs.lemmas.List.Elements.{All-tail}
-use Rattle.markdown_options.specs.declared.line_ending.LineEnding.TheVariants.{CarriageReturn, LineFeed}
+use Rattle.std.proofs.Common.{◌≡◌, ℕ, zero, suc, ◌+◌, Bool, true, false, cond, eqb, List, [], ◌∷◌, ◌++◌, None, Some, refl, sym, ap, ◌∙◌, subst, replicate, inl, inr, ⊎_elim, ◌⊎◌}
+use Rattle.std.proofs.lemmas.Bool.{cond_both, cond-true, eqb-true, both_ways, not_from_false, or_from}
+use Rattle.markdown_options.specs.declared.line_ending.LineEnding.TheVariants.{LineFeed}
 use Rattle.definition_text.specs.Columns.{whole, codes_from, columns_after_tab, tab_column, is_byte, bytes_of}
 use Rattle.definition_text.specs.InlineCode.{is_continuation}
 use Rattle.definition_text.specs.Lines.{TextLine, text_line, in_first_line, after_return, lines, first_of}
 use Rattle.laws_endings.proofs.Lines.{lines_after-byte}
 use Rattle.laws_endings_page.proofs.Each.{Each, each-append, each_same}
-use Rattle.laws_endings_page.proofs.Characters.{Begins, continues_one, may_mark, need, IsWhole, AreWhole, IsTextByte}
+use Rattle.laws_endings_page.proofs.Characters.{Begins, continues_one, need, IsWhole, AreWhole, IsTextByte}
 use Rattle.laws_endings_page.proofs.Neighbours.{no_feed}
 use Rattle.laws_endings_page.proofs.Fits.{Plain}
 use Rattle.laws_endings_page.proofs.BlockReads.{IsFed, RestFits, TextLineFits, TextLinesFit}
@@ -47,8 +45,11 @@ codes_plain column (b ∷ bs) p =
     let n = columns_after_tab column in
     let others = codes_from (column + 1 + n) bs in
     cond_both (eqb b 9) (9 ∷ (replicate n tab_column ++ others)) (b ∷ codes_from (column + 1) bs) (Each Plain)
-    (λ _. (((refl, refl), refl), each-append Plain (replicate n tab_column) others (each_same Plain n tab_column ((refl, refl), refl))
-    (codes_plain (column + 1 + n) bs p.1)))
+    (λ _. (
+      ((refl, refl), refl),
+      each-append Plain (replicate n tab_column) others (each_same Plain n tab_column ((refl, refl), refl))
+          (codes_plain (column + 1 + n) bs p.1),
+    ))
     (λ _. (byte_plain b p.0, codes_plain (column + 1) bs p.1))
 
 whole_fits : (content : List ℕ) → Each LineByteFits content → AreWhole content → RestFits (whole content)
