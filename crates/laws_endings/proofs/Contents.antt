@@ -34,15 +34,15 @@ use Rattle.laws_endings.proofs.Tokens.{token_with, tokens_with, emphasized-with}
 
 -- ---- where no construct begins that holds no other stands no ending
 
-or_none : (one other : Option Leaf) → or_else one other ≡ None → (one ≡ None) × (other ≡ None)
+pub or_none : (one other : Option Leaf) → or_else one other ≡ None → (one ≡ None) × (other ≡ None)
 or_none None other h = (refl, h)
 or_none (Some l) other h = absurd (true≢false (ap is_some h))
 
-end_none : (is : Bool) (l : Leaf) → cond is (Some l) None ≡ None → is ≡ false
+pub end_none : (is : Bool) (l : Leaf) → cond is (Some l) None ≡ None → is ≡ false
 end_none true l h = absurd (true≢false (ap is_some h))
 end_none false l h = refl
 
-no_ending : (context : InlineContext) (c : ℕ) (cs : List ℕ) → leaf_at context (c ∷ cs) ≡ None → is_eol c ≡ false
+pub no_ending : (context : InlineContext) (c : ℕ) (cs : List ℕ) → leaf_at context (c ∷ cs) ≡ None → is_eol c ≡ false
 no_ending context c cs h =
     let on = context.options.constructs in
     let all = c ∷ cs in

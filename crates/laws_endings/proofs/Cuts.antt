@@ -37,7 +37,7 @@ module _ (e : LineEnding) where
   ending_code-with (Some CarriageReturn) = refl
   ending_code-with (Some CarriageReturnLineFeed) = refl
 
-  line_codes-with : (line : BlockLine) → line_codes (line_with e line) ≡ codes_with e (line_codes line)
+  pub line_codes-with : (line : BlockLine) → line_codes (line_with e line) ≡ codes_with e (line_codes line)
   line_codes-with line =
       ap (λ ending. codes_with e line.codes ++ ending) (ending_code-with line.ending)
       ∙ sym (map-append (code_with e) line.codes (ending_code line.ending))

@@ -44,7 +44,7 @@ module _ (e : LineEnding) where
   abbrev pub if_found : Option Leaf → Option Leaf
   if_found l = option_map found_with l
 
-  or_else-with : (one other : Option Leaf) → or_else (if_found one) (if_found other) ≡ if_found (or_else one other)
+  pub or_else-with : (one other : Option Leaf) → or_else (if_found one) (if_found other) ≡ if_found (or_else one other)
   or_else-with None other = refl
   or_else-with (Some l) other = refl
 
@@ -92,7 +92,7 @@ module _ (e : LineEnding) where
       ap (λ code. Some (leaf (Escape code ∷ []) 2)) (same_byte next (passing is_ascii_punctuation next (eqb next 10) refl punctuation refl))
   escaped on c next false h = refl
 
-  escape_at-with : (on : Constructs) (cs : List ℕ) → escape_at on (codes_with e cs) ≡ if_found (escape_at on cs)
+  pub escape_at-with : (on : Constructs) (cs : List ℕ) → escape_at on (codes_with e cs) ≡ if_found (escape_at on cs)
   escape_at-with on [] = refl
   escape_at-with on (c ∷ []) = refl
   escape_at-with on (c ∷ next ∷ cs) =
@@ -119,7 +119,7 @@ module _ (e : LineEnding) where
       ∙ ap (λ ends. cond (on.hard_break_escape && (eqb c 92 && ends)) found None) (ends_inner_line-with cs)
       ∙ cond-under if_found (on.hard_break_escape && (eqb c 92 && ends_inner_line cs)) refl refl
 
-  line_end_at-with : (cs : List ℕ) → line_end_at (codes_with e cs) ≡ if_found (line_end_at cs)
+  pub line_end_at-with : (cs : List ℕ) → line_end_at (codes_with e cs) ≡ if_found (line_end_at cs)
   line_end_at-with [] = refl
   line_end_at-with (c ∷ cs) =
       let found : ℕ → Option Leaf = λ n. Some (leaf (LineEnd (code_with e c) ∷ []) (1 + n)) in
@@ -127,7 +127,7 @@ module _ (e : LineEnding) where
       ∙ ap (λ n. cond (is_eol c) (found n) None) (prefix_len-with e is_white refl refl cs)
       ∙ cond-under if_found (is_eol c) refl refl
 
-  bare-with : (cs : List ℕ) → bare (codes_with e cs) ≡ codes_with e (bare cs)
+  pub bare-with : (cs : List ℕ) → bare (codes_with e cs) ≡ codes_with e (bare cs)
   bare-with cs = after_all-with e is_white refl refl cs
 
   is_trailing_break-with : (cs : List ℕ) → is_trailing_break (codes_with e cs) ≡ is_trailing_break cs
@@ -230,7 +230,7 @@ module _ (e : LineEnding) where
         ∙ ap (λ n. reference_leaf (length cs - n) text) (length-map found.rest (code_with e))
         ∙ reference_leaf-with (length cs - length found.rest) text
 
-    reference_at-with : (on : Constructs) (cs : List ℕ) → reference_at on names (codes_with e cs) ≡ if_found (reference_at on names cs)
+    pub reference_at-with : (on : Constructs) (cs : List ℕ) → reference_at on names (codes_with e cs) ≡ if_found (reference_at on names cs)
     reference_at-with on cs =
         cond-under if_found on.character_reference
         (ap (reference_of names (codes_with e cs)) (reference_form-with cs) ∙ reference_of-with cs (reference_form cs)) refl

@@ -1,14 +1,14 @@
 pub mod Lines
-mod Codes
-mod Labels
+pub mod Codes
+pub mod Labels
 mod Definitions
-mod Cuts
-mod Rests
+pub mod Cuts
+pub mod Rests
 mod Openings
 mod Closing
 mod Growing
 pub mod Blocks
-mod Leaves
+pub mod Leaves
 mod LabelEnds
 mod Tokens
 pub mod Contents

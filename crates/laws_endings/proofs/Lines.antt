@@ -55,7 +55,7 @@ in_first_line-with e b (line ∷ ls) = refl
 abbrev lines_after : ℕ → Bool → Bool → List ℕ → List TextLine
 lines_after b feed return bs = cond feed (text_line [] (Some LineFeed) ∷ lines bs) (cond return (after_return bs (lines bs)) (in_first_line b (lines bs)))
 
-lines_after-byte : (b : ℕ) (bs : List ℕ) → eqb b 10 ≡ false → eqb b 13 ≡ false → lines (b ∷ bs) ≡ in_first_line b (lines bs)
+pub lines_after-byte : (b : ℕ) (bs : List ℕ) → eqb b 10 ≡ false → eqb b 13 ≡ false → lines (b ∷ bs) ≡ in_first_line b (lines bs)
 lines_after-byte b bs h k = ap (λ feed. lines_after b feed (eqb b 13) bs) h ∙ ap (λ return. lines_after b false return bs) k
 
 -- a byte before a text

@@ -44,10 +44,10 @@ module _ (e : LineEnding) where
       ∙ ap (either (is_space c)) (parts-with cs)
       ∙ part_either c cs (is_space c) refl
 
-  normal_label-with : (label : List ℕ) → normal_label (codes_with e label) ≡ normal_label label
+  pub normal_label-with : (label : List ℕ) → normal_label (codes_with e label) ≡ normal_label label
   normal_label-with label = ap (λ all. join_by word_folded (32 ∷ []) (filter is_word all)) (parts-with label)
 
-  normal_labels-with : (labels : List (List ℕ)) → map normal_label (map (codes_with e) labels) ≡ map normal_label labels
+  pub normal_labels-with : (labels : List (List ℕ)) → map normal_label (map (codes_with e) labels) ≡ map normal_label labels
   normal_labels-with [] = refl
   normal_labels-with (label ∷ labels) =
       ap (λ normal. normal ∷ map normal_label (map (codes_with e) labels)) (normal_label-with label)
@@ -68,7 +68,7 @@ module _ (e : LineEnding) where
   byte_either c true h = ending_byte e ∙ sym (ap (λ code. code_with e (code_byte code)) (eqb-true c 10 h))
   byte_either c false h = code_byte_either c (is_tab_column c) h
 
-  bytes-with : (cs : List ℕ) → map code_byte (codes_with e cs) ≡ codes_with e (map code_byte cs)
+  pub bytes-with : (cs : List ℕ) → map code_byte (codes_with e cs) ≡ codes_with e (map code_byte cs)
   bytes-with [] = refl
   bytes-with (c ∷ cs) =
       ap (λ code. code ∷ map code_byte (codes_with e cs)) (byte_either c (eqb c 10) refl)

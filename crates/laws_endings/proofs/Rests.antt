@@ -26,6 +26,81 @@ abbrev pub Feedless : List ℕ → Type 0
 Feedless [] = Unit {0}
 Feedless (b ∷ bs) = (eqb b 10 ≡ false) × Feedless bs
 
+-- ---- what a container leaves of a rest: the end of it, and so what holds of each end of a rest that it holds of
+
+module _ (Fine : List ℕ → Type 0) (dropped : (n : ℕ) (cs : List ℕ) → Fine cs → Fine (drop n cs)) where
+  -- the rest that is left, if any
+  abbrev pub FineRest : Option Rest → Type 0
+  FineRest o = IfSome o (λ rest. Fine rest)
+
+  -- the same of the rest after a marker
+  abbrev FineMarker : Option Marker → Type 0
+  FineMarker o = IfSome o (λ m. Fine m.rest)
+
+  -- the same of the rest after what starts a container
+  abbrev pub FineStarted : Option Started → Type 0
+  FineStarted o = IfSome o (λ s. Fine s.rest)
+
+  byte_fine : (byte : ℕ) (rest : Rest) → Fine rest → FineRest (after_byte byte rest)
+  byte_fine byte [] k = tt
+  byte_fine byte (code ∷ codes) k = cond_both (eqb code byte) (Some codes) None FineRest (λ _. dropped 1 (code ∷ codes) k) (λ _. tt)
+
+  mark_fine : (o : Option Rest) → FineRest o → FineRest (after_mark o)
+  mark_fine None k = tt
+  mark_fine (Some rest) k = dropped (min 1 (indent rest)) rest k
+
+  quote_fine : (on : Constructs) (rest : Rest) → Fine rest → FineRest (quote_prefix on rest)
+  quote_fine on rest k =
+      let after = after_byte 62 (bare rest) in
+      cond_both (on.block_quote && small_indent on rest) (after_mark after) None FineRest
+      (λ _. mark_fine after (byte_fine 62 (bare rest) (dropped (indent rest) rest k))) (λ _. tt)
+
+  bullet_fine : (rest : Rest) → Fine rest → FineMarker (bullet rest)
+  bullet_fine [] k = tt
+  bullet_fine (code ∷ codes) k =
+      cond_both (eqb code 45 || eqb code 43 || eqb code 42) (Some (marker_of code None 1 codes)) None FineMarker
+      (λ _. dropped 1 (code ∷ codes) k) (λ _. tt)
+
+  delimiter_fine : (number digits : ℕ) (rest : Rest) → Fine rest → FineMarker (delimiter number digits rest)
+  delimiter_fine number digits [] k = tt
+  delimiter_fine number digits (code ∷ codes) k =
+      cond_both (eqb code 46 || eqb code 41) (Some (marker_of code (Some number) (digits + 1) codes)) None FineMarker
+      (λ _. dropped 1 (code ∷ codes) k) (λ _. tt)
+
+  ordered_fine : (digits : ℕ) (rest : Rest) → Fine rest → FineMarker (ordered digits rest)
+  ordered_fine digits rest k =
+      let number = number_of (take digits rest) in
+      cond_both (leb digits 9) (delimiter number digits (drop digits rest)) None FineMarker
+      (λ _. delimiter_fine number digits (drop digits rest) (dropped digits rest k)) (λ _. tt)
+
+  marker_fine : (rest : Rest) → Fine rest → FineMarker (marker rest)
+  marker_fine rest k =
+      let digits = prefix_len is_digit rest in
+      cond_both (eqb digits 0) (bullet rest) (ordered digits rest) FineMarker (λ _. bullet_fine rest k) (λ _. ordered_fine digits rest k)
+
+  after_marker_fine : (columns : ℕ) (interrupts : Bool) (o : Option Marker) → FineMarker o → FineStarted (item_after columns interrupts o)
+  after_marker_fine columns interrupts None k = tt
+  after_marker_fine columns interrupts (Some m) k =
+      cond_both (is_item interrupts m) (Some (item columns m)) None FineStarted (λ _. dropped (gap m.rest) m.rest k) (λ _. tt)
+
+  item_fine : (on : Constructs) (interrupts : Bool) (rest : Rest) → Fine rest → FineStarted (item_start on interrupts rest)
+  item_fine on interrupts rest k =
+      let found = marker (bare rest) in
+      cond_both (on.list_item && small_indent on rest && not (is_break on rest)) (item_after (indent rest) interrupts found) None FineStarted
+      (λ _. after_marker_fine (indent rest) interrupts found (marker_fine (bare rest) (dropped (indent rest) rest k))) (λ _. tt)
+
+  either_fine : (other : Option Started) (o : Option Rest) → FineStarted other → FineRest o → FineStarted (quote_or other o)
+  either_fine other None h k = h
+  either_fine other (Some rest) h k = k
+
+  pub starts-fine : (on : Constructs) (interrupts : Bool) (rest : Rest) → Fine rest → FineStarted (starts on interrupts rest)
+  starts-fine on interrupts rest k = either_fine (item_start on interrupts rest) (quote_prefix on rest) (item_fine on interrupts rest k) (quote_fine on rest k)
+
+  pub continues-fine : (on : Constructs) (c : Container) (blank : Bool) (rest : Rest) → Fine rest → FineRest (continues on c blank rest)
+  continues-fine on Quote blank rest k = quote_fine on rest k
+  continues-fine on (Item item) blank rest k =
+      cond_both (is_inside item.size blank rest) (Some (drop item.size rest)) None FineRest (λ _. dropped item.size rest k) (λ _. tt)
+
 module _ (e : LineEnding) where
   -- codes that stay as they are
   abbrev pub Kept : List ℕ → Type 0
@@ -86,75 +161,17 @@ module _ (e : LineEnding) where
 
   -- the rest that is left, if any
   abbrev pub KeptRest : Option Rest → Type 0
-  KeptRest o = IfSome o (λ rest. Kept rest)
-
-  -- the same of the rest after a marker
-  abbrev KeptMarker : Option Marker → Type 0
-  KeptMarker o = IfSome o (λ m. Kept m.rest)
+  KeptRest o = FineRest Kept drop-kept o
 
   -- the same of the rest after what starts a container
   abbrev pub KeptStarted : Option Started → Type 0
-  KeptStarted o = IfSome o (λ s. Kept s.rest)
-
-  byte_kept : (byte : ℕ) (rest : Rest) → Kept rest → KeptRest (after_byte byte rest)
-  byte_kept byte [] k = tt
-  byte_kept byte (code ∷ codes) k = cond_both (eqb code byte) (Some codes) None KeptRest (λ _. drop-kept 1 (code ∷ codes) k) (λ _. tt)
-
-  mark_kept : (o : Option Rest) → KeptRest o → KeptRest (after_mark o)
-  mark_kept None k = tt
-  mark_kept (Some rest) k = outdented-kept 1 rest k
-
-  quote_kept : (on : Constructs) (rest : Rest) → Kept rest → KeptRest (quote_prefix on rest)
-  quote_kept on rest k =
-      let after = after_byte 62 (bare rest) in
-      cond_both (on.block_quote && small_indent on rest) (after_mark after) None KeptRest
-      (λ _. mark_kept after (byte_kept 62 (bare rest) (bare-kept rest k))) (λ _. tt)
-
-  bullet_kept : (rest : Rest) → Kept rest → KeptMarker (bullet rest)
-  bullet_kept [] k = tt
-  bullet_kept (code ∷ codes) k =
-      cond_both (eqb code 45 || eqb code 43 || eqb code 42) (Some (marker_of code None 1 codes)) None KeptMarker
-      (λ _. drop-kept 1 (code ∷ codes) k) (λ _. tt)
-
-  delimiter_kept : (number digits : ℕ) (rest : Rest) → Kept rest → KeptMarker (delimiter number digits rest)
-  delimiter_kept number digits [] k = tt
-  delimiter_kept number digits (code ∷ codes) k =
-      cond_both (eqb code 46 || eqb code 41) (Some (marker_of code (Some number) (digits + 1) codes)) None KeptMarker
-      (λ _. drop-kept 1 (code ∷ codes) k) (λ _. tt)
-
-  ordered_kept : (digits : ℕ) (rest : Rest) → Kept rest → KeptMarker (ordered digits rest)
-  ordered_kept digits rest k =
-      let number = number_of (take digits rest) in
-      cond_both (leb digits 9) (delimiter number digits (drop digits rest)) None KeptMarker
-      (λ _. delimiter_kept number digits (drop digits rest) (drop-kept digits rest k)) (λ _. tt)
-
-  marker_kept : (rest : Rest) → Kept rest → KeptMarker (marker rest)
-  marker_kept rest k =
-      let digits = prefix_len is_digit rest in
-      cond_both (eqb digits 0) (bullet rest) (ordered digits rest) KeptMarker (λ _. bullet_kept rest k) (λ _. ordered_kept digits rest k)
-
-  after_marker_kept : (columns : ℕ) (interrupts : Bool) (o : Option Marker) → KeptMarker o → KeptStarted (item_after columns interrupts o)
-  after_marker_kept columns interrupts None k = tt
-  after_marker_kept columns interrupts (Some m) k =
-      cond_both (is_item interrupts m) (Some (item columns m)) None KeptStarted (λ _. drop-kept (gap m.rest) m.rest k) (λ _. tt)
-
-  item_kept : (on : Constructs) (interrupts : Bool) (rest : Rest) → Kept rest → KeptStarted (item_start on interrupts rest)
-  item_kept on interrupts rest k =
-      let found = marker (bare rest) in
-      cond_both (on.list_item && small_indent on rest && not (is_break on rest)) (item_after (indent rest) interrupts found) None KeptStarted
-      (λ _. after_marker_kept (indent rest) interrupts found (marker_kept (bare rest) (bare-kept rest k))) (λ _. tt)
-
-  either_kept : (other : Option Started) (o : Option Rest) → KeptStarted other → KeptRest o → KeptStarted (quote_or other o)
-  either_kept other None h k = h
-  either_kept other (Some rest) h k = k
+  KeptStarted o = FineStarted Kept drop-kept o
 
   pub starts-kept : (on : Constructs) (interrupts : Bool) (rest : Rest) → Kept rest → KeptStarted (starts on interrupts rest)
-  starts-kept on interrupts rest k = either_kept (item_start on interrupts rest) (quote_prefix on rest) (item_kept on interrupts rest k) (quote_kept on rest k)
+  starts-kept on interrupts rest k = starts-fine Kept drop-kept on interrupts rest k
 
   pub continues-kept : (on : Constructs) (c : Container) (blank : Bool) (rest : Rest) → Kept rest → KeptRest (continues on c blank rest)
-  continues-kept on Quote blank rest k = quote_kept on rest k
-  continues-kept on (Item item) blank rest k =
-      cond_both (is_inside item.size blank rest) (Some (drop item.size rest)) None KeptRest (λ _. drop-kept item.size rest k) (λ _. tt)
+  continues-kept on c blank rest k = continues-fine Kept drop-kept on c blank rest k
 
   -- ---- the content of an ATX heading
 

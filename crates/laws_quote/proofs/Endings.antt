@@ -34,7 +34,7 @@ last_of-quote kids bs =
     at_last (λ last. last_of (join (quote_of kids) last) ≡ last) bs refl (λ b e. cond-true (is_ending b) (one b) Nil e)
 
 -- definitions
-definitions-join : (bs cs : Blocks) → definitions (join bs cs) ≡ definitions bs ++ definitions cs
+pub definitions-join : (bs cs : Blocks) → definitions (join bs cs) ≡ definitions bs ++ definitions cs
 definitions-join Nil cs = refl
 definitions-join (Cons b bs) cs =
     ap (λ ds. block_definitions b ++ ds) (definitions-join bs cs) ∙ sym (append_assoc (block_definitions b) (definitions bs) (definitions cs))

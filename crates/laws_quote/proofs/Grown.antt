@@ -38,7 +38,7 @@ closed_nothing : (cuts : Bool) → with_paragraph (if cuts then cut_most 0 [] el
 closed_nothing true = refl
 closed_nothing false = refl
 
-after-nothing : (on : Constructs) (t : Tree) → after on nothing t ≡ t
+pub after-nothing : (on : Constructs) (t : Tree) → after on nothing t ≡ t
 after-nothing on t = ap (λ closed. tree (join closed t.done) t.now) (closed_nothing on.definition)
 
 -- ---- a line with `> ` before its content

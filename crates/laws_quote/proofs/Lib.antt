@@ -1,5 +1,5 @@
-mod Starting
-mod Grown
+pub mod Starting
+pub mod Grown
 pub mod Tabs
 pub mod Endings
 pub mod Lines

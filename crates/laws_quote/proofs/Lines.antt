@@ -57,10 +57,10 @@ drop-later_quoted [] = refl
 drop-later_quoted (line ∷ ls) = refl
 
 -- a CR before an LF, and before anything else
-after_return_feed : (b : ℕ) (bs : List ℕ) (ls : List TextLine) → eqb b 10 ≡ true → after_return (b ∷ bs) ls ≡ text_line [] (Some CarriageReturnLineFeed) ∷ drop 1 ls
+pub after_return_feed : (b : ℕ) (bs : List ℕ) (ls : List TextLine) → eqb b 10 ≡ true → after_return (b ∷ bs) ls ≡ text_line [] (Some CarriageReturnLineFeed) ∷ drop 1 ls
 after_return_feed b bs ls e = cond-true (eqb b 10) (text_line [] (Some CarriageReturnLineFeed) ∷ drop 1 ls) (text_line [] (Some CarriageReturn) ∷ ls) e
 
-after_return_other : (bs : List ℕ) (ls : List TextLine) → begins_with_feed bs ≡ false → after_return bs ls ≡ text_line [] (Some CarriageReturn) ∷ ls
+pub after_return_other : (bs : List ℕ) (ls : List TextLine) → begins_with_feed bs ≡ false → after_return bs ls ≡ text_line [] (Some CarriageReturn) ∷ ls
 after_return_other [] ls e = refl
 after_return_other (b ∷ bs) ls e = cond-false (eqb b 10) (text_line [] (Some CarriageReturnLineFeed) ∷ drop 1 ls) (text_line [] (Some CarriageReturn) ∷ ls) e
 

@@ -27,7 +27,7 @@ after_frontmatter-off on (line ∷ ls) off =
     else (if matters && is_metadata_fence 43 line.content then after_metadata_fence 43 ls else None))
     off
 
-blocks-children : (on : Constructs) (before : Kind) (text : List ℕ) → on.frontmatter ≡ false → blocks on before text ≡ children on before (lines text)
+pub blocks-children : (on : Constructs) (before : Kind) (text : List ℕ) → on.frontmatter ≡ false → blocks on before text ≡ children on before (lines text)
 blocks-children on before text off = ap (children_after on before (lines text)) (after_frontmatter-off on (lines text) off)
 
 -- ---- one quote

@@ -1,10 +1,13 @@
 -- What the calls promise of a page besides that it is the definition's.
 use Rattle.std.specs.Prelude.{◌≡◌, ◌≢◌, ℕ, true, false, List, [], ◌++◌, codes}
+use Rattle.markdown_options.specs.declared.line_ending.LineEnding.{LineEnding}
 use Rattle.markdown_options.specs.declared.configuration.Options.{Options}
 use Rattle.definition_text.specs.Encode.{encode}
 use Rattle.definition_text.specs.Lines.{has_mark}
 use Rattle.markdown_definition.specs.Html.{html}
 use Rattle.markdown_definition.specs.TextTables.{TextTables}
+use Rattle.laws_endings.specs.Endings.{with_ending}
+use Rattle.laws_endings_page.specs.Laws.{EndsInFeeds}
 use Rattle.laws_inline.specs.Escaped.{escaped, IsTrimmedLine}
 use Rattle.laws_quote.specs.Quoted.{quoted}
 use Rattle.laws_quote_page.specs.Laws.{IsQuotable, quote_around}
@@ -21,3 +24,8 @@ abbrev pub SaysEscapedLine : Options → List ℕ → List ℕ → Type 0
 SaysEscapedLine options value page =
     (line : List ℕ) → value ≡ escaped line → options.parse.constructs.character_escape ≡ true → line ≢ [] → IsTrimmedLine line → has_mark line ≡ false
     → page ≡ codes "<p>" ++ encode line ++ codes "</p>"
+
+-- the page of a text with a line ending in place of each LF is the page of that text with that ending in place of each LF
+abbrev pub EndsPage : TextTables → Options → List ℕ → List ℕ → Type 0
+EndsPage tables options value page =
+    (e : LineEnding) (text : List ℕ) → value ≡ with_ending e text → EndsInFeeds text → page ≡ with_ending e (html tables text options)

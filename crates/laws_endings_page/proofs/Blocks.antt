@@ -1,0 +1,282 @@
+-- What the blocks of a page print, with another line ending in place of each LF.
+use Rattle.std.proofs.Common.{◌≡◌, ℕ, ◌+◌, Bool, true, false, true≢false, cond, eqb, not, ◌||◌, List, [], ◌∷◌, ◌++◌, Option, None, Some, refl, sym, ap, ◌∙◌, subst, arith, map, flat_map, append-nil}
+use Rattle.std.specs.Prelude.{codes}
+use Rattle.std.specs.Option.{option_map}
+use Rattle.std.proofs.lemmas.Bool.{cond_both, ne_eqb}
+use Rattle.markdown_options.specs.declared.line_ending.LineEnding.{LineEnding}
+use Rattle.markdown_options.specs.declared.line_ending.LineEnding.TheVariants.{CarriageReturnLineFeed, CarriageReturn, LineFeed}
+use Rattle.markdown_options.specs.LineEndings.{ending_bytes}
+use Rattle.definition_text.specs.BlockLines.{BlockLine}
+use Rattle.definition_text.specs.Lines.{ending_text}
+use Rattle.definition_text.specs.Columns.{is_byte, is_tab_column, code_byte, bytes_of}
+use Rattle.definition_text.specs.Encode.{encode}
+use Rattle.definition_inline.specs.Inline.{Linked, Inlines}
+use Rattle.definition_page.specs.Tags.{Words, Number, Attribute, attribute, tag, bare_tag}
+use Rattle.definition_page.specs.Pieces.{Piece, Void, Says, Eol, Fresh}
+use Rattle.definition_page.specs.InlinePieces.{Meaning, raw_html, element, inline_pieces}
+use Rattle.definition_page.specs.Page.{Block, Paragraph, Heading, Break, IndentedCode, FencedCode, Html, Definition, Quote, ItemList, Item, Ending, Blank, Blocks, Nil, Cons}
+use Rattle.definition_page.specs.BlockPieces.{Place, inside, code_line, html_line, says, heading_name, info_attributes, start_attributes, list_tag, is_silent, last_shown, ends_plainly, fresh_unless, fenced_pieces, block_pieces, children_pieces}
+use Rattle.laws_endings.specs.Endings.{with_ending, ending_with, if_ending_with, codes_with, line_with, lines_with}
+use Rattle.laws_endings.specs.Inlines.{inlines_with}
+use Rattle.laws_endings_page.proofs.Each.{WhereSome, each_filter, each_map}
+use Rattle.laws_endings_page.proofs.Fits.{Plain}
+use Rattle.laws_endings_page.proofs.InlineReads.{AreFit}
+use Rattle.laws_endings_page.proofs.BlockReads.{IsFed, LineFits, LinesFit}
+use Rattle.laws_endings_page.proofs.Bytes.{IsNoFeed, decimal_no_feed, with-append, kept, encode-with}
+use Rattle.laws_endings_page.proofs.Saids.{plains_no_feed, codes-kept, SaidWith, SaidsWith, says_more, says_one, says_append, words-kept, raw-kept}
+use Rattle.laws_endings_page.proofs.Printed.{LinkedFits, BytesWith, AttributesWith, attribute-with, more_attributes, PiecesWith, no_pieces, append-with, more-with, said-with, void_piece-with, eol_piece-with, fresh_piece-with, element-with, saids-with, linked_with, inlines-with}
+use Rattle.laws_endings_page.proofs.Pages.{page_block_with, page_blocks_with, InfoFits, PageBlockFits, PageFits}
+
+space_plain : (c : ℕ) → Plain c → Plain (code_byte c)
+space_plain c p = cond_both (is_tab_column c) 32 c Plain (λ _. ((refl, refl), refl)) (λ _. p)
+
+module _ (e : LineEnding) where
+  -- ---- lines
+
+  ending-words : (ending : Option LineEnding) → IsFed ending → SaidWith e (Words (ending_text (if_ending_with e ending))) (Words (ending_text ending))
+  ending-words None f = refl
+  ending-words (Some LineFeed) f = ap encode (sym (append-nil (ending_bytes e))) ∙ encode-with e (10 ∷ [])
+  ending-words (Some CarriageReturn) f = absurd (true≢false f)
+  ending-words (Some CarriageReturnLineFeed) f = absurd (true≢false f)
+
+  code_line-with : (line : BlockLine) → LineFits line → SaidsWith e (code_line (line_with e line)) (code_line line)
+  code_line-with line p =
+      let bytes = map code_byte line.codes in
+      let ending' = Words (ending_text (if_ending_with e line.ending)) in
+      let ending = Words (ending_text line.ending) in
+      says_more e (Words (map code_byte (codes_with e line.codes))) (Words bytes) (ending' ∷ []) (ending ∷ [])
+      (ap (λ cs. encode (map code_byte cs)) (codes-kept e line.codes (plains_no_feed line.codes p.0))
+      ∙ words-kept e bytes (plains_no_feed bytes (each_map Plain Plain code_byte line.codes space_plain p.0)))
+      (says_one e ending' ending (ending-words line.ending p.1.0))
+
+  code_lines-with : (ls : List BlockLine) → LinesFit ls → SaidsWith e (flat_map code_line (lines_with e ls)) (flat_map code_line ls)
+  code_lines-with [] p = refl
+  code_lines-with (line ∷ ls) p =
+      says_append e (code_line (line_with e line)) (code_line line) (flat_map code_line (lines_with e ls)) (flat_map code_line ls) (code_line-with line p.0)
+      (code_lines-with ls p.1)
+
+  module _ (m : Meaning) (other : List ℕ → Option Linked) (leads : (label : List ℕ) → other (codes_with e label) ≡ option_map (linked_with e) (m.definition label))
+      (fits : (label : List ℕ) → WhereSome LinkedFits (m.definition label)) where
+    abbrev m' : Meaning
+    m' = record m { definition = other }
+
+    html_line-with : (line : BlockLine) → LineFits line → SaidsWith e (html_line m.compile (line_with e line)) (html_line m.compile line)
+    html_line-with line p =
+        let html = raw_html m.compile (bytes_of line.codes) in
+        let ending' = Words (ending_text (if_ending_with e line.ending)) in
+        let ending = Words (ending_text line.ending) in
+        let clear = plains_no_feed line.codes p.0 in
+        says_more e (raw_html m.compile (bytes_of (codes_with e line.codes))) html (ending' ∷ []) (ending ∷ [])
+        (subst (λ cs. SaidWith e (raw_html m.compile (bytes_of cs)) html) (sym (codes-kept e line.codes clear))
+        (raw-kept e m.compile (bytes_of line.codes) (each_filter IsNoFeed is_byte line.codes clear)))
+        (says_one e ending' ending (ending-words line.ending p.1.0))
+
+    html_lines-with : (ls : List BlockLine) → LinesFit ls → SaidsWith e (flat_map (html_line m.compile) (lines_with e ls)) (flat_map (html_line m.compile) ls)
+    html_lines-with [] p = refl
+    html_lines-with (line ∷ ls) p =
+        says_append e (html_line m.compile (line_with e line)) (html_line m.compile line) (flat_map (html_line m.compile) (lines_with e ls))
+        (flat_map (html_line m.compile) ls) (html_line-with line p.0) (html_lines-with ls p.1)
+
+    -- ---- tags
+
+    heading-kept : (rank : ℕ) → BytesWith e (heading_name rank) (heading_name rank)
+    heading-kept rank = sym (kept e (heading_name rank) (refl, (ne_eqb (48 + rank) 10 (λ is. omega (arith, is)), tt)))
+
+    info-with : (info : Option (List ℕ)) → InfoFits e info → AttributesWith e (info_attributes info) (info_attributes info)
+    info-with None p = refl
+    info-with (Some info) p =
+        let text = codes "language-" ++ info in
+        let class = attribute (codes "class") text in
+        let same : with_ending e text ≡ text = with-append e (codes "language-") info ∙ ap (λ x. codes "language-" ++ x) p in
+        more_attributes e class class [] []
+        (attribute-with e (codes "class") (Words text ∷ []) (Words text ∷ []) refl
+        (says_one e (Words text) (Words text) (ap encode (sym same) ∙ encode-with e text))) refl
+
+    start-attributes : (number : ℕ) → AttributesWith e (start_attributes number) (start_attributes number)
+    start-attributes number =
+        let start : Attribute = record { name = codes "start"; value = Number number ∷ [] } in
+        cond_both (eqb number 1) [] (start ∷ []) (λ all. AttributesWith e all all) (λ _. refl)
+        (λ _. more_attributes e start start [] []
+        (attribute-with e (codes "start") (Number number ∷ []) (Number number ∷ []) refl
+        (says_one e (Number number) (Number number) (sym (kept e _ (decimal_no_feed number))))) refl)
+
+    list-with : (number : Option ℕ) (inside' inside : List Piece) → PiecesWith e inside' inside
+        → PiecesWith e (element (list_tag number) inside') (element (list_tag number) inside)
+    list-with None inside' inside p = element-with e (codes "ul") [] [] inside' inside refl refl p
+    list-with (Some number) inside' inside p =
+        element-with e (codes "ol") (start_attributes number) (start_attributes number) inside' inside refl (start-attributes number) p
+
+    bare-with : (name : List ℕ) (inside' inside : List Piece) → BytesWith e name name → PiecesWith e inside' inside
+        → PiecesWith e (element (bare_tag name) inside') (element (bare_tag name) inside)
+    bare-with name inside' inside p q = element-with e name [] [] inside' inside p refl q
+
+    -- ---- siblings
+
+    abbrev sibling_with : Option Block → Option Block
+    sibling_with b = option_map (page_block_with e) b
+
+    is_silent-with : (place : Place) (b : Option Block) → is_silent place (sibling_with b) ≡ is_silent place b
+    is_silent-with place None = refl
+    is_silent-with place (Some (Paragraph is)) = refl
+    is_silent-with place (Some (Heading rank is)) = refl
+    is_silent-with place (Some Break) = refl
+    is_silent-with place (Some (IndentedCode ls)) = refl
+    is_silent-with place (Some (FencedCode info is_closed ls)) = refl
+    is_silent-with place (Some (Html ls)) = refl
+    is_silent-with place (Some Definition) = refl
+    is_silent-with place (Some (Quote kids)) = refl
+    is_silent-with place (Some (ItemList number loose items)) = refl
+    is_silent-with place (Some (Item kids)) = refl
+    is_silent-with place (Some (Ending ending)) = refl
+    is_silent-with place (Some (Blank ending)) = refl
+
+    last_shown-with : (b : Option Block) (bs : Blocks) → last_shown (sibling_with b) (page_blocks_with e bs) ≡ sibling_with (last_shown b bs)
+    last_shown-with b Nil = refl
+    last_shown-with b (Cons (Paragraph is) bs) = last_shown-with (Some (Paragraph is)) bs
+    last_shown-with b (Cons (Heading rank is) bs) = last_shown-with (Some (Heading rank is)) bs
+    last_shown-with b (Cons Break bs) = last_shown-with (Some Break) bs
+    last_shown-with b (Cons (IndentedCode ls) bs) = last_shown-with (Some (IndentedCode ls)) bs
+    last_shown-with b (Cons (FencedCode info is_closed ls) bs) = last_shown-with (Some (FencedCode info is_closed ls)) bs
+    last_shown-with b (Cons (Html ls) bs) = last_shown-with (Some (Html ls)) bs
+    last_shown-with b (Cons Definition bs) = last_shown-with b bs
+    last_shown-with b (Cons (Quote kids) bs) = last_shown-with (Some (Quote kids)) bs
+    last_shown-with b (Cons (ItemList number loose items) bs) = last_shown-with (Some (ItemList number loose items)) bs
+    last_shown-with b (Cons (Item kids) bs) = last_shown-with (Some (Item kids)) bs
+    last_shown-with b (Cons (Ending ending) bs) = last_shown-with b bs
+    last_shown-with b (Cons (Blank ending) bs) = last_shown-with b bs
+
+    ends_plainly-with : (tight : Bool) (b : Option Block) → ends_plainly tight (sibling_with b) ≡ ends_plainly tight b
+    ends_plainly-with tight None = refl
+    ends_plainly-with tight (Some (Paragraph is)) = refl
+    ends_plainly-with tight (Some (Heading rank is)) = refl
+    ends_plainly-with tight (Some Break) = refl
+    ends_plainly-with tight (Some (IndentedCode ls)) = refl
+    ends_plainly-with tight (Some (FencedCode info is_closed ls)) = refl
+    ends_plainly-with tight (Some (Html ls)) = refl
+    ends_plainly-with tight (Some Definition) = refl
+    ends_plainly-with tight (Some (Quote kids)) = refl
+    ends_plainly-with tight (Some (ItemList number loose items)) = refl
+    ends_plainly-with tight (Some (Item kids)) = refl
+    ends_plainly-with tight (Some (Ending ending)) = refl
+    ends_plainly-with tight (Some (Blank ending)) = refl
+
+    pub fresh_unless-with : (said : Bool) → PiecesWith e (fresh_unless said) (fresh_unless said)
+    fresh_unless-with true = no_pieces e
+    fresh_unless-with false = fresh_piece-with e
+
+    -- ---- blocks
+
+    fresh-then : (others ones : List Piece) → PiecesWith e others ones → PiecesWith e (Fresh ∷ others) (Fresh ∷ ones)
+    fresh-then others ones p = more-with e Fresh Fresh others ones (fresh_piece-with e) p
+
+    eol_unless : (said : Bool) → PiecesWith e (cond said [] (Eol ∷ [])) (cond said [] (Eol ∷ []))
+    eol_unless true = no_pieces e
+    eol_unless false = eol_piece-with e
+
+    code-says : (ls : List BlockLine) → LinesFit ls → PiecesWith e (says (flat_map code_line (lines_with e ls))) (says (flat_map code_line ls))
+    code-says ls p = saids-with e (flat_map code_line (lines_with e ls)) (flat_map code_line ls) (code_lines-with ls p)
+
+    fenced-with : (place : Place) (is_closed : Bool) (ls : List BlockLine) → LinesFit ls
+        → PiecesWith e (fenced_pieces place is_closed (lines_with e ls)) (fenced_pieces place is_closed ls)
+    fenced-with place is_closed [] p = no_pieces e
+    fenced-with place is_closed (line ∷ ls) p =
+        let all' = says (flat_map code_line (lines_with e (line ∷ ls))) in
+        let all = says (flat_map code_line (line ∷ ls)) in
+        let eol : List Piece = cond (place.top || is_closed) [] (Eol ∷ []) in
+        append-with e (all' ++ eol) (all ++ eol) (Fresh ∷ []) (Fresh ∷ [])
+        (append-with e all' all eol eol (code-says (line ∷ ls) p) (eol_unless (place.top || is_closed))) (fresh_piece-with e)
+
+    ending-with : (place : Place) (before : Option Block) (ending : LineEnding) (silent : Bool) → IsFed (Some ending)
+        → PiecesWith e (cond silent [] (Says (Words (ending_bytes (ending_with e ending))) ∷ [])) (cond silent [] (Says (Words (ending_bytes ending)) ∷ []))
+    ending-with place before ending true f = no_pieces e
+    ending-with place before LineFeed false f =
+        said-with e (Words (ending_bytes e)) (Words (ending_bytes LineFeed)) (ending-words (Some LineFeed) tt)
+    ending-with place before CarriageReturn false f = absurd (true≢false f)
+    ending-with place before CarriageReturnLineFeed false f = absurd (true≢false f)
+
+    text-with : (is : Inlines) → AreFit is → PiecesWith e (inline_pieces m' (inlines_with e is)) (inline_pieces m is)
+    text-with is p = inlines-with e m other leads fits is p
+
+    paragraph-with : (tight : Bool) (is : Inlines) → AreFit is
+        → PiecesWith e (cond tight (inline_pieces m' (inlines_with e is)) (Fresh ∷ element (bare_tag (codes "p")) (inline_pieces m' (inlines_with e is))))
+        (cond tight (inline_pieces m is) (Fresh ∷ element (bare_tag (codes "p")) (inline_pieces m is)))
+    paragraph-with true is p = text-with is p
+    paragraph-with false is p =
+        let ps' = inline_pieces m' (inlines_with e is) in
+        let ps = inline_pieces m is in
+        fresh-then (element (bare_tag (codes "p")) ps') (element (bare_tag (codes "p")) ps) (bare-with (codes "p") ps' ps refl (text-with is p))
+
+    mutual
+      block-with : (place : Place) (before : Option Block) (b : Block) → PageBlockFits e b
+          → PiecesWith e (block_pieces m' place (sibling_with before) (page_block_with e b)) (block_pieces m place before b)
+      block-with place before (Paragraph is) p = paragraph-with place.tight is p
+      block-with place before (Heading rank is) p =
+          let ps' = inline_pieces m' (inlines_with e is) in
+          let ps = inline_pieces m is in
+          fresh-then (element (bare_tag (heading_name rank)) ps') (element (bare_tag (heading_name rank)) ps)
+          (bare-with (heading_name rank) ps' ps (heading-kept rank) (text-with is p))
+      block-with place before Break p =
+          let hr = Void (bare_tag (codes "hr")) ∷ [] in fresh-then hr hr (void_piece-with e (codes "hr") [] [] refl refl)
+      block-with place before (IndentedCode ls) p =
+          let all' = says (flat_map code_line (lines_with e ls)) ++ Fresh ∷ [] in
+          let all = says (flat_map code_line ls) ++ Fresh ∷ [] in
+          let code' = element (bare_tag (codes "code")) all' in
+          let code = element (bare_tag (codes "code")) all in
+          fresh-then (element (bare_tag (codes "pre")) code') (element (bare_tag (codes "pre")) code)
+          (bare-with (codes "pre") code' code refl
+          (bare-with (codes "code") all' all refl
+          (append-with e (says (flat_map code_line (lines_with e ls))) (says (flat_map code_line ls)) (Fresh ∷ []) (Fresh ∷ []) (code-says ls p)
+          (fresh_piece-with e))))
+      block-with place before (FencedCode info is_closed ls) p =
+          let all' = fenced_pieces place is_closed (lines_with e ls) in
+          let all = fenced_pieces place is_closed ls in
+          let code' = element (tag (codes "code") (info_attributes info)) all' in
+          let code = element (tag (codes "code") (info_attributes info)) all in
+          let pre' = element (bare_tag (codes "pre")) code' in
+          let pre = element (bare_tag (codes "pre")) code in
+          append-with e (Fresh ∷ pre') (Fresh ∷ pre) (fresh_unless is_closed) (fresh_unless is_closed)
+          (fresh-then pre' pre
+          (bare-with (codes "pre") code' code refl
+          (element-with e (codes "code") (info_attributes info) (info_attributes info) all' all refl (info-with info p.0) (fenced-with place is_closed ls p.1))))
+          (fresh_unless-with is_closed)
+      block-with place before (Html ls) p =
+          fresh-then (says (flat_map (html_line m.compile) (lines_with e ls))) (says (flat_map (html_line m.compile) ls))
+          (saids-with e (flat_map (html_line m.compile) (lines_with e ls)) (flat_map (html_line m.compile) ls) (html_lines-with ls p))
+      block-with place before Definition p = no_pieces e
+      block-with place before (Quote kids) p =
+          let kids' = children_pieces m' (inside false) None (page_blocks_with e kids) in
+          let ps = children_pieces m (inside false) None kids in
+          fresh-then (element (bare_tag (codes "blockquote")) (kids' ++ Fresh ∷ [])) (element (bare_tag (codes "blockquote")) (ps ++ Fresh ∷ []))
+          (bare-with (codes "blockquote") (kids' ++ Fresh ∷ []) (ps ++ Fresh ∷ []) refl
+          (append-with e kids' ps (Fresh ∷ []) (Fresh ∷ []) (children-with (inside false) None kids p) (fresh_piece-with e)))
+      block-with place before (ItemList number loose items) p =
+          let items' = children_pieces m' (inside (not loose)) None (page_blocks_with e items) in
+          let ps = children_pieces m (inside (not loose)) None items in
+          fresh-then (element (list_tag number) (items' ++ Eol ∷ [])) (element (list_tag number) (ps ++ Eol ∷ []))
+          (list-with number (items' ++ Eol ∷ []) (ps ++ Eol ∷ [])
+          (append-with e items' ps (Eol ∷ []) (Eol ∷ []) (children-with (inside (not loose)) None items p) (eol_piece-with e)))
+      block-with place before (Item kids) p =
+          let kids' = children_pieces m' (inside place.tight) None (page_blocks_with e kids) in
+          let ps = children_pieces m (inside place.tight) None kids in
+          let end = fresh_unless (ends_plainly place.tight (last_shown None kids)) in
+          let same : ends_plainly place.tight (last_shown None (page_blocks_with e kids)) ≡ ends_plainly place.tight (last_shown None kids) =
+          ap (ends_plainly place.tight) (last_shown-with None kids) ∙ ends_plainly-with place.tight (last_shown None kids) in
+          subst (λ plainly. PiecesWith e (Fresh ∷ element (bare_tag (codes "li")) (kids' ++ fresh_unless plainly)) (Fresh ∷ element (bare_tag (codes "li")) (ps ++ end)))
+          (sym same)
+          (fresh-then (element (bare_tag (codes "li")) (kids' ++ end)) (element (bare_tag (codes "li")) (ps ++ end))
+          (bare-with (codes "li") (kids' ++ end) (ps ++ end) refl
+          (append-with e kids' ps end end (children-with (inside place.tight) None kids p)
+          (fresh_unless-with (ends_plainly place.tight (last_shown None kids))))))
+      block-with place before (Ending ending) p =
+          subst (λ silent. PiecesWith e (cond silent [] (Says (Words (ending_bytes (ending_with e ending))) ∷ []))
+          (cond (is_silent place before) [] (Says (Words (ending_bytes ending)) ∷ [])))
+          (sym (is_silent-with place before)) (ending-with place before ending (is_silent place before) p)
+      block-with place before (Blank ending) p = no_pieces e
+
+      pub children-with : (place : Place) (before : Option Block) (bs : Blocks) → PageFits e bs
+          → PiecesWith e (children_pieces m' place (sibling_with before) (page_blocks_with e bs)) (children_pieces m place before bs)
+      children-with place before Nil p = no_pieces e
+      children-with place before (Cons b bs) p =
+          append-with e (block_pieces m' place (sibling_with before) (page_block_with e b)) (block_pieces m place before b)
+          (children_pieces m' place (Some (page_block_with e b)) (page_blocks_with e bs)) (children_pieces m place (Some b) bs)
+          (block-with place before b p.0) (children-with place (Some b) bs p.1)

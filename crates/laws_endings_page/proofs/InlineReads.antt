@@ -1,0 +1,441 @@
+-- The inline structure of a content of codes that stand for themselves: its parts are such codes, and no character reference is among them.
+use Rattle.std.proofs.Common.{◌≡◌, ℕ, suc, zero, ◌+◌, ◌-◌, Bool, true, false, cond, eqb, ◌&&◌, ◌==◌, List, [], ◌∷◌, ◌++◌, map, reverse, replicate, filter, fold, Option, None, Some, take, drop, refl, sym, subst}
+use Rattle.std.specs.Prelude.{codes}
+use Rattle.std.specs.Char.{is_ascii_punctuation}
+use Rattle.std.specs.List.{prefix_len}
+use Rattle.std.proofs.lemmas.Bool.{cond_both, cond-false, and_parts}
+use Rattle.markdown_options.specs.declared.configuration.Constructs.{Constructs}
+use Rattle.definition_text.specs.Columns.{is_white, indent}
+use Rattle.definition_text.specs.Bytes.{begins_with, after_all}
+use Rattle.definition_text.specs.Content.{Part, before, up_to, is_eol}
+use Rattle.definition_text.specs.Runs.{run, after_run}
+use Rattle.definition_text.specs.InlineCode.{InlineCode, codes_of}
+use Rattle.definition_inline.specs.Inline.{Target, Resource, Reference, Inline, Data, Escape, Character, Code, Math, Autolink, Html, EscapedBreak, TrailingBreak, LineEnd, Emphasis, Strong, Strikethrough, Link, Image, Inlines, Nil, Cons, followed_by, Leaf, leaf, or_else}
+use Rattle.definition_inline.specs.CharacterEscape.{escape_at}
+use Rattle.definition_inline.specs.CharacterReference.{reference_form, reference_after, reference_of, reference_at}
+use Rattle.definition_inline.specs.CodeText.{run_of, raw_part, raw_leaf, raw_at, code_text_at}
+use Rattle.definition_inline.specs.MathText.{may_open_math, math_text_at}
+use Rattle.definition_inline.specs.Autolink.{is_scheme_byte, is_uri_byte, begins_with_scheme, after_uri, uri_end, is_email_byte, is_domain_byte, domain_end, email_end, closed_autolink, autolink_after, autolink_at}
+use Rattle.definition_inline.specs.HtmlText.{html_byte, html_end, html_leaf, html_text_at}
+use Rattle.definition_inline.specs.HardBreak.{line_end_at, escaped_break_at, is_trailing_break, line_spaces_at}
+use Rattle.definition_inline.specs.Space.{after_white, begins_with_space}
+use Rattle.definition_inline.specs.Resource.{LinkResource, resource_end, with_title, opens_title, with_destination, resource_inside, resource_at}
+use Rattle.definition_inline.specs.Label.{label_at}
+use Rattle.definition_inline.specs.Destination.{destination_at}
+use Rattle.definition_inline.specs.Title.{title_at}
+use Rattle.definition_inline.specs.LabelEnd.{Ended, by_text, by_label, by_resource, label_end_at}
+use Rattle.definition_inline.specs.Attention.{Run, is_marker, run_at}
+use Rattle.definition_inline.specs.Pairing.{Pair, pairs}
+use Rattle.definition_inline.specs.Spans.{Token, Item, Delimiters, runs_of, Span, IsEmphasis, IsStrong, IsStrikethrough, span_of, SpanRow, Holds, Opens, Closes, bytes_taken, run_rows, rows_from, OpenSpan, Nest, nest, spanned, leave, nest_row, emphasized}
+use Rattle.definition_inline.specs.Scan.{InlineContext, leaf_at, LabelStart, LinkStart, ImageStart, label_start_at, start_tokens, may_form, label_part, Text, text, OpenLabel, Reading, reading, read_tokens, unformed, formed, Step, Next, data_step, ended_step, ended_by, label_end_step, last_step, label_step, run_step, leaf_step, step, and_then, scan, whole_text, inlines}
+use Rattle.laws_endings.proofs.Contents.{no_ending}
+use Rattle.laws_endings_page.proofs.Each.{Each, each-append, each-take, each-drop, each_map, each_same, WhereSome, where_passed}
+use Rattle.laws_endings_page.proofs.Characters.{may_mark}
+use Rattle.laws_endings_page.proofs.Neighbours.{marker_marks}
+use Rattle.laws_endings_page.proofs.Fits.{Single, Plain, each_plain, no_ending_by, plain_byte, all_passed, Apart, before_apart, after_all_apart, after_byte_apart, apart_from, white_fits, PartFits, title_fits, DestinationFits, destination_fits, TitleFits, code_text_fits}
+
+-- where something leads: a destination without line endings, and a title
+abbrev pub TargetFits : Target → Type 0
+TargetFits (Resource destination title) = Each Plain destination × TitleFits title
+TargetFits (Reference label) = Unit {0}
+
+-- parts of such codes, and no character reference
+abbrev mutual
+  pub IsFit : Inline → Type 0
+  IsFit (Data b) = Plain b
+  IsFit (Escape b) = Plain b
+  IsFit (Character bytes) = true ≡ false
+  IsFit (Code text) = Each Plain text
+  IsFit (Math text) = Each Plain text
+  IsFit (Autolink is_email text) = Each Plain text
+  IsFit (Html html) = Each Single html
+  IsFit EscapedBreak = Unit {0}
+  IsFit TrailingBreak = Unit {0}
+  IsFit (LineEnd code) = Single code
+  IsFit (Emphasis kids) = AreFit kids
+  IsFit (Strong kids) = AreFit kids
+  IsFit (Strikethrough kids) = AreFit kids
+  IsFit (Link target kids) = TargetFits target × AreFit kids
+  IsFit (Image target kids) = TargetFits target × AreFit kids
+
+  pub AreFit : Inlines → Type 0
+  AreFit Nil = Unit {0}
+  AreFit (Cons i is) = IsFit i × AreFit is
+
+-- ---- resources
+
+abbrev ResourceFits : Option LinkResource → Type 0
+ResourceFits o = WhereSome (λ (r : LinkResource). Each Plain r.destination × TitleFits r.title) o
+
+resource_end_fits : (destination : List ℕ) (title : Option (List ℕ)) (cs : List ℕ) → Each Plain destination → TitleFits title
+    → ResourceFits (resource_end destination title cs)
+resource_end_fits destination title [] p q = tt
+resource_end_fits destination title (c ∷ cs) p q = where_passed (λ (r : LinkResource). Each Plain r.destination × TitleFits r.title) (eqb c 41) _ (p, q)
+
+resource_title_fits : (destination : List ℕ) (o : Option Part) → Each Plain destination → PartFits Single o → ResourceFits (with_title destination o)
+resource_title_fits destination None p q = tt
+resource_title_fits destination (Some title) p q = resource_end_fits destination (Some title.text) (after_white title.rest) p q.0
+
+resource_destination_fits : (o : Option Part) → DestinationFits o → ResourceFits (with_destination o)
+resource_destination_fits None p = tt
+resource_destination_fits (Some destination) p =
+    let next = after_white destination.rest in
+    cond_both (begins_with_space destination.rest && opens_title next) (with_title destination.text (title_at next)) _ ResourceFits
+    (λ _. resource_title_fits destination.text (title_at next) p.0 (title_fits Single next (white_fits Single destination.rest p.1)))
+    (λ _. resource_end_fits destination.text None next p.0 tt)
+
+resource_inside_fits : (cs : List ℕ) → Each Single cs → ResourceFits (resource_inside cs)
+resource_inside_fits [] p = tt
+resource_inside_fits (c ∷ cs) p =
+    cond_both (eqb c 41) (resource_end [] None (c ∷ cs)) (with_destination (destination_at (Some 32) (c ∷ cs))) ResourceFits
+    (λ _. resource_end_fits [] None (c ∷ cs) tt tt)
+    (λ _. resource_destination_fits (destination_at (Some 32) (c ∷ cs)) (destination_fits (Some 32) (c ∷ cs) p))
+
+resource_fits : (cs : List ℕ) → Each Single cs → ResourceFits (resource_at cs)
+resource_fits [] p = tt
+resource_fits (c ∷ cs) p =
+    cond_both (eqb c 40) (resource_inside (after_white cs)) None ResourceFits
+    (λ _. resource_inside_fits (after_white cs) (white_fits Single cs p.1)) (λ _. tt)
+
+abbrev EndedFits : Option Ended → Type 0
+EndedFits o = WhereSome (λ (found : Ended). TargetFits found.target) o
+
+module _ (is_defined : List ℕ → Bool) where
+  by_text_fits : (text rest : List ℕ) → EndedFits (by_text is_defined text rest)
+  by_text_fits text rest = where_passed (λ (found : Ended). TargetFits found.target) _ _ tt
+
+  by_label_fits : (text rest : List ℕ) (o : Option Part) → EndedFits (by_label is_defined text rest o)
+  by_label_fits text rest None = by_text_fits text rest
+  by_label_fits text rest (Some label) = where_passed (λ (found : Ended). TargetFits found.target) (is_defined label.text) _ tt
+
+  by_resource_fits : (text rest : List ℕ) (o : Option LinkResource) → ResourceFits o → EndedFits (by_resource is_defined text rest o)
+  by_resource_fits text rest None p = by_label_fits text rest (label_at rest)
+  by_resource_fits text rest (Some resource) p = p
+
+  ended_fits : (text rest : List ℕ) → Each Single rest → EndedFits (label_end_at is_defined text rest)
+  ended_fits text rest p = by_resource_fits text rest (resource_at rest) (resource_fits rest p)
+
+-- ---- constructs that hold no other
+
+abbrev pub LeafFits : Leaf → Type 0
+LeafFits l = Each IsFit l.parts
+
+abbrev pub BeginsFit : Option Leaf → Type 0
+BeginsFit o = WhereSome LeafFits o
+
+pub begin_or : (a b : Option Leaf) → BeginsFit a → BeginsFit b → BeginsFit (or_else a b)
+begin_or None b p q = q
+begin_or (Some l) b p q = p
+
+part_fits : (marker : ℕ) (text : List ℕ) → Each Single text → IsFit (raw_part marker text)
+part_fits marker text p = cond_both (marker == 36) _ _ IsFit (λ _. code_text_fits text p) (λ _. code_text_fits text p)
+
+raw_none_fits : (marker : ℕ) (content : List ℕ) → Plain marker → Each IsFit (map Data (take (run marker content) content))
+raw_none_fits marker content h =
+    each_map Plain IsFit Data (take (run marker content) content) (λ b p. p)
+    (all_passed (λ b. eqb b marker) Plain content (λ b is. plain_byte b marker h is))
+
+raw_fits : (marker : ℕ) (content rest : List ℕ) (o : Option (List ℕ)) → Plain marker → Each Single rest
+    → LeafFits (raw_leaf marker (run marker content) content (up_to rest o))
+raw_fits marker content rest None h p = raw_none_fits marker content h
+raw_fits marker content rest (Some end) h p = (part_fits marker (before rest end) (each-take Single _ rest p), tt)
+
+raw_at_fits : (marker : ℕ) (may_open : Bool) (content : List ℕ) → Plain marker → Each Single content → BeginsFit (raw_at marker may_open content)
+raw_at_fits marker may_open content h p =
+    let n = run marker content in
+    let rest = after_run marker content in
+    where_passed LeafFits _ (raw_leaf marker n content (up_to rest (run_of marker n false rest)))
+    (raw_fits marker content rest (run_of marker n false rest) h (each-drop Single n content p))
+
+-- ---- autolinks
+
+abbrev EndsClear : List ℕ → Option (List ℕ) → Type 0
+EndsClear content o = WhereSome (Apart content) o
+
+uri_clear : (content : List ℕ) → EndsClear content (uri_end content)
+uri_clear content =
+    let rest = after_all is_scheme_byte content in
+    let colon = begins_with (codes ":") rest in
+    cond_both (begins_with_scheme content && colon) (Some (after_uri rest)) None (EndsClear content)
+    (λ h. apart_from content rest (after_uri rest) (after_all_apart is_scheme_byte content refl refl refl)
+    (after_byte_apart 58 rest (after_uri rest) refl (and_parts (begins_with_scheme content) colon h).1 (after_all_apart is_uri_byte (drop 1 rest) refl refl refl)))
+    (λ _. tt)
+
+email_clear : (content : List ℕ) → EndsClear content (email_end content)
+email_clear content =
+    let rest = after_all is_email_byte content in
+    let inner = drop 1 rest in
+    let at = begins_with (codes "@") rest in
+    cond_both (_ && at) (domain_end inner) None (EndsClear content)
+    (λ h. cond_both _ (Some (after_all is_domain_byte inner)) None (EndsClear content)
+    (λ _. apart_from content rest (after_all is_domain_byte inner) (after_all_apart is_email_byte content refl refl refl)
+    (after_byte_apart 64 rest (after_all is_domain_byte inner) refl (and_parts _ at h).1 (after_all_apart is_domain_byte inner refl refl refl)))
+    (λ _. tt))
+    (λ _. tt)
+
+autolink_fits : (is_email : Bool) (content : List ℕ) (o : Option (List ℕ)) → Each Single content → EndsClear content o
+    → BeginsFit (closed_autolink is_email content o)
+autolink_fits is_email content None p q = tt
+autolink_fits is_email content (Some rest) p q =
+    where_passed LeafFits _ (leaf (Autolink is_email (before content rest) ∷ []) _)
+    (each_plain (before content rest) (each-take Single _ content p) (before_apart content rest q), tt)
+
+html_fits : (content : List ℕ) (o : Option (List ℕ)) → Each Single content → BeginsFit (html_leaf content o)
+html_fits content None p = tt
+html_fits content (Some rest) p = (each-take Single _ content p, tt)
+
+module _ (on : Constructs) where
+  pub escape_fits : (content : List ℕ) → Each Single content → BeginsFit (escape_at on content)
+  escape_fits [] p = tt
+  escape_fits (c ∷ []) p = tt
+  escape_fits (c ∷ next ∷ cs) p =
+      cond_both (on.character_escape && (eqb c 92 && is_ascii_punctuation next)) (Some (leaf (Escape next ∷ []) 2)) None BeginsFit
+      (λ h. (
+        (
+          p.1.0,
+          no_ending_by is_ascii_punctuation next refl refl refl
+              (and_parts (eqb c 92) (is_ascii_punctuation next) (and_parts on.character_escape _ h).1).1,
+        ),
+        tt,
+      ))
+      (λ _. tt)
+
+  escaped_break_fits : (content : List ℕ) → BeginsFit (escaped_break_at on content)
+  escaped_break_fits [] = tt
+  escaped_break_fits (c ∷ cs) = where_passed LeafFits _ (leaf (EscapedBreak ∷ []) 1) (tt, tt)
+
+  -- no reference begins without its `&`
+  no_reference : (names : List ℕ → Option (List ℕ)) (content : List ℕ) → Each Single content → reference_form content ≡ None
+  no_reference names [] p = refl
+  no_reference names (c ∷ cs) p = cond-false (eqb c 38) (reference_after cs) None p.0.0
+
+  pub reference_fits : (names : List ℕ → Option (List ℕ)) (content : List ℕ) → Each Single content → BeginsFit (reference_at on names content)
+  reference_fits names content p =
+      cond_both on.character_reference (reference_of names content (reference_form content)) None BeginsFit
+      (λ _. subst (λ form. BeginsFit (reference_of names content form)) (sym (no_reference names content p)) tt) (λ _. tt)
+
+  autolink_at_fits : (content : List ℕ) → Each Single content → BeginsFit (autolink_at on content)
+  autolink_at_fits content p =
+      let inner = drop 1 content in
+      let q = each-drop Single 1 content p in
+      cond_both _ (autolink_after inner) None BeginsFit
+      (λ _. begin_or (closed_autolink false inner (uri_end inner)) (closed_autolink true inner (email_end inner))
+      (autolink_fits false inner (uri_end inner) q (uri_clear inner)) (autolink_fits true inner (email_end inner) q (email_clear inner)))
+      (λ _. tt)
+
+  html_at_fits : (content : List ℕ) → Each Single content → BeginsFit (html_text_at on content)
+  html_at_fits content p =
+      let rest = html_end (map html_byte content) in
+      cond_both _ (html_leaf content rest) None BeginsFit (λ _. html_fits content rest p) (λ _. tt)
+
+  spaces_fits : (content : List ℕ) → BeginsFit (line_spaces_at on content)
+  spaces_fits content =
+      let test = on.hard_break_trailing && is_trailing_break content in
+      where_passed LeafFits _ (leaf (cond test (TrailingBreak ∷ []) []) (indent content))
+      (cond_both test (TrailingBreak ∷ []) [] (Each IsFit) (λ _. (tt, tt)) (λ _. tt))
+
+pub line_end_fits : (content : List ℕ) → Each Single content → BeginsFit (line_end_at content)
+line_end_fits [] p = tt
+line_end_fits (c ∷ cs) p = where_passed LeafFits (is_eol c) (leaf (LineEnd c ∷ []) (1 + indent cs)) (p.0, tt)
+
+-- ---- runs
+
+abbrev TokenFits : Token → Type 0
+TokenFits (Item i) = IsFit i
+TokenFits (Delimiters run) = Plain run.marker
+
+abbrev RowFits : SpanRow → Type 0
+RowFits (Holds i) = IsFit i
+RowFits (Opens span) = Unit {0}
+RowFits Closes = Unit {0}
+
+always : {A : Type 0} (P : A → Type 0) (xs : List A) → ((x : A) → P x) → Each P xs
+always P [] f = tt
+always P (x ∷ xs) f = (f x, always P xs f)
+
+run_fits : (ps : List Pair) (place : ℕ) (r : Run) → Plain r.marker → Each RowFits (run_rows ps place r)
+run_fits ps place r h =
+    let closed = filter (λ (p : Pair). p.closer == place) ps in
+    let started = filter (λ (p : Pair). p.opener == place) ps in
+    let closing = map (λ (p : Pair). Closes) closed in
+    let left = r.left - (bytes_taken closed + bytes_taken started) in
+    let opening = map (λ (p : Pair). Opens (span_of r.marker p)) (reverse started) in
+    each-append RowFits (closing ++ replicate left (Holds (Data r.marker))) opening
+    (each-append RowFits closing (replicate left (Holds (Data r.marker)))
+    (each_map (λ p. Unit {0}) RowFits (λ (p : Pair). Closes) closed (λ p q. tt) (always (λ p. Unit {0}) closed (λ p. tt)))
+    (each_same RowFits left (Holds (Data r.marker)) h))
+    (each_map (λ p. Unit {0}) RowFits (λ (p : Pair). Opens (span_of r.marker p)) (reverse started) (λ p q. tt) (always (λ p. Unit {0}) (reverse started) (λ p. tt)))
+
+rows_fit : (ps : List Pair) (place : ℕ) (tokens : List Token) → Each TokenFits tokens → Each RowFits (rows_from ps place tokens)
+rows_fit ps place [] h = tt
+rows_fit ps place (Item i ∷ ts) h = (h.0, rows_fit ps place ts h.1)
+rows_fit ps place (Delimiters r ∷ ts) h =
+    each-append RowFits (run_rows ps place r) (rows_from ps (place + 1) ts) (run_fits ps place r h.0) (rows_fit ps (place + 1) ts h.1)
+
+abbrev SpanFits : OpenSpan → Type 0
+SpanFits s = AreFit s.before
+
+abbrev NestFits : Nest → Type 0
+NestFits n = AreFit n.now × Each SpanFits n.around
+
+follow_fits : (is : Inlines) (last : Inline) → AreFit is → IsFit last → AreFit (followed_by is last)
+follow_fits Nil last p q = (q, tt)
+follow_fits (Cons i is) last p q = (p.0, follow_fits is last p.1 q)
+
+span_fits : (span : Span) (kids : Inlines) → AreFit kids → IsFit (spanned span kids)
+span_fits IsEmphasis kids p = p
+span_fits IsStrong kids p = p
+span_fits IsStrikethrough kids p = p
+
+leave_fits : (now : Inlines) (around : List OpenSpan) → AreFit now → Each SpanFits around → NestFits (leave now around)
+leave_fits now [] p h = (p, tt)
+leave_fits now (s ∷ others) p h = (follow_fits s.before (spanned s.span now) h.0 (span_fits s.span now p), h.1)
+
+nest_row_fits : (n : Nest) (row : SpanRow) → NestFits n → RowFits row → NestFits (nest_row n row)
+nest_row_fits n (Holds i) p q = (follow_fits n.now i p.0 q, p.1)
+nest_row_fits n (Opens span) p q = (tt, (p.0, p.1))
+nest_row_fits n Closes p q = leave_fits n.now n.around p.0 p.1
+
+nest_fits : (n : Nest) (rows : List SpanRow) → NestFits n → Each RowFits rows → NestFits (fold nest_row n rows)
+nest_fits n [] p h = p
+nest_fits n (row ∷ rows) p h = nest_fits (nest_row n row) rows (nest_row_fits n row p h.0) h.1
+
+emphasized_fits : (tokens : List Token) → Each TokenFits tokens → AreFit (emphasized tokens)
+emphasized_fits tokens h =
+    let ps = pairs (runs_of tokens) in
+    (nest_fits (nest Nil []) (rows_from ps 0 tokens) (tt, tt) (rows_fit ps 0 tokens h)).0
+
+-- ---- labels
+
+abbrev TextFits : Text → Type 0
+TextFits t = Each TokenFits t.tokens
+
+abbrev LabelFits : OpenLabel → Type 0
+LabelFits label = TextFits label.outer
+
+abbrev ReadingFits : Reading → Type 0
+ReadingFits r = TextFits r.now × Each LabelFits r.open_labels
+
+abbrev StepFits : Step → Type 0
+StepFits (Next more r) = ReadingFits r
+
+label_part_fits : (start : LabelStart) (target : Target) (kids : Inlines) → TargetFits target → AreFit kids → IsFit (label_part start target kids)
+label_part_fits LinkStart target kids h p = (h, p)
+label_part_fits ImageStart target kids h p = (h, p)
+
+start_fits : (start : LabelStart) → Each TokenFits (start_tokens start)
+start_fits LinkStart = (((refl, refl), refl), tt)
+start_fits ImageStart = (((refl, refl), refl), (((refl, refl), refl), tt))
+
+unformed_fits : (label : OpenLabel) (inner : Text) → LabelFits label → TextFits inner → TextFits (unformed label inner)
+unformed_fits label inner h p =
+    let start = start_tokens label.start in
+    each-append TokenFits label.outer.tokens (start ++ inner.tokens) h (each-append TokenFits start inner.tokens (start_fits label.start) p)
+
+formed_fits : (label : OpenLabel) (target : Target) (inner : Text) → LabelFits label → TargetFits target → TextFits inner → TextFits (formed label target inner)
+formed_fits label target inner h t p =
+    let kids = emphasized inner.tokens in
+    each-append TokenFits label.outer.tokens (Item (label_part label.start target kids) ∷ []) h
+    (label_part_fits label.start target kids t (emphasized_fits inner.tokens p), tt)
+
+-- ---- places
+
+read_fits : (more : List Token) (r : Reading) → Each TokenFits more → ReadingFits r → ReadingFits (read_tokens more r)
+read_fits more r h p = (each-append TokenFits r.now.tokens more p.0 h, p.1)
+
+bracket_fits : Each TokenFits (Item (Data 93) ∷ [])
+bracket_fits = (((refl, refl), refl), tt)
+
+ended_step_fits : (label : OpenLabel) (others : List OpenLabel) (inner : Text) (found : Option Ended) → LabelFits label → Each LabelFits others
+    → TextFits inner → EndedFits found → StepFits (ended_step label others inner found)
+ended_step_fits label others inner None h hs p q =
+    read_fits (Item (Data 93) ∷ []) (reading (unformed label inner) others) bracket_fits (unformed_fits label inner h p, hs)
+ended_step_fits label others inner (Some found) h hs p q = (formed_fits label found.target inner h q p, hs)
+
+module _ (context : InlineContext) where
+  ended_by_fits : (content : List ℕ) (label : OpenLabel) (inner : Text) → Each Single content → EndedFits (ended_by context content label inner)
+  ended_by_fits content label inner p =
+      let between = before label.from content in
+      cond_both (may_form label.start inner.holds_link) (label_end_at context.is_defined between (drop 1 content)) None EndedFits
+      (λ _. ended_fits context.is_defined between (drop 1 content) (each-drop Single 1 content p)) (λ _. tt)
+
+  label_end_fits : (content : List ℕ) (inner : Text) (open_labels : List OpenLabel) → Each Single content → TextFits inner → Each LabelFits open_labels
+      → StepFits (label_end_step context content inner open_labels)
+  label_end_fits content inner [] c p hs = read_fits (Item (Data 93) ∷ []) (reading inner []) bracket_fits (p, tt)
+  label_end_fits content inner (label ∷ others) c p hs =
+      ended_step_fits label others inner (ended_by context content label inner) hs.0 hs.1 p (ended_by_fits content label inner c)
+
+  last_fits : (code : ℕ) (content : List ℕ) (r : Reading) → Plain code → Each Single content → ReadingFits r → StepFits (last_step context code content r)
+  last_fits code content r h c p =
+      cond_both _ (label_end_step context content r.now r.open_labels) (data_step code r) StepFits
+      (λ _. label_end_fits content r.now r.open_labels c p.0 p.1) (λ _. read_fits (Item (Data code) ∷ []) r (h, tt) p)
+
+  label_step_fits : (code : ℕ) (content : List ℕ) (r : Reading) (start : Option LabelStart) → Plain code → Each Single content → ReadingFits r
+      → StepFits (label_step context code content r start)
+  label_step_fits code content r None h c p = last_fits code content r h c p
+  label_step_fits code content r (Some start) h c p = (tt, (p.0, p.1))
+
+  abbrev RunFits : Option Run → Type 0
+  RunFits o = WhereSome (λ (r : Run). Plain r.marker) o
+
+  run_step_fits : (code : ℕ) (content : List ℕ) (r : Reading) (found : Option Run) → Plain code → Each Single content → RunFits found → ReadingFits r
+      → StepFits (run_step context code content r found)
+  run_step_fits code content r None h c q p = label_step_fits code content r (label_start_at context.options.constructs content) h c p
+  run_step_fits code content r (Some found) h c q p = read_fits (Delimiters found ∷ []) r (q, tt) p
+
+  leaf_step_fits : (code : ℕ) (content : List ℕ) (r : Reading) (run : Option Run) (found : Option Leaf) → (found ≡ None → Plain code) → Each Single content
+      → RunFits run → ReadingFits r → BeginsFit found → StepFits (leaf_step context code content r run found)
+  leaf_step_fits code content r run None h c q p b = run_step_fits code content r run (h refl) c q p
+  leaf_step_fits code content r run (Some found) h c q p b =
+      read_fits (map Item found.parts) r (each_map IsFit TokenFits Item found.parts (λ i h. h) b) p
+
+  leaf_fits : (content : List ℕ) → Each Single content → BeginsFit (leaf_at context content)
+  leaf_fits content p =
+      let on = context.options.constructs in
+      let math = may_open_math context.options (run 36 content) in
+      begin_or (escape_at on content) _ (escape_fits on content p)
+      (begin_or (escaped_break_at on content) _ (escaped_break_fits on content)
+      (begin_or (reference_at on context.names content) _ (reference_fits on context.names content p)
+      (begin_or (code_text_at on content) _ (raw_at_fits 96 on.code_text content ((refl, refl), refl) p)
+      (begin_or (math_text_at context.options content) _ (raw_at_fits 36 math content ((refl, refl), refl) p)
+      (begin_or (autolink_at on content) _ (autolink_at_fits on content p)
+      (begin_or (html_text_at on content) _ (html_at_fits on content p)
+      (begin_or (line_end_at content) (line_spaces_at on content) (line_end_fits content p) (spaces_fits on content))))))))
+
+  run_at_fits : (c : InlineCode) (cs : List InlineCode) → Single c.code → RunFits (run_at context.options (c ∷ cs))
+  run_at_fits c cs p =
+      cond_both (is_marker context.options c.code) _ None RunFits
+      (λ h. (p, no_ending_by may_mark c.code refl refl refl (marker_marks context.options c.code h))) (λ _. tt)
+
+  step_fits : (r : Reading) (c : InlineCode) (cs : List InlineCode) → Each Single (codes_of (c ∷ cs)) → ReadingFits r → StepFits (step context r c cs)
+  step_fits r c cs p q =
+      let content = codes_of (c ∷ cs) in
+      leaf_step_fits c.code content r (run_at context.options (c ∷ cs)) (leaf_at context content)
+      (λ none. (p.0, no_ending context c.code (codes_of cs) none)) p (run_at_fits c cs p.0) q (leaf_fits content p)
+
+  then_fits : (s : Step) (rest : ℕ → Reading → Reading) → StepFits s → ((k : ℕ) (r : Reading) → ReadingFits r → ReadingFits (rest k r))
+      → ReadingFits (and_then s rest)
+  then_fits (Next more r) rest p h = h more r p
+
+  scan_fits : (k : ℕ) (r : Reading) (content : List InlineCode) → Each Single (codes_of content) → ReadingFits r → ReadingFits (scan context k r content)
+  scan_fits k r [] c p = p
+  scan_fits zero r (x ∷ cs) c p =
+      then_fits (step context r x cs) (λ k next. scan context k next cs) (step_fits r x cs c p) (λ k next q. scan_fits k next cs c.1 q)
+  scan_fits (suc k) r (x ∷ cs) c p = scan_fits k r cs c.1 p
+
+  whole_fits : (inner : Text) (open_labels : List OpenLabel) → TextFits inner → Each LabelFits open_labels
+      → TextFits (fold (λ inner label. unformed label inner) inner open_labels)
+  whole_fits inner [] p h = p
+  whole_fits inner (label ∷ others) p h = whole_fits (unformed label inner) others (unformed_fits label inner h.0 p) h.1
+
+  dropped_codes : (n : ℕ) (content : List InlineCode) → Each Single (codes_of content) → Each Single (codes_of (drop n content))
+  dropped_codes zero content p = p
+  dropped_codes (suc n) [] p = tt
+  dropped_codes (suc n) (c ∷ cs) p = dropped_codes n cs p.1
+
+  pub inlines_fit : (content : List InlineCode) → Each Single (codes_of content) → AreFit (inlines context content)
+  inlines_fit content p =
+      let start = prefix_len (λ (c : InlineCode). is_white c.code) content in
+      let r = scan context 0 (reading (text [] false) []) (drop start content) in
+      let h : ReadingFits r = scan_fits 0 (reading (text [] false) []) (drop start content) (dropped_codes start content p) (tt, tt) in
+      emphasized_fits (whole_text r).tokens (whole_fits r.now r.open_labels h.0 h.1)

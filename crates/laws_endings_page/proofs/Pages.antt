@@ -1,0 +1,531 @@
+-- The page of the blocks of a text with another line ending in place of each LF.
+use Rattle.std.proofs.Common.{◌≡◌, ℕ, zero, suc, Bool, false, true≢false, cond, eqb, not, ◌||◌, ◌&&◌, leb, List, [], ◌∷◌, ◌++◌, Option, None, Some, refl, sym, ap, ◌∙◌, subst, map}
+use Rattle.std.proofs.lemmas.Bool.{cond_both}
+use Rattle.std.proofs.lemmas.List.{map-append}
+use Rattle.markdown_options.specs.declared.line_ending.LineEnding.{LineEnding}
+use Rattle.markdown_options.specs.declared.line_ending.LineEnding.TheVariants.{CarriageReturnLineFeed, CarriageReturn, LineFeed}
+use Rattle.definition_text.specs.declared.beside.Kind.{Kind}
+use Rattle.definition_text.specs.declared.beside.Kind.TheVariants.{Whitespace}
+use Rattle.definition_text.specs.BlockLines.{BlockLine, own_lines}
+use Rattle.definition_text.specs.Columns.{is_tab_column, code_byte}
+use Rattle.definition_text.specs.Content.{ending_code, line_codes}
+use Rattle.definition_text.specs.InlineCode.{InlineCode, codes_of, with_kinds, next_kind, line_content, inline_content}
+use Rattle.definition_inline.specs.Scan.{InlineContext, inlines}
+use Rattle.definition_inline.specs.Strings.{string_text}
+use Rattle.definition_block.specs.declared.container.Container.TheVariants.{Quote, Item}
+use Rattle.definition_block.specs.Tree as tree
+use Rattle.definition_block.specs.Tree.{is_ending, join, one}
+use Rattle.definition_block.specs.Lists.{leading, endings_of, after_endings, is_some_block, has_gap, has_gap_inside, is_loose, item_marker, list_marker, list_items, rest_of, before_list, before, grouped_block, grouped}
+use Rattle.definition_page.specs.Page as page
+use Rattle.definition_page.specs.Page.{cons_ending, cons_blank}
+use Rattle.definition_page.specs.Read.{Reading, read_text, info_text, code_lines, without_ending, after_code, list_number, read_block, read_blocks, is_blank_ending, ends_blank}
+use Rattle.laws_endings.specs.Endings.{with_ending, ending_with, if_ending_with, codes_with, line_with, lines_with, block_with, blocks_with}
+use Rattle.laws_endings.specs.Inlines.{inlines_with, content_with}
+use Rattle.laws_endings.proofs.Codes.{cond-under}
+use Rattle.laws_endings.proofs.Cuts.{own_lines-with, line_codes-with, join-with}
+use Rattle.laws_endings.proofs.Matching.{bytes-with}
+use Rattle.laws_endings.proofs.Contents.{inlines-with}
+use Rattle.laws_endings_page.proofs.Each.{Each, each-append, each_map}
+use Rattle.laws_endings_page.proofs.Characters.{Begins, continues_one, AreWhole}
+use Rattle.laws_endings_page.proofs.Neighbours.{tamed, tamed_inlines, kinds-with, kinds-kept}
+use Rattle.laws_endings_page.proofs.Fits.{Single, Plain}
+use Rattle.laws_endings_page.proofs.InlineReads.{AreFit, inlines_fit}
+use Rattle.laws_endings_page.proofs.BlockReads.{IsFed, WholeBefore, LineFits, LinesFit, BlockFits, BlocksFit, line_singles, join_fits, own_fit}
+use Rattle.laws_endings_page.proofs.Bytes.{IsNoFeed}
+use Rattle.laws_endings_page.proofs.Saids.{plains_no_feed, codes-kept, string_text-with}
+
+-- ---- lists
+
+list_fits_endings : (bs : tree.Blocks) → BlocksFit bs → BlocksFit (endings_of bs)
+list_fits_endings tree.Nil p = tt
+list_fits_endings (tree.Cons b bs) p = cond_both (is_ending b) _ _ BlocksFit (λ _. (p.0, list_fits_endings bs p.1)) (λ _. tt)
+
+list_fits_after : (bs : tree.Blocks) → BlocksFit bs → BlocksFit (after_endings bs)
+list_fits_after tree.Nil p = tt
+list_fits_after (tree.Cons b bs) p = cond_both (is_ending b) _ _ BlocksFit (λ _. list_fits_after bs p.1) (λ _. p)
+
+items_fit : (bs : tree.Blocks) → BlocksFit bs → BlocksFit (list_items bs)
+items_fit (tree.Cons (tree.Items items) bs) p = p.0
+items_fit bs p = tt
+
+rest_fits : (bs : tree.Blocks) → BlocksFit bs → BlocksFit (rest_of bs)
+rest_fits tree.Nil p = tt
+rest_fits (tree.Cons b bs) p = p.1
+
+before_list_fits : (marker : ℕ) (item : tree.Block) (bs : tree.Blocks) → BlockFits item → BlocksFit bs → BlocksFit (before_list marker item bs)
+before_list_fits marker item bs h p =
+    let others = after_endings bs in
+    let q = list_fits_after bs p in
+    cond_both (eqb (list_marker others) marker) _ _ BlocksFit
+    (λ _. ((h, join_fits (endings_of bs) (list_items others) (list_fits_endings bs p) (items_fit others q)), rest_fits others q))
+    (λ _. ((h, tt), p))
+
+before_fits : (b : tree.Block) (bs : tree.Blocks) → BlockFits b → BlocksFit bs → BlocksFit (before b bs)
+before_fits b bs h p = cond_both (eqb (item_marker b) 0) _ _ BlocksFit (λ _. (h, p)) (λ _. before_list_fits (item_marker b) b bs h p)
+
+mutual
+  grouped_block_fits : (b : tree.Block) → BlockFits b → BlockFits (grouped_block b)
+  grouped_block_fits (tree.Holds c kids) h = grouped_fits kids h
+  grouped_block_fits b h = h
+
+  pub grouped_fits : (bs : tree.Blocks) → BlocksFit bs → BlocksFit (grouped bs)
+  grouped_fits tree.Nil p = tt
+  grouped_fits (tree.Cons b bs) p = before_fits (grouped_block b) (grouped bs) (grouped_block_fits b p.0) (grouped_fits bs p.1)
+
+module _ (e : LineEnding) where
+  is_ending-with : (b : tree.Block) → is_ending (block_with e b) ≡ is_ending b
+  is_ending-with (tree.Paragraph ls) = refl
+  is_ending-with (tree.Heading rank ls) = refl
+  is_ending-with tree.Break = refl
+  is_ending-with (tree.IndentedCode ls) = refl
+  is_ending-with (tree.FencedCode info is_closed ls) = refl
+  is_ending-with (tree.Html ls) = refl
+  is_ending-with (tree.Definition label destination title) = refl
+  is_ending-with (tree.Holds c kids) = refl
+  is_ending-with (tree.Items items) = refl
+  is_ending-with (tree.Ending ending) = refl
+  is_ending-with (tree.Blank ending) = refl
+
+  item_marker-with : (b : tree.Block) → item_marker (block_with e b) ≡ item_marker b
+  item_marker-with (tree.Paragraph ls) = refl
+  item_marker-with (tree.Heading rank ls) = refl
+  item_marker-with tree.Break = refl
+  item_marker-with (tree.IndentedCode ls) = refl
+  item_marker-with (tree.FencedCode info is_closed ls) = refl
+  item_marker-with (tree.Html ls) = refl
+  item_marker-with (tree.Definition label destination title) = refl
+  item_marker-with (tree.Holds c kids) = refl
+  item_marker-with (tree.Items items) = refl
+  item_marker-with (tree.Ending ending) = refl
+  item_marker-with (tree.Blank ending) = refl
+
+  endings_of-with : (bs : tree.Blocks) → endings_of (blocks_with e bs) ≡ blocks_with e (endings_of bs)
+  endings_of-with tree.Nil = refl
+  endings_of-with (tree.Cons b bs) =
+      ap (λ is. cond is (tree.Cons (block_with e b) (endings_of (blocks_with e bs))) tree.Nil) (is_ending-with b)
+      ∙ cond-under (blocks_with e) (is_ending b) (ap (tree.Cons (block_with e b)) (endings_of-with bs)) refl
+
+  after_endings-with : (bs : tree.Blocks) → after_endings (blocks_with e bs) ≡ blocks_with e (after_endings bs)
+  after_endings-with tree.Nil = refl
+  after_endings-with (tree.Cons b bs) =
+      ap (λ is. cond is (after_endings (blocks_with e bs)) (tree.Cons (block_with e b) (blocks_with e bs))) (is_ending-with b)
+      ∙ cond-under (blocks_with e) (is_ending b) (after_endings-with bs) refl
+
+  list_marker-with : (bs : tree.Blocks) → list_marker (blocks_with e bs) ≡ list_marker bs
+  list_marker-with tree.Nil = refl
+  list_marker-with (tree.Cons (tree.Paragraph ls) bs) = refl
+  list_marker-with (tree.Cons (tree.Heading rank ls) bs) = refl
+  list_marker-with (tree.Cons tree.Break bs) = refl
+  list_marker-with (tree.Cons (tree.IndentedCode ls) bs) = refl
+  list_marker-with (tree.Cons (tree.FencedCode info is_closed ls) bs) = refl
+  list_marker-with (tree.Cons (tree.Html ls) bs) = refl
+  list_marker-with (tree.Cons (tree.Definition label destination title) bs) = refl
+  list_marker-with (tree.Cons (tree.Holds c kids) bs) = refl
+  list_marker-with (tree.Cons (tree.Items tree.Nil) bs) = refl
+  list_marker-with (tree.Cons (tree.Items (tree.Cons item items)) bs) = item_marker-with item
+  list_marker-with (tree.Cons (tree.Ending ending) bs) = refl
+  list_marker-with (tree.Cons (tree.Blank ending) bs) = refl
+
+  list_items-with : (bs : tree.Blocks) → list_items (blocks_with e bs) ≡ blocks_with e (list_items bs)
+  list_items-with tree.Nil = refl
+  list_items-with (tree.Cons (tree.Paragraph ls) bs) = refl
+  list_items-with (tree.Cons (tree.Heading rank ls) bs) = refl
+  list_items-with (tree.Cons tree.Break bs) = refl
+  list_items-with (tree.Cons (tree.IndentedCode ls) bs) = refl
+  list_items-with (tree.Cons (tree.FencedCode info is_closed ls) bs) = refl
+  list_items-with (tree.Cons (tree.Html ls) bs) = refl
+  list_items-with (tree.Cons (tree.Definition label destination title) bs) = refl
+  list_items-with (tree.Cons (tree.Holds c kids) bs) = refl
+  list_items-with (tree.Cons (tree.Items items) bs) = refl
+  list_items-with (tree.Cons (tree.Ending ending) bs) = refl
+  list_items-with (tree.Cons (tree.Blank ending) bs) = refl
+
+  rest_of-with : (bs : tree.Blocks) → rest_of (blocks_with e bs) ≡ blocks_with e (rest_of bs)
+  rest_of-with tree.Nil = refl
+  rest_of-with (tree.Cons b bs) = refl
+
+  before_list-with : (marker : ℕ) (item : tree.Block) (bs : tree.Blocks)
+      → before_list marker (block_with e item) (blocks_with e bs) ≡ blocks_with e (before_list marker item bs)
+  before_list-with marker item bs =
+      let others = after_endings bs in
+      let item' = block_with e item in
+      let bs' = blocks_with e bs in
+      let made : tree.Blocks → tree.Blocks → tree.Blocks =
+      λ ends rest. cond (eqb (list_marker rest) marker) (tree.Cons (tree.Items (tree.Cons item' (join ends (list_items rest)))) (rest_of rest))
+      (tree.Cons (tree.Items (one item')) bs') in
+      let first : tree.Blocks → tree.Blocks → tree.Blocks = λ items rest. tree.Cons (tree.Items (tree.Cons item' items)) rest in
+      let ends' = blocks_with e (endings_of bs) in
+      let rest' = blocks_with e others in
+      ap (λ ends. made ends (after_endings bs')) (endings_of-with bs)
+      ∙ ap (made ends') (after_endings-with bs)
+      ∙ ap (λ m. cond (eqb m marker) (first (join ends' (list_items rest')) (rest_of rest')) (tree.Cons (tree.Items (one item')) bs')) (list_marker-with others)
+      ∙ cond-under (blocks_with e) (eqb (list_marker others) marker)
+      (ap (λ items. first (join ends' items) (rest_of rest')) (list_items-with others)
+      ∙ ap (λ items. first items (rest_of rest')) (join-with e (endings_of bs) (list_items others))
+      ∙ ap (first (blocks_with e (join (endings_of bs) (list_items others)))) (rest_of-with others))
+      refl
+
+  before-with : (b : tree.Block) (bs : tree.Blocks) → before (block_with e b) (blocks_with e bs) ≡ blocks_with e (before b bs)
+  before-with b bs =
+      ap (λ m. cond (eqb m 0) (tree.Cons (block_with e b) (blocks_with e bs)) (before_list m (block_with e b) (blocks_with e bs))) (item_marker-with b)
+      ∙ cond-under (blocks_with e) (eqb (item_marker b) 0) refl (before_list-with (item_marker b) b bs)
+
+  mutual
+    grouped_block-with : (b : tree.Block) → grouped_block (block_with e b) ≡ block_with e (grouped_block b)
+    grouped_block-with (tree.Paragraph ls) = refl
+    grouped_block-with (tree.Heading rank ls) = refl
+    grouped_block-with tree.Break = refl
+    grouped_block-with (tree.IndentedCode ls) = refl
+    grouped_block-with (tree.FencedCode info is_closed ls) = refl
+    grouped_block-with (tree.Html ls) = refl
+    grouped_block-with (tree.Definition label destination title) = refl
+    grouped_block-with (tree.Holds c kids) = ap (tree.Holds c) (grouped-with kids)
+    grouped_block-with (tree.Items items) = refl
+    grouped_block-with (tree.Ending ending) = refl
+    grouped_block-with (tree.Blank ending) = refl
+
+    pub grouped-with : (bs : tree.Blocks) → grouped (blocks_with e bs) ≡ blocks_with e (grouped bs)
+    grouped-with tree.Nil = refl
+    grouped-with (tree.Cons b bs) =
+        ap (λ first. before first (grouped (blocks_with e bs))) (grouped_block-with b)
+        ∙ ap (before (block_with e (grouped_block b))) (grouped-with bs)
+        ∙ before-with (grouped_block b) (grouped bs)
+
+  -- ---- whether a list is loose
+
+  leading-with : (bs : tree.Blocks) → leading (blocks_with e bs) ≡ leading bs
+  leading-with tree.Nil = refl
+  leading-with (tree.Cons b bs) =
+      ap (λ is. cond is (suc (leading (blocks_with e bs))) 0) (is_ending-with b) ∙ ap (λ n. cond (is_ending b) (suc n) 0) (leading-with bs)
+
+  is_some_block-with : (bs : tree.Blocks) → is_some_block (blocks_with e bs) ≡ is_some_block bs
+  is_some_block-with tree.Nil = refl
+  is_some_block-with (tree.Cons b bs) =
+      ap (λ is. not is || is_some_block (blocks_with e bs)) (is_ending-with b) ∙ ap (λ some. not (is_ending b) || some) (is_some_block-with bs)
+
+  has_gap-with : (bs : tree.Blocks) → has_gap (blocks_with e bs) ≡ has_gap bs
+  has_gap-with tree.Nil = refl
+  has_gap-with (tree.Cons b bs) =
+      let bs' = blocks_with e bs in
+      ap (λ is. (not is && leb 2 (leading bs') && is_some_block bs') || has_gap bs') (is_ending-with b)
+      ∙ ap (λ n. (not (is_ending b) && leb 2 n && is_some_block bs') || has_gap bs') (leading-with bs)
+      ∙ ap (λ some. (not (is_ending b) && leb 2 (leading bs) && some) || has_gap bs') (is_some_block-with bs)
+      ∙ ap (λ gap. (not (is_ending b) && leb 2 (leading bs) && is_some_block bs) || gap) (has_gap-with bs)
+
+  has_gap_inside-with : (bs : tree.Blocks) → has_gap_inside (blocks_with e bs) ≡ has_gap_inside bs
+  has_gap_inside-with tree.Nil = refl
+  has_gap_inside-with (tree.Cons (tree.Paragraph ls) bs) = has_gap_inside-with bs
+  has_gap_inside-with (tree.Cons (tree.Heading rank ls) bs) = has_gap_inside-with bs
+  has_gap_inside-with (tree.Cons tree.Break bs) = has_gap_inside-with bs
+  has_gap_inside-with (tree.Cons (tree.IndentedCode ls) bs) = has_gap_inside-with bs
+  has_gap_inside-with (tree.Cons (tree.FencedCode info is_closed ls) bs) = has_gap_inside-with bs
+  has_gap_inside-with (tree.Cons (tree.Html ls) bs) = has_gap_inside-with bs
+  has_gap_inside-with (tree.Cons (tree.Definition label destination title) bs) = has_gap_inside-with bs
+  has_gap_inside-with (tree.Cons (tree.Holds c kids) bs) =
+      ap (λ gap. gap || has_gap_inside (blocks_with e bs)) (has_gap-with kids) ∙ ap (λ inside. has_gap kids || inside) (has_gap_inside-with bs)
+  has_gap_inside-with (tree.Cons (tree.Items items) bs) = has_gap_inside-with bs
+  has_gap_inside-with (tree.Cons (tree.Ending ending) bs) = has_gap_inside-with bs
+  has_gap_inside-with (tree.Cons (tree.Blank ending) bs) = has_gap_inside-with bs
+
+  is_loose-with : (items : tree.Blocks) → is_loose (blocks_with e items) ≡ is_loose items
+  is_loose-with items =
+      ap (λ gap. gap || has_gap_inside (blocks_with e items)) (has_gap-with items) ∙ ap (λ inside. has_gap items || inside) (has_gap_inside-with items)
+
+  list_number-with : (items : tree.Blocks) → list_number (blocks_with e items) ≡ list_number items
+  list_number-with tree.Nil = refl
+  list_number-with (tree.Cons (tree.Paragraph ls) bs) = refl
+  list_number-with (tree.Cons (tree.Heading rank ls) bs) = refl
+  list_number-with (tree.Cons tree.Break bs) = refl
+  list_number-with (tree.Cons (tree.IndentedCode ls) bs) = refl
+  list_number-with (tree.Cons (tree.FencedCode info is_closed ls) bs) = refl
+  list_number-with (tree.Cons (tree.Html ls) bs) = refl
+  list_number-with (tree.Cons (tree.Definition label destination title) bs) = refl
+  list_number-with (tree.Cons (tree.Holds c kids) bs) = refl
+  list_number-with (tree.Cons (tree.Items items) bs) = refl
+  list_number-with (tree.Cons (tree.Ending ending) bs) = refl
+  list_number-with (tree.Cons (tree.Blank ending) bs) = refl
+
+  -- ---- the content of lines
+
+  space_plain : (c : ℕ) → Plain c → Plain (code_byte c)
+  space_plain c p = cond_both (is_tab_column c) 32 c Plain (λ _. ((refl, refl), refl)) (λ _. p)
+
+  space_single : (c : ℕ) → Single c → Single (code_byte c)
+  space_single c p = cond_both (is_tab_column c) 32 c Single (λ _. (refl, refl)) (λ _. p)
+
+  -- a line ending after whole characters
+  begins_longer : (n : ℕ) (cs more : List ℕ) → Begins n cs → Begins n (cs ++ more)
+  begins_longer n cs more h = begins_by n cs more h
+    where
+      begins_by : (n : ℕ) (cs more : List ℕ) → Begins n cs → Begins n (cs ++ more)
+      begins_by zero cs more h = tt
+      begins_by (suc n) [] more h = absurd (true≢false h)
+      begins_by (suc n) (c ∷ cs) more h = (h.0, begins_by n cs more h.1)
+
+  continues_longer : (cs : List ℕ) → continues_one cs ≡ false → continues_one (cs ++ 10 ∷ []) ≡ false
+  continues_longer [] h = refl
+  continues_longer (c ∷ cs) h = h
+
+  whole_longer : (cs : List ℕ) → AreWhole cs → AreWhole (cs ++ 10 ∷ [])
+  whole_longer [] w = (((λ _. tt), λ marks. absurd (true≢false (sym marks))), tt)
+  whole_longer (c ∷ cs) w =
+      (((λ starts. begins_longer _ cs (10 ∷ []) (w.0.0 starts)), λ marks. continues_longer cs (w.0.1 marks)), whole_longer cs w.1)
+
+  module _ (p : ℕ → Bool) where
+    -- the content of a line with this ending
+    abbrev content_here : Kind → List ℕ → List InlineCode
+    content_here before cs = tamed (with_kinds p before Whitespace cs)
+
+    codes_content : (before : Kind) (cs : List ℕ) (ending : Option LineEnding) → Each Plain cs → IsFed ending
+        → (WholeBefore ending cs)
+        → content_here before (codes_with e (map code_byte (cs ++ ending_code ending))) ≡ content_with e (content_here before (map code_byte (cs ++ ending_code ending)))
+    codes_content before cs None h f w =
+        let all = map code_byte (cs ++ []) in
+        let clear : Each IsNoFeed all =
+        plains_no_feed all (each_map Plain Plain code_byte (cs ++ []) space_plain (each-append Plain cs [] h tt)) in
+        ap (content_here before) (codes-kept e all clear) ∙ kinds-kept e p before Whitespace all clear
+    codes_content before cs (Some LineFeed) h f w =
+        kinds-with e p before Whitespace (map code_byte (cs ++ 10 ∷ []))
+        (subst AreWhole (sym (map-append code_byte cs (10 ∷ []))) (whole_longer (map code_byte cs) w))
+    codes_content before cs (Some CarriageReturn) h f w = absurd (true≢false f)
+    codes_content before cs (Some CarriageReturnLineFeed) h f w = absurd (true≢false f)
+
+    line-with : (line : BlockLine) → LineFits line
+        → tamed (line_content p Whitespace (line_with e line)) ≡ content_with e (tamed (line_content p Whitespace line))
+    line-with line h =
+        ap (λ cs. content_here line.before (map code_byte cs)) (line_codes-with e line)
+        ∙ ap (content_here line.before) (bytes-with e (line_codes line))
+        ∙ codes_content line.before line.codes line.ending h.0 h.1.0 h.1.1
+
+    content-with : (ls : List BlockLine) → LinesFit ls
+        → tamed (inline_content p Whitespace (lines_with e ls)) ≡ content_with e (tamed (inline_content p Whitespace ls))
+    content-with [] h = refl
+    content-with (line ∷ ls) h =
+        let first' = line_content p Whitespace (line_with e line) in
+        let first = line_content p Whitespace line in
+        let more' = inline_content p Whitespace (lines_with e ls) in
+        let more = inline_content p Whitespace ls in
+        tamed-append first' more'
+        ∙ ap (λ x. x ++ tamed more') (line-with line h.0)
+        ∙ ap (λ x. content_with e (tamed first) ++ x) (content-with ls h.1)
+        ∙ sym (ap (content_with e) (tamed-append first more) ∙ content-append (tamed first) (tamed more))
+      where
+        tamed-append : (xs ys : List InlineCode) → tamed (xs ++ ys) ≡ tamed xs ++ tamed ys
+        tamed-append xs ys = map-append _ xs ys
+
+        content-append : (xs ys : List InlineCode) → content_with e (xs ++ ys) ≡ content_with e xs ++ content_with e ys
+        content-append xs ys = map-append _ xs ys
+
+    -- its codes
+    kinds_codes : (before after : Kind) (cs : List ℕ) → codes_of (with_kinds p before after cs) ≡ cs
+    kinds_codes before after [] = refl
+    kinds_codes before after (c ∷ cs) = ap (λ more. c ∷ more) (kinds_codes (next_kind p before (c ∷ cs)) after cs)
+
+    content_fits : (ls : List BlockLine) → LinesFit ls → Each Single (codes_of (inline_content p Whitespace ls))
+    content_fits [] h = tt
+    content_fits (line ∷ ls) h =
+        let first = line_content p Whitespace line in
+        let more = inline_content p Whitespace ls in
+        subst (Each Single) (sym (map-append _ first more))
+        (each-append Single (codes_of first) (codes_of more)
+        (subst (Each Single) (sym (kinds_codes line.before Whitespace (map code_byte (line_codes line))))
+        (each_map Single Single code_byte (line_codes line) space_single (line_singles line h.0)))
+        (content_fits ls h.1))
+
+  -- ---- the blocks of a page
+
+  abbrev mutual
+    pub page_block_with : page.Block → page.Block
+    page_block_with (page.Paragraph is) = page.Paragraph (inlines_with e is)
+    page_block_with (page.Heading rank is) = page.Heading rank (inlines_with e is)
+    page_block_with page.Break = page.Break
+    page_block_with (page.IndentedCode ls) = page.IndentedCode (lines_with e ls)
+    page_block_with (page.FencedCode info is_closed ls) = page.FencedCode info is_closed (lines_with e ls)
+    page_block_with (page.Html ls) = page.Html (lines_with e ls)
+    page_block_with page.Definition = page.Definition
+    page_block_with (page.Quote kids) = page.Quote (page_blocks_with kids)
+    page_block_with (page.ItemList number loose items) = page.ItemList number loose (page_blocks_with items)
+    page_block_with (page.Item kids) = page.Item (page_blocks_with kids)
+    page_block_with (page.Ending ending) = page.Ending (ending_with e ending)
+    page_block_with (page.Blank ending) = page.Blank (ending_with e ending)
+
+    pub page_blocks_with : page.Blocks → page.Blocks
+    page_blocks_with page.Nil = page.Nil
+    page_blocks_with (page.Cons b bs) = page.Cons (page_block_with b) (page_blocks_with bs)
+
+  -- the text of an info without LF
+  abbrev pub InfoFits : Option (List ℕ) → Type 0
+  InfoFits None = Unit {0}
+  InfoFits (Some info) = with_ending e info ≡ info
+
+  abbrev mutual
+    pub PageBlockFits : page.Block → Type 0
+    PageBlockFits (page.Paragraph is) = AreFit is
+    PageBlockFits (page.Heading rank is) = AreFit is
+    PageBlockFits page.Break = Unit {0}
+    PageBlockFits (page.IndentedCode ls) = LinesFit ls
+    PageBlockFits (page.FencedCode info is_closed ls) = InfoFits info × LinesFit ls
+    PageBlockFits (page.Html ls) = LinesFit ls
+    PageBlockFits page.Definition = Unit {0}
+    PageBlockFits (page.Quote kids) = PageFits kids
+    PageBlockFits (page.ItemList number loose items) = PageFits items
+    PageBlockFits (page.Item kids) = PageFits kids
+    PageBlockFits (page.Ending ending) = IsFed (Some ending)
+    PageBlockFits (page.Blank ending) = IsFed (Some ending)
+
+    pub PageFits : page.Blocks → Type 0
+    PageFits page.Nil = Unit {0}
+    PageFits (page.Cons b bs) = PageBlockFits b × PageFits bs
+
+  cons_ending-with : (ending : Option LineEnding) (bs : page.Blocks)
+      → cons_ending (if_ending_with e ending) (page_blocks_with bs) ≡ page_blocks_with (cons_ending ending bs)
+  cons_ending-with None bs = refl
+  cons_ending-with (Some ending) bs = refl
+
+  cons_blank-with : (ending : Option LineEnding) (bs : page.Blocks)
+      → cons_blank (if_ending_with e ending) (page_blocks_with bs) ≡ page_blocks_with (cons_blank ending bs)
+  cons_blank-with None bs = refl
+  cons_blank-with (Some ending) bs = refl
+
+  cons_ending_fits : (ending : Option LineEnding) (bs : page.Blocks) → IsFed ending → PageFits bs → PageFits (cons_ending ending bs)
+  cons_ending_fits None bs f p = p
+  cons_ending_fits (Some ending) bs f p = (f, p)
+
+  cons_blank_fits : (ending : Option LineEnding) (bs : page.Blocks) → IsFed ending → PageFits bs → PageFits (cons_blank ending bs)
+  cons_blank_fits None bs f p = p
+  cons_blank_fits (Some ending) bs f p = (f, p)
+
+  without_ending-with : (bs : page.Blocks) → without_ending (page_blocks_with bs) ≡ page_blocks_with (without_ending bs)
+  without_ending-with page.Nil = refl
+  without_ending-with (page.Cons (page.Paragraph is) bs) = refl
+  without_ending-with (page.Cons (page.Heading rank is) bs) = refl
+  without_ending-with (page.Cons page.Break bs) = refl
+  without_ending-with (page.Cons (page.IndentedCode ls) bs) = refl
+  without_ending-with (page.Cons (page.FencedCode info is_closed ls) bs) = refl
+  without_ending-with (page.Cons (page.Html ls) bs) = refl
+  without_ending-with (page.Cons page.Definition bs) = refl
+  without_ending-with (page.Cons (page.Quote kids) bs) = refl
+  without_ending-with (page.Cons (page.ItemList number loose items) bs) = refl
+  without_ending-with (page.Cons (page.Item kids) bs) = refl
+  without_ending-with (page.Cons (page.Ending ending) bs) = refl
+  without_ending-with (page.Cons (page.Blank ending) bs) = refl
+
+  without_ending_fits : (bs : page.Blocks) → PageFits bs → PageFits (without_ending bs)
+  without_ending_fits (page.Cons (page.Ending ending) bs) p = p.1
+  without_ending_fits bs p = p
+
+  after_code-with : (top is_closed : Bool) (bs : page.Blocks) → after_code top is_closed (page_blocks_with bs) ≡ page_blocks_with (after_code top is_closed bs)
+  after_code-with top is_closed bs = cond-under page_blocks_with (top && not is_closed) (without_ending-with bs) refl
+
+  after_code_fits : (top is_closed : Bool) (bs : page.Blocks) → PageFits bs → PageFits (after_code top is_closed bs)
+  after_code_fits top is_closed bs p = cond_both (top && not is_closed) _ _ PageFits (λ _. without_ending_fits bs p) (λ _. p)
+
+  code_lines-with : (top is_closed : Bool) (ls : List BlockLine) → code_lines top is_closed (lines_with e ls) ≡ lines_with e (code_lines top is_closed ls)
+  code_lines-with top is_closed ls = cond-under (lines_with e) (top || is_closed) refl (own_lines-with e ls)
+
+  code_lines_fit : (top is_closed : Bool) (ls : List BlockLine) → LinesFit ls → LinesFit (code_lines top is_closed ls)
+  code_lines_fit top is_closed ls p = cond_both (top || is_closed) ls (own_lines ls) LinesFit (λ _. p) (λ _. own_fit ls p)
+
+  module _ (r : Reading) (same : (label : List ℕ) → r.is_defined (codes_with e label) ≡ r.is_defined label) where
+    abbrev context : InlineContext
+    context = record { options = r.options; names = r.tables.names; is_defined = r.is_defined }
+
+    text-with : (ls : List BlockLine) → LinesFit ls → read_text r (lines_with e ls) ≡ inlines_with e (read_text r ls)
+    text-with ls h =
+        let p = r.tables.is_punctuation in
+        let content = inline_content p Whitespace ls in
+        sym (tamed_inlines context (inline_content p Whitespace (lines_with e ls)))
+        ∙ ap (inlines context) (content-with p ls h)
+        ∙ inlines-with e context same (tamed content)
+        ∙ ap (inlines_with e) (tamed_inlines context content)
+
+    text_fits : (ls : List BlockLine) → LinesFit ls → AreFit (read_text r ls)
+    text_fits ls h = inlines_fit context (inline_content r.tables.is_punctuation Whitespace ls) (content_fits r.tables.is_punctuation ls h)
+
+    singles_of : (cs : List ℕ) → Each Plain cs → Each Single cs
+    singles_of [] p = tt
+    singles_of (c ∷ cs) p = (p.0.0, singles_of cs p.1)
+
+    info_fits : (info : List ℕ) → Each Plain info → InfoFits (info_text r info)
+    info_fits [] p = tt
+    info_fits (b ∷ bs) p =
+        let info = b ∷ bs in
+        let on = r.options.constructs in
+        sym (string_text-with e on r.tables.names info (singles_of info p))
+        ∙ ap (string_text on r.tables.names) (codes-kept e info (plains_no_feed info p))
+
+    mutual
+      read_block-with : (top : Bool) (b : tree.Block) (others' others : page.Blocks) → BlockFits b → others' ≡ page_blocks_with others
+          → read_block r top (block_with e b) others' ≡ page_blocks_with (read_block r top b others)
+      read_block-with top (tree.Paragraph ls) others' others p q =
+          ap (λ is. page.Cons (page.Paragraph is) others') (text-with ls p) ∙ ap (page.Cons (page.Paragraph (inlines_with e (read_text r ls)))) q
+      read_block-with top (tree.Heading rank ls) others' others p q =
+          ap (λ is. page.Cons (page.Heading rank is) others') (text-with ls p) ∙ ap (page.Cons (page.Heading rank (inlines_with e (read_text r ls)))) q
+      read_block-with top tree.Break others' others p q = ap (page.Cons page.Break) q
+      read_block-with top (tree.IndentedCode ls) others' others p q = ap (page.Cons (page.IndentedCode (lines_with e ls))) q
+      read_block-with top (tree.FencedCode info is_closed ls) others' others p q =
+          let code : List BlockLine → page.Block = λ own. page.FencedCode (info_text r info) is_closed own in
+          ap (λ own. page.Cons (code own) (after_code top is_closed others')) (code_lines-with top is_closed ls)
+          ∙ ap (page.Cons (code (lines_with e (code_lines top is_closed ls)))) (ap (after_code top is_closed) q ∙ after_code-with top is_closed others)
+      read_block-with top (tree.Html ls) others' others p q = ap (page.Cons (page.Html (lines_with e ls))) q
+      read_block-with top (tree.Definition label destination title) others' others p q = ap (page.Cons page.Definition) q
+      read_block-with top (tree.Holds Quote kids) others' others p q =
+          ap (λ inside. page.Cons (page.Quote inside) others') (read_blocks-with false kids p)
+          ∙ ap (page.Cons (page.Quote (page_blocks_with (read_blocks r false kids)))) q
+      read_block-with top (tree.Holds (Item item) kids) others' others p q =
+          ap (λ inside. page.Cons (page.Item inside) others') (read_blocks-with false kids p)
+          ∙ ap (page.Cons (page.Item (page_blocks_with (read_blocks r false kids)))) q
+      read_block-with top (tree.Items items) others' others p q =
+          let items' = read_blocks r false (blocks_with e items) in
+          ap (λ number. page.Cons (page.ItemList number (is_loose (blocks_with e items)) items') others') (list_number-with items)
+          ∙ ap (λ loose. page.Cons (page.ItemList (list_number items) loose items') others') (is_loose-with items)
+          ∙ ap (λ inside. page.Cons (page.ItemList (list_number items) (is_loose items) inside) others') (read_blocks-with false items p)
+          ∙ ap (page.Cons (page.ItemList (list_number items) (is_loose items) (page_blocks_with (read_blocks r false items)))) q
+      read_block-with top (tree.Ending ending) others' others p q = ap (cons_ending (if_ending_with e ending)) q ∙ cons_ending-with ending others
+      read_block-with top (tree.Blank ending) others' others p q = ap (cons_blank (if_ending_with e ending)) q ∙ cons_blank-with ending others
+
+      pub read_blocks-with : (top : Bool) (bs : tree.Blocks) → BlocksFit bs → read_blocks r top (blocks_with e bs) ≡ page_blocks_with (read_blocks r top bs)
+      read_blocks-with top tree.Nil p = refl
+      read_blocks-with top (tree.Cons b bs) p =
+          read_block-with top b (read_blocks r top (blocks_with e bs)) (read_blocks r top bs) p.0 (read_blocks-with top bs p.1)
+
+    mutual
+      read_block_fits : (top : Bool) (b : tree.Block) (others : page.Blocks) → BlockFits b → PageFits others → PageFits (read_block r top b others)
+      read_block_fits top (tree.Paragraph ls) others p q = (text_fits ls p, q)
+      read_block_fits top (tree.Heading rank ls) others p q = (text_fits ls p, q)
+      read_block_fits top tree.Break others p q = (tt, q)
+      read_block_fits top (tree.IndentedCode ls) others p q = (p, q)
+      read_block_fits top (tree.FencedCode info is_closed ls) others p q =
+          ((info_fits info p.0, code_lines_fit top is_closed ls p.1), after_code_fits top is_closed others q)
+      read_block_fits top (tree.Html ls) others p q = (p, q)
+      read_block_fits top (tree.Definition label destination title) others p q = (tt, q)
+      read_block_fits top (tree.Holds Quote kids) others p q = (read_blocks_fit false kids p, q)
+      read_block_fits top (tree.Holds (Item item) kids) others p q = (read_blocks_fit false kids p, q)
+      read_block_fits top (tree.Items items) others p q = (read_blocks_fit false items p, q)
+      read_block_fits top (tree.Ending ending) others p q = cons_ending_fits ending others p q
+      read_block_fits top (tree.Blank ending) others p q = cons_blank_fits ending others p q
+
+      pub read_blocks_fit : (top : Bool) (bs : tree.Blocks) → BlocksFit bs → PageFits (read_blocks r top bs)
+      read_blocks_fit top tree.Nil p = tt
+      read_blocks_fit top (tree.Cons b bs) p = read_block_fits top b (read_blocks r top bs) p.0 (read_blocks_fit top bs p.1)
+
+  -- ---- whether the end is blank
+
+  is_blank_ending-with : (b : tree.Block) → is_blank_ending (block_with e b) ≡ is_blank_ending b
+  is_blank_ending-with (tree.Paragraph ls) = refl
+  is_blank_ending-with (tree.Heading rank ls) = refl
+  is_blank_ending-with tree.Break = refl
+  is_blank_ending-with (tree.IndentedCode ls) = refl
+  is_blank_ending-with (tree.FencedCode info is_closed ls) = refl
+  is_blank_ending-with (tree.Html ls) = refl
+  is_blank_ending-with (tree.Definition label destination title) = refl
+  is_blank_ending-with (tree.Holds c kids) = refl
+  is_blank_ending-with (tree.Items items) = refl
+  is_blank_ending-with (tree.Ending ending) = refl
+  is_blank_ending-with (tree.Blank None) = refl
+  is_blank_ending-with (tree.Blank (Some ending)) = refl
+
+  pub ends_blank-with : (before : Bool) (bs : tree.Blocks) → ends_blank before (blocks_with e bs) ≡ ends_blank before bs
+  ends_blank-with before tree.Nil = refl
+  ends_blank-with before (tree.Cons b bs) =
+      ap (λ blank. ends_blank blank (blocks_with e bs)) (is_blank_ending-with b) ∙ ends_blank-with (is_blank_ending b) bs

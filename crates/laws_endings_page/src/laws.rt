@@ -1,0 +1,9 @@
+//! The law of the page of a text with another line ending in place of each LF.
+ghost use Rattle.laws_endings_page.specs.Laws.{EndingPageLaw};
+
+/// A text in UTF-8 that has an LF, no CR and no `&`, with an ending in place of each LF, prints its
+/// page with that ending in place of each LF.
+#[tactic(auto, using(crate::proofs::Law::ending_page_law))]
+pub fn ending_page_law()
+    ensures { EndingPageLaw }
+{}

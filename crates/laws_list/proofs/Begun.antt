@@ -1,0 +1,248 @@
+-- After a first line that isn't blank, a tree doesn't hold a blank line alone: so an item that holds it goes on over blank lines.
+use Rattle.std.proofs.Common.{◌≡◌, ℕ, zero, suc, List, [], ◌∷◌, ◌++◌, None, Some, Option, Bool, true, false, ◌&&◌, not, inl, inr, ◌⊎◌, ⊎_elim, refl, sym, ap, subst, length}
+use Rattle.std.proofs.lemmas.Bool.{cond_both, both_ways, true≢false}
+use Rattle.markdown_options.specs.declared.line_ending.LineEnding.{LineEnding}
+use Rattle.markdown_options.specs.declared.configuration.Constructs.{Constructs}
+use Rattle.definition_text.specs.declared.beside.Beside.{Beside}
+use Rattle.definition_text.specs.Columns.{Rest, is_blank}
+use Rattle.definition_text.specs.Content.{content_of}
+use Rattle.definition_inline.specs.Definition.{Definition as LinkDefinition, definition_at}
+use Rattle.definition_block.specs.declared.container.Container.{Container}
+use Rattle.definition_block.specs.declared.container.Container.TheVariants.{Quote, Item}
+use Rattle.definition_block.specs.Started.{Started}
+use Rattle.definition_block.specs.Containers.{continues, starts}
+use Rattle.definition_block.specs.CodeIndented.{starts_code_indented}
+use Rattle.definition_block.specs.CodeFenced.{Fence, fence_start, is_fence_end}
+use Rattle.definition_block.specs.MathFlow.{math_start}
+use Rattle.definition_block.specs.HtmlFlow.{html_start, html_ends_here, ends_before_blank}
+use Rattle.definition_block.specs.HeadingAtx.{Atx, heading_atx}
+use Rattle.definition_block.specs.HeadingSetext.{underline}
+use Rattle.definition_block.specs.ThematicBreak.{is_break}
+use Rattle.definition_block.specs.Definitions.{Cut, cut_into, cut_after, cut_most, cut}
+use Rattle.definition_block.specs.Tree.{BlockLine, own_lines, Paragraph, Heading, Break, IndentedCode, FencedCode, Html, Definition, Holds, Items, Ending, Blank, Blocks, Nil, Cons, join, one, ended, OpenLeaf, Text, Indented, Fenced, OpenHtml, Opening, Leaf, Inside, Tree, tree, nothing, with_paragraph, holds, close, has_text, leaf_with_line, with_line, rest_line, html_with, takes, or_heading, or_fence, or_html, begins, after, break_or_text, text_line_of, text_here, heading_of, underlined, turns, begun, taken, leaf_line, beside_in, start, new, is_nothing, is_one_blank, began_blank, goes_on, grow}
+
+-- the first of these blocks is there, and is no blank line
+abbrev IsDark : Blocks → Type 0
+IsDark Nil = true ≡ false
+IsDark (Cons (Blank ending) bs) = true ≡ false
+IsDark (Cons b bs) = Unit {0}
+
+-- something is open
+abbrev IsOpen : Opening → Type 0
+IsOpen (Leaf (Text [])) = true ≡ false
+IsOpen now = Unit {0}
+
+-- what was read first is no blank line
+abbrev pub IsBegun : Tree → Type 0
+IsBegun t = IsDark t.done ⊎ ((t.done ≡ Nil) × IsOpen t.now)
+
+abbrev SomeBegun : Option Tree → Type 0
+SomeBegun None = Unit {0}
+SomeBegun (Some t) = IsBegun t
+
+dark_join : (bs others : Blocks) → IsDark bs → IsDark (join bs others)
+dark_join Nil others d = absurd (true≢false d)
+dark_join (Cons (Blank ending) bs) others d = absurd (true≢false d)
+dark_join (Cons (Paragraph ls) bs) others d = tt
+dark_join (Cons (Heading rank ls) bs) others d = tt
+dark_join (Cons Break bs) others d = tt
+dark_join (Cons (IndentedCode ls) bs) others d = tt
+dark_join (Cons (FencedCode info is_closed ls) bs) others d = tt
+dark_join (Cons (Html ls) bs) others d = tt
+dark_join (Cons (Definition label destination title) bs) others d = tt
+dark_join (Cons (Holds c kids) bs) others d = tt
+dark_join (Cons (Items items) bs) others d = tt
+dark_join (Cons (Ending ending) bs) others d = tt
+
+dark_one : (bs : Blocks) → IsDark bs → is_one_blank bs ≡ false
+dark_one Nil d = refl
+dark_one (Cons (Blank ending) bs) d = absurd (true≢false d)
+dark_one (Cons (Paragraph ls) bs) d = refl
+dark_one (Cons (Heading rank ls) bs) d = refl
+dark_one (Cons Break bs) d = refl
+dark_one (Cons (IndentedCode ls) bs) d = refl
+dark_one (Cons (FencedCode info is_closed ls) bs) d = refl
+dark_one (Cons (Html ls) bs) d = refl
+dark_one (Cons (Definition label destination title) bs) d = refl
+dark_one (Cons (Holds c kids) bs) d = refl
+dark_one (Cons (Items items) bs) d = refl
+dark_one (Cons (Ending ending) bs) d = refl
+
+-- so nothing was read that is a blank line alone
+pub begun_blank : (t : Tree) → IsBegun t → began_blank t.done t.now ≡ false
+begun_blank t b =
+    ⊎_elim (λ d. ap (λ blank. blank && is_nothing t.now) (dark_one t.done d))
+    (λ n. ap (λ bs. is_one_blank bs && is_nothing t.now) n.0) b
+
+-- nothing, or dark
+abbrev NoneOrDark : Blocks → Type 0
+NoneOrDark bs = (bs ≡ Nil) ⊎ IsDark bs
+
+join_dark : (bs others : Blocks) → NoneOrDark bs → IsDark others → IsDark (join bs others)
+join_dark bs others h d = ⊎_elim (λ none. subst (λ x. IsDark (join x others)) (sym none) d) (λ dark. dark_join bs others dark) h
+
+cut_after_dark : (o : Option LinkDefinition) (ls : List BlockLine) (more : List BlockLine → Cut) → NoneOrDark (cut_after o ls more).definitions
+cut_after_dark None ls more = inl refl
+cut_after_dark (Some d) ls more = inr tt
+
+cut_most_dark : (most : ℕ) (ls : List BlockLine) → NoneOrDark (cut_most most ls).definitions
+cut_most_dark zero ls = inl refl
+cut_most_dark (suc most) ls = cut_after_dark (definition_at (content_of (own_lines ls))) ls (cut_most most)
+
+paragraph_after : (o : Option LinkDefinition) (line : BlockLine) (ls : List BlockLine) (more : List BlockLine → Cut)
+    → IsDark (with_paragraph (cut_after o (line ∷ ls) more))
+paragraph_after None line ls more = tt
+paragraph_after (Some d) line ls more = tt
+
+html_begun : (kind : ℕ) (ls : List BlockLine) (rest : Rest) (beside : Beside) → IsBegun (html_with kind ls rest beside)
+html_begun kind ls rest beside = cond_both (html_ends_here kind rest) _ _ IsBegun (λ _. inl tt) (λ _. inr (refl, tt))
+
+or_heading_begun : (ending : Option LineEnding) (o : Option Atx) → SomeBegun (or_heading ending o)
+or_heading_begun ending None = tt
+or_heading_begun ending (Some a) = inl tt
+
+or_fence_begun : (ending : Option LineEnding) (o : Option Fence) (other : Option Tree) → SomeBegun other → SomeBegun (or_fence ending o other)
+or_fence_begun ending None other q = q
+or_fence_begun ending (Some fence) other q = inr (refl, tt)
+
+or_html_begun : (rest : Rest) (beside : Beside) (o : Option ℕ) (other : Option Tree) → SomeBegun other → SomeBegun (or_html rest beside o other)
+or_html_begun rest beside None other q = q
+or_html_begun rest beside (Some kind) other q = html_begun kind [] rest beside
+
+heading_begun : (rank : ℕ) (definitions : Blocks) (ls : List BlockLine) (ending : Option LineEnding) → NoneOrDark definitions
+    → SomeBegun (heading_of rank definitions ls ending)
+heading_begun rank definitions [] ending h = tt
+heading_begun rank definitions (line ∷ ls) ending h = inl (join_dark definitions _ h tt)
+
+taken_begun : (o : Option Tree) (other : Tree) → SomeBegun o → IsBegun other → IsBegun (taken o other)
+taken_begun None other p q = q
+taken_begun (Some t) other p q = p
+
+longer_open : (ls : List BlockLine) (line : BlockLine) → IsOpen (Leaf (Text (ls ++ line ∷ [])))
+longer_open [] line = tt
+longer_open (l ∷ ls) line = tt
+
+leaf_line_open : (line : BlockLine) (leaf : OpenLeaf) → IsOpen (Leaf (leaf_with_line line leaf))
+leaf_line_open line (Text ls) = longer_open ls line
+leaf_line_open line (Indented ls pending) = tt
+leaf_line_open line (Fenced fence ending ls) = tt
+leaf_line_open line (OpenHtml kind ls) = tt
+
+line_open : (line : BlockLine) (now : Opening) → IsOpen (with_line line now)
+line_open line (Leaf leaf) = leaf_line_open line leaf
+line_open line (Inside c kids inner) = tt
+
+module _ (on : Constructs) where
+  cut_dark : (ls : List BlockLine) → NoneOrDark (cut on ls).definitions
+  cut_dark ls =
+      cond_both on.definition (cut_most (length ls) ls) (cut_into Nil ls) (λ (parts : Cut). NoneOrDark parts.definitions)
+      (λ _. cut_most_dark (length ls) ls) (λ _. inl refl)
+
+  paragraph_dark : (line : BlockLine) (ls : List BlockLine) → IsDark (with_paragraph (cut on (line ∷ ls)))
+  paragraph_dark line ls =
+      let all = line ∷ ls in
+      cond_both on.definition (cut_most (length all) all) (cut_into Nil all) (λ (parts : Cut). IsDark (with_paragraph parts))
+      (λ _. paragraph_after (definition_at (content_of (own_lines all))) line ls (cut_most (length ls))) (λ _. tt)
+
+  holds_dark : (c : Container) (kids : Blocks) → IsDark (holds c kids)
+  holds_dark Quote kids = tt
+  holds_dark (Item item) kids = tt
+
+  -- what is open is something where it is closed
+  close_dark : (now : Opening) → IsOpen now → IsDark (close on now)
+  close_dark (Leaf (Text [])) h = absurd (true≢false h)
+  close_dark (Leaf (Text (line ∷ ls))) h = paragraph_dark line ls
+  close_dark (Leaf (Indented ls pending)) h = tt
+  close_dark (Leaf (Fenced fence ending ls)) h = tt
+  close_dark (Leaf (OpenHtml kind ls)) h = tt
+  close_dark (Inside c kids inner) h = holds_dark c (join kids (close on inner))
+
+  closed_nothing : NoneOrDark (close on nothing)
+  closed_nothing = cond_both on.definition (cut_most 0 []) (cut_into Nil []) (λ (parts : Cut). NoneOrDark (with_paragraph parts)) (λ _. inl refl) (λ _. inl refl)
+
+  close_either : (now : Opening) → NoneOrDark (close on now)
+  close_either (Leaf (Text [])) = closed_nothing
+  close_either (Leaf (Text (line ∷ ls))) = inr (paragraph_dark line ls)
+  close_either (Leaf (Indented ls pending)) = inr tt
+  close_either (Leaf (Fenced fence ending ls)) = inr tt
+  close_either (Leaf (OpenHtml kind ls)) = inr tt
+  close_either (Inside c kids inner) = inr (holds_dark c (join kids (close on inner)))
+
+  after_begun : (away : Opening) (t : Tree) → IsBegun t → IsBegun (after on away t)
+  after_begun away t b =
+      ⊎_elim
+      (λ none. subst (λ closed. IsBegun (tree (join closed t.done) t.now)) (sym none) b)
+      (λ dark. inl (dark_join (close on away) t.done dark)) (close_either away)
+
+  takes_begun : (leaf : OpenLeaf) (rest : Rest) (beside : Beside) → SomeBegun (takes on leaf rest beside)
+  takes_begun (Text ls) rest beside = tt
+  takes_begun (Indented ls pending) rest beside =
+      cond_both (is_blank rest) _ _ SomeBegun (λ _. inr (refl, tt))
+      (λ _. cond_both (starts_code_indented on rest) _ _ SomeBegun (λ _. inr (refl, tt)) (λ _. tt))
+  takes_begun (Fenced fence opening ls) rest beside = cond_both (is_fence_end on fence rest) _ _ SomeBegun (λ _. inl tt) (λ _. inr (refl, tt))
+  takes_begun (OpenHtml kind ls) rest beside =
+      cond_both (ends_before_blank kind && is_blank rest) _ _ SomeBegun (λ _. tt) (λ _. html_begun kind ls rest beside)
+
+  begins_begun : (paragraph : Bool) (rest : Rest) (beside : Beside) → SomeBegun (begins on paragraph rest beside)
+  begins_begun paragraph rest beside =
+      cond_both (starts_code_indented on rest && not paragraph) _ _ SomeBegun (λ _. inr (refl, tt))
+      (λ _. or_fence_begun beside.ending (fence_start on rest) _
+      (or_fence_begun beside.ending (math_start on rest) _
+      (or_html_begun rest beside (html_start on paragraph rest) _ (or_heading_begun beside.ending (heading_atx on rest)))))
+
+  text_begun : (away : Opening) (rest : Rest) (beside : Beside) → IsBegun (text_line_of on away rest beside)
+  text_begun away rest beside =
+      cond_both (has_text away) _ _ IsBegun (λ _. inr (refl, line_open (rest_line rest beside) away))
+      (λ _. after_begun away (tree Nil (Leaf (Text (rest_line rest beside ∷ [])))) (inr (refl, tt)))
+
+  break_begun : (away : Opening) (rest : Rest) (beside : Beside) → IsBegun (break_or_text on away rest beside)
+  break_begun away rest beside =
+      cond_both (is_break on rest) _ _ IsBegun (λ _. after_begun away (tree (ended Break beside.ending) nothing) (inl tt)) (λ _. text_begun away rest beside)
+
+  underlined_begun : (o : Option ℕ) (ls : List BlockLine) (ending : Option LineEnding) → SomeBegun (underlined on o ls ending)
+  underlined_begun None ls ending = tt
+  underlined_begun (Some rank) ls ending = heading_begun rank (cut on ls).definitions (cut on ls).left ending (cut_dark ls)
+
+  begun_begun : (o : Option Tree) (away : Opening) (other : Tree) → SomeBegun o → IsBegun other → IsBegun (begun on o away other)
+  begun_begun None away other p q = q
+  begun_begun (Some t) away other p q = after_begun away t p
+
+  -- something is open, or the rest isn't blank
+  abbrev HasText : Opening → Rest → Type 0
+  HasText away rest = IsOpen away ⊎ (is_blank rest ≡ false)
+
+  leaf_line_begun : (away : Opening) (rest : Rest) (beside : Beside) → HasText away rest → IsBegun (leaf_line on away rest beside)
+  leaf_line_begun away rest beside h =
+      cond_both (is_blank rest) _ _ IsBegun
+      (λ blank. ⊎_elim (λ is_open. inl (dark_join (close on away) (one (Blank beside.ending)) (close_dark away is_open)))
+      (λ other. absurd (both_ways (is_blank rest) other blank)) h)
+      (λ _. begun_begun (begins on (has_text away) rest beside) away _ (begins_begun (has_text away) rest beside)
+      (taken_begun (turns on away rest beside.ending) _ (underlined_begun (underline on rest) (text_here away) beside.ending) (break_begun away rest beside)))
+
+  start_begun : (o : Option Started) (away : Opening) (other : Tree) (more : Started → Tree) → IsBegun other → IsBegun (start on o away other more)
+  start_begun None away other more q = q
+  start_begun (Some s) away other more q = after_begun away (tree Nil (Inside s.container (more s).done (more s).now)) (inr (refl, tt))
+
+  pub new_begun : (most : ℕ) (all : Bool) (away : Opening) (beside : Beside) (rest : Rest) → HasText away rest → IsBegun (new most on all away beside rest)
+  new_begun zero all away beside rest h = leaf_line_begun away rest beside h
+  new_begun (suc most) all away beside rest h =
+      start_begun (starts on (all && has_text away) rest) away (leaf_line on away rest beside) _ (leaf_line_begun away rest beside h)
+
+  goes_on_begun : (o : Option Rest) (c : Container) (kids : Blocks) (inner : Opening) (beside : Beside) (rest : Rest) (more : Rest → Tree)
+      → IsBegun (goes_on o on c kids inner beside rest more)
+  goes_on_begun None c kids inner beside rest more = new_begun (length rest) false (Inside c kids inner) beside rest (inl tt)
+  goes_on_begun (Some others) c kids inner beside rest more = inr (refl, tt)
+
+  grow_begun : (beside : Beside) (now : Opening) (rest : Rest) → IsOpen now → IsBegun (grow on beside now rest)
+  grow_begun beside (Leaf leaf) rest h =
+      taken_begun (takes on leaf rest beside) _ (takes_begun leaf rest beside) (new_begun (length rest) true (Leaf leaf) beside rest (inl h))
+  grow_begun beside (Inside c kids inner) rest h =
+      goes_on_begun (continues on c (began_blank kids inner) rest) c kids inner beside rest (grow on (beside_in c rest beside) inner)
+
+  -- one more line
+  pub more_begun : (beside : Beside) (t : Tree) (rest : Rest) → IsBegun t
+      → IsBegun (tree (join t.done (grow on beside t.now rest).done) (grow on beside t.now rest).now)
+  more_begun beside t rest b =
+      let more = grow on beside t.now rest in
+      ⊎_elim (λ d. inl (dark_join t.done more.done d))
+      (λ n. subst (λ bs. IsBegun (tree (join bs more.done) more.now)) (sym n.0) (grow_begun beside t.now rest n.1)) b
