@@ -23,7 +23,7 @@ use Rattle.definition_inline.specs.HardBreak.{escaped_break_at, line_end_at, lin
 use Rattle.definition_inline.specs.LabelEnd.{Ended, label_end_at}
 use Rattle.definition_inline.specs.Attention.{Run, is_marker, run_between, run_size, run_at}
 use Rattle.definition_inline.specs.Spans.{Token, Item, Delimiters, emphasized}
-use Rattle.definition_inline.specs.Scan.{InlineContext, leaf_at, LabelStart, LinkStart, ImageStart, label_start_at, start_more, start_tokens, may_form, label_part, makes_link, Text, text, OpenLabel, Reading, reading, read_tokens, unformed, formed, Step, Next, data_step, ended_step, ended_by, label_end_step, last_step, label_step, run_step, leaf_step, step, and_then, scan, whole_text, inlines}
+use Rattle.definition_inline.specs.Scan.{InlineContext, leaf_at, LabelStart, LinkStart, ImageStart, label_start_at, start_more, start_tokens, may_form, label_part, makes_link, Text, text, OpenLabel, Reading, reading, read_tokens, unformed, formed, Step, Next, data_step, ended_step, ended_by, label_end_step, last_step, label_step, run_step, leaf_step, step, and_then, scan, whole_text, inlines, inlines_from, unindented}
 use Rattle.laws_endings.specs.Endings.{code_with, codes_with}
 use Rattle.laws_endings.specs.Inlines.{inline_code_with, content_with, target_with, inline_with, inlines_with}
 use Rattle.laws_endings.specs.Laws.{InlinesLaw}
@@ -139,7 +139,7 @@ module _ (e : LineEnding) where
       (begins-two e 33 91 refl refl refl refl cs)
       ∙ ap (λ begins. cond (on.label_start_image && begins_with (codes "![") cs) (Some ImageStart) (link begins)) (begins-byte e 91 refl refl cs)
 
-  codes_of-with : (cs : List InlineCode) → codes_of (content_with e cs) ≡ codes_with e (codes_of cs)
+  pub codes_of-with : (cs : List InlineCode) → codes_of (content_with e cs) ≡ codes_with e (codes_of cs)
   codes_of-with [] = refl
   codes_of-with (c ∷ cs) = ap (λ more. code_with e c.code ∷ more) (codes_of-with cs)
 
@@ -149,6 +149,12 @@ module _ (e : LineEnding) where
   prefix-with test p q (c ∷ cs) =
       ap (λ passes. cond passes (1 + prefix_len (λ (x : InlineCode). test x.code) (content_with e cs)) 0) (same_code e test c.code p q)
       ∙ ap (λ n. cond (test c.code) (1 + n) 0) (prefix-with test p q cs)
+
+  -- a content without the spaces and tabs at its start
+  pub unindented-with : (content : List InlineCode) → unindented (content_with e content) ≡ content_with e (unindented content)
+  unindented-with content =
+      ap (λ n. drop n (content_with e content)) (prefix-with is_white refl refl content)
+      ∙ drop-map (inline_code_with e) (prefix_len (λ (c : InlineCode). is_white c.code) content) content
 
   run_at-with : (options : ParseOptions) (c : InlineCode) (cs : List InlineCode) → is_eol c.code ≡ false
       → run_at options (content_with e (c ∷ cs)) ≡ run_at options (c ∷ cs)
@@ -251,17 +257,17 @@ module _ (e : LineEnding) where
     unformed_all now (label ∷ labels) =
         ap (λ t. fold (λ inner l. unformed l inner) t (map open_with labels)) (unformed-with label now) ∙ unformed_all (unformed label now) labels
 
-    pub inlines-with : (content : List InlineCode) → inlines context (content_with e content) ≡ inlines_with e (inlines context content)
-    inlines-with content =
+    -- the inline structure of a content from a place on
+    pub from-with : (content : List InlineCode) → inlines_from context (content_with e content) ≡ inlines_with e (inlines_from context content)
+    from-with content =
         let empty = reading (text [] false) [] in
-        let rest = drop (prefix_len (λ (c : InlineCode). is_white c.code) content) content in
-        let read = scan context 0 empty rest in
-        ap (λ n. emphasized (whole_text (scan context 0 empty (drop n (content_with e content)))).tokens) (prefix-with is_white refl refl content)
-        ∙ ap (λ cs. emphasized (whole_text (scan context 0 empty cs)).tokens)
-        (drop-map (inline_code_with e) (prefix_len (λ (c : InlineCode). is_white c.code) content) content)
-        ∙ ap (λ r. emphasized (whole_text r).tokens) (scan-with 0 empty rest)
+        let read = scan context 0 empty content in
+        ap (λ r. emphasized (whole_text r).tokens) (scan-with 0 empty content)
         ∙ ap (λ (t : Text). emphasized t.tokens) (unformed_all read.now read.open_labels)
         ∙ emphasized-with e (whole_text read).tokens
+
+    pub inlines-with : (content : List InlineCode) → inlines context (content_with e content) ≡ inlines_with e (inlines context content)
+    inlines-with content = ap (inlines_from context) (unindented-with content) ∙ from-with (unindented content)
 
 pub inlines_law : InlinesLaw
 inlines_law e context content same = inlines-with e context same content

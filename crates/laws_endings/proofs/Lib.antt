@@ -14,3 +14,4 @@ mod Tokens
 pub mod Contents
 pub mod Matching
 pub mod CutCharacters
+pub mod GfmTaskListItem

@@ -15,7 +15,7 @@ use Rattle.definition_page.specs.Tags.{Words, Number, Attribute, attribute, tag,
 use Rattle.definition_page.specs.Pieces.{Piece, Void, Says, Eol, Fresh}
 use Rattle.definition_page.specs.InlinePieces.{Meaning, raw_html, element, inline_pieces}
 use Rattle.definition_page.specs.Page.{Block, Paragraph, Heading, Break, IndentedCode, FencedCode, Html, Definition, Quote, ItemList, Item, Ending, Blank, Blocks, Nil, Cons}
-use Rattle.definition_page.specs.BlockPieces.{Place, inside, code_line, html_line, says, heading_name, info_attributes, start_attributes, list_tag, is_silent, last_shown, ends_plainly, fresh_unless, fenced_pieces, block_pieces, children_pieces}
+use Rattle.definition_page.specs.BlockPieces.{checkable_attributes, done_attributes, check_pieces, Place, inside, code_line, html_line, says, heading_name, info_attributes, start_attributes, list_tag, is_silent, last_shown, ends_plainly, fresh_unless, fenced_pieces, block_pieces, children_pieces}
 use Rattle.laws_endings.specs.Endings.{with_ending, ending_with, if_ending_with, codes_with, line_with, lines_with}
 use Rattle.laws_endings.specs.Inlines.{inlines_with}
 use Rattle.laws_endings_page.proofs.Each.{WhereSome, each_filter, each_map}
@@ -117,7 +117,7 @@ module _ (e : LineEnding) where
 
     is_silent-with : (place : Place) (b : Option Block) → is_silent place (sibling_with b) ≡ is_silent place b
     is_silent-with place None = refl
-    is_silent-with place (Some (Paragraph is)) = refl
+    is_silent-with place (Some (Paragraph check is)) = refl
     is_silent-with place (Some (Heading rank is)) = refl
     is_silent-with place (Some Break) = refl
     is_silent-with place (Some (IndentedCode ls)) = refl
@@ -132,7 +132,7 @@ module _ (e : LineEnding) where
 
     last_shown-with : (b : Option Block) (bs : Blocks) → last_shown (sibling_with b) (page_blocks_with e bs) ≡ sibling_with (last_shown b bs)
     last_shown-with b Nil = refl
-    last_shown-with b (Cons (Paragraph is) bs) = last_shown-with (Some (Paragraph is)) bs
+    last_shown-with b (Cons (Paragraph check is) bs) = last_shown-with (Some (Paragraph check is)) bs
     last_shown-with b (Cons (Heading rank is) bs) = last_shown-with (Some (Heading rank is)) bs
     last_shown-with b (Cons Break bs) = last_shown-with (Some Break) bs
     last_shown-with b (Cons (IndentedCode ls) bs) = last_shown-with (Some (IndentedCode ls)) bs
@@ -147,7 +147,7 @@ module _ (e : LineEnding) where
 
     ends_plainly-with : (tight : Bool) (b : Option Block) → ends_plainly tight (sibling_with b) ≡ ends_plainly tight b
     ends_plainly-with tight None = refl
-    ends_plainly-with tight (Some (Paragraph is)) = refl
+    ends_plainly-with tight (Some (Paragraph check is)) = refl
     ends_plainly-with tight (Some (Heading rank is)) = refl
     ends_plainly-with tight (Some Break) = refl
     ends_plainly-with tight (Some (IndentedCode ls)) = refl
@@ -197,19 +197,38 @@ module _ (e : LineEnding) where
     text-with : (is : Inlines) → AreFit is → PiecesWith e (inline_pieces m' (inlines_with e is)) (inline_pieces m is)
     text-with is p = inlines-with e m other leads fits is p
 
-    paragraph-with : (tight : Bool) (is : Inlines) → AreFit is
-        → PiecesWith e (cond tight (inline_pieces m' (inlines_with e is)) (Fresh ∷ element (bare_tag (codes "p")) (inline_pieces m' (inlines_with e is))))
-        (cond tight (inline_pieces m is) (Fresh ∷ element (bare_tag (codes "p")) (inline_pieces m is)))
-    paragraph-with true is p = text-with is p
-    paragraph-with false is p =
-        let ps' = inline_pieces m' (inlines_with e is) in
-        let ps = inline_pieces m is in
-        fresh-then (element (bare_tag (codes "p")) ps') (element (bare_tag (codes "p")) ps) (bare-with (codes "p") ps' ps refl (text-with is p))
+    abbrev box_attributes : Bool → Bool → List Attribute
+    box_attributes checkable done = attribute (codes "type") (codes "checkbox") ∷ checkable_attributes checkable ++ done_attributes done
+
+    box-with : (checkable done : Bool)
+        → PiecesWith e (Void (tag (codes "input") (box_attributes checkable done)) ∷ []) (Void (tag (codes "input") (box_attributes checkable done)) ∷ [])
+    box-with true true = void_piece-with e (codes "input") (box_attributes true true) (box_attributes true true) refl refl
+    box-with true false = void_piece-with e (codes "input") (box_attributes true false) (box_attributes true false) refl refl
+    box-with false true = void_piece-with e (codes "input") (box_attributes false true) (box_attributes false true) refl refl
+    box-with false false = void_piece-with e (codes "input") (box_attributes false false) (box_attributes false false) refl refl
+
+    check-with : (check : Option Bool) → PiecesWith e (check_pieces m.compile check) (check_pieces m.compile check)
+    check-with None = no_pieces e
+    check-with (Some done) = box-with m.compile.gfm_task_list_item_checkable done
+
+    checked-with : (check : Option Bool) (is : Inlines) → AreFit is
+        → PiecesWith e (check_pieces m.compile check ++ inline_pieces m' (inlines_with e is)) (check_pieces m.compile check ++ inline_pieces m is)
+    checked-with check is p =
+        append-with e (check_pieces m.compile check) (check_pieces m.compile check) (inline_pieces m' (inlines_with e is)) (inline_pieces m is)
+        (check-with check) (text-with is p)
+
+    paragraph-with : (tight : Bool) (ps' ps : List Piece) → PiecesWith e ps' ps
+        → PiecesWith e (cond tight ps' (Fresh ∷ element (bare_tag (codes "p")) ps')) (cond tight ps (Fresh ∷ element (bare_tag (codes "p")) ps))
+    paragraph-with true ps' ps p = p
+    paragraph-with false ps' ps p =
+        fresh-then (element (bare_tag (codes "p")) ps') (element (bare_tag (codes "p")) ps) (bare-with (codes "p") ps' ps refl p)
 
     mutual
       block-with : (place : Place) (before : Option Block) (b : Block) → PageBlockFits e b
           → PiecesWith e (block_pieces m' place (sibling_with before) (page_block_with e b)) (block_pieces m place before b)
-      block-with place before (Paragraph is) p = paragraph-with place.tight is p
+      block-with place before (Paragraph check is) p =
+          paragraph-with place.tight (check_pieces m.compile check ++ inline_pieces m' (inlines_with e is)) (check_pieces m.compile check ++ inline_pieces m is)
+          (checked-with check is p)
       block-with place before (Heading rank is) p =
           let ps' = inline_pieces m' (inlines_with e is) in
           let ps = inline_pieces m is in

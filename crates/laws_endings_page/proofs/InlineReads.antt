@@ -27,7 +27,7 @@ use Rattle.definition_inline.specs.LabelEnd.{Ended, by_text, by_label, by_resour
 use Rattle.definition_inline.specs.Attention.{Run, is_marker, run_at}
 use Rattle.definition_inline.specs.Pairing.{Pair, pairs}
 use Rattle.definition_inline.specs.Spans.{Token, Item, Delimiters, runs_of, Span, IsEmphasis, IsStrong, IsStrikethrough, span_of, SpanRow, Holds, Opens, Closes, bytes_taken, run_rows, rows_from, OpenSpan, Nest, nest, spanned, leave, nest_row, emphasized}
-use Rattle.definition_inline.specs.Scan.{InlineContext, leaf_at, LabelStart, LinkStart, ImageStart, label_start_at, start_tokens, may_form, label_part, Text, text, OpenLabel, Reading, reading, read_tokens, unformed, formed, Step, Next, data_step, ended_step, ended_by, label_end_step, last_step, label_step, run_step, leaf_step, step, and_then, scan, whole_text, inlines}
+use Rattle.definition_inline.specs.Scan.{InlineContext, leaf_at, LabelStart, LinkStart, ImageStart, label_start_at, start_tokens, may_form, label_part, Text, text, OpenLabel, Reading, reading, read_tokens, unformed, formed, Step, Next, data_step, ended_step, ended_by, label_end_step, last_step, label_step, run_step, leaf_step, step, and_then, scan, whole_text, inlines, inlines_from, unindented}
 use Rattle.laws_endings.proofs.Contents.{no_ending}
 use Rattle.laws_endings_page.proofs.Each.{Each, each-append, each-take, each-drop, each_map, each_same, WhereSome, where_passed}
 use Rattle.laws_endings_page.proofs.Characters.{may_mark}
@@ -428,14 +428,18 @@ module _ (context : InlineContext) where
   whole_fits inner [] p h = p
   whole_fits inner (label ∷ others) p h = whole_fits (unformed label inner) others (unformed_fits label inner h.0 p) h.1
 
-  dropped_codes : (n : ℕ) (content : List InlineCode) → Each Single (codes_of content) → Each Single (codes_of (drop n content))
+  pub dropped_codes : (n : ℕ) (content : List InlineCode) → Each Single (codes_of content) → Each Single (codes_of (drop n content))
   dropped_codes zero content p = p
   dropped_codes (suc n) [] p = tt
   dropped_codes (suc n) (c ∷ cs) p = dropped_codes n cs p.1
 
+  -- from a place of a content on
+  pub from_fits : (content : List InlineCode) → Each Single (codes_of content) → AreFit (inlines_from context content)
+  from_fits content p =
+      let r = scan context 0 (reading (text [] false) []) content in
+      let h : ReadingFits r = scan_fits 0 (reading (text [] false) []) content p (tt, tt) in
+      emphasized_fits (whole_text r).tokens (whole_fits r.now r.open_labels h.0 h.1)
+
   pub inlines_fit : (content : List InlineCode) → Each Single (codes_of content) → AreFit (inlines context content)
   inlines_fit content p =
-      let start = prefix_len (λ (c : InlineCode). is_white c.code) content in
-      let r = scan context 0 (reading (text [] false) []) (drop start content) in
-      let h : ReadingFits r = scan_fits 0 (reading (text [] false) []) (drop start content) (dropped_codes start content p) (tt, tt) in
-      emphasized_fits (whole_text r).tokens (whole_fits r.now r.open_labels h.0 h.1)
+      from_fits (unindented content) (dropped_codes (prefix_len (λ (c : InlineCode). is_white c.code) content) content p)

@@ -25,7 +25,7 @@ use Rattle.definition_page.specs.Pieces.{layout}
 use Rattle.definition_page.specs.InlinePieces.{Meaning}
 use Rattle.definition_page.specs.BlockPieces.{at_top, fresh_unless, children_pieces}
 use Rattle.definition_page.specs.DocumentPieces.{pieces, default_ending}
-use Rattle.definition_page.specs.Read.{Reading, read_blocks, ends_blank, page_with, read_after}
+use Rattle.definition_page.specs.Read.{Reading, on_page, read_blocks, ends_blank, page_with, read_after}
 use Rattle.laws_endings.specs.Endings.{with_ending, if_ending_with, text_line_with, codes_with, definition_with, blocks_with}
 use Rattle.laws_endings.specs.Laws.{HasNoReturn}
 use Rattle.laws_endings.proofs.Lines.{ending_lines_law, lines_after-byte}
@@ -143,7 +143,7 @@ module _ (e : LineEnding) (tables : TextTables) (options : Options) (bs : tree.B
 
   abbrev read_here : tree.Blocks → (List ℕ → Bool) → Bool → List ℕ → List ℕ
   read_here all is_defined blank default =
-      layout default (children_pieces (meaning_by other_ds) at_top None (read_blocks (reading_by is_defined) true all) ++ fresh_unless (not blank))
+      layout default (children_pieces (meaning_by other_ds) at_top None (read_blocks (reading_by is_defined) on_page all) ++ fresh_unless (not blank))
 
   ds_fit : Each DefinitionIs ds
   ds_fit = each_map DefinitionIs DefinitionIs spaced (definitions bs) spaced_fits (definitions_fit bs fit)
@@ -154,7 +154,7 @@ module _ (e : LineEnding) (tables : TextTables) (options : Options) (bs : tree.B
       let r = reading_by (is_label_of ds) in
       let all = grouped bs in
       let fits = grouped_fits bs fit in
-      let page = read_blocks r true all in
+      let page = read_blocks r on_page all in
       let default = ending_bytes e in
       let blank' = ends_blank false (blocks_with e bs) in
       let end = fresh_unless (not (ends_blank false bs)) in
@@ -162,9 +162,9 @@ module _ (e : LineEnding) (tables : TextTables) (options : Options) (bs : tree.B
       ap (λ is_defined. read_here (grouped (blocks_with e bs)) is_defined blank' default) (same_labels e ds)
       ∙ ap (λ items. read_here items (is_label_of ds) blank' default) (grouped-with e bs)
       ∙ ap (λ blank. read_here (blocks_with e all) (is_label_of ds) blank default) (ends_blank-with e false bs)
-      ∙ ap (λ blocks. layout default (children_pieces (meaning_by other_ds) at_top None blocks ++ end)) (read_blocks-with e r (same_label e ds) true all fits)
+      ∙ ap (λ blocks. layout default (children_pieces (meaning_by other_ds) at_top None blocks ++ end)) (read_blocks-with e r (same_label e ds) on_page all fits)
       ∙ append-with e (children_pieces (meaning_by other_ds) at_top None (page_blocks_with e page)) (children_pieces m at_top None page) end end
-      (children-with e m (linked_by other_ds) (leads-with e ds) (leads_fit ds ds_fit) at_top None page (read_blocks_fit e r (same_label e ds) true all fits))
+      (children-with e m (linked_by other_ds) (leads-with e ds) (leads_fit ds ds_fit) at_top None page (read_blocks_fit e r (same_label e ds) on_page all fits))
       (fresh_unless-with e m (linked_by other_ds) (leads-with e ds) (leads_fit ds ds_fit) (not (ends_blank false bs))) []
 
 -- ---- the first ending of a text

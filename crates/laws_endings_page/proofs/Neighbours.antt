@@ -13,7 +13,7 @@ use Rattle.definition_text.specs.Content.{is_eol}
 use Rattle.definition_text.specs.InlineCode.{InlineCode, inline_code, codes_of, first_character, is_continuation, character_kind, first_kind, next_kind, with_kinds}
 use Rattle.definition_inline.specs.GfmStrikethrough.{is_tilde}
 use Rattle.definition_inline.specs.Attention.{Run, is_marker, run_between, run_size, run_at}
-use Rattle.definition_inline.specs.Scan.{InlineContext, leaf_at, text, Reading, reading, Step, Next, leaf_step, step, and_then, scan, whole_text, inlines}
+use Rattle.definition_inline.specs.Scan.{InlineContext, leaf_at, text, Reading, reading, Step, Next, leaf_step, step, and_then, scan, whole_text, inlines, inlines_from, unindented}
 use Rattle.definition_inline.specs.Spans.{emphasized}
 use Rattle.laws_endings.specs.Endings.{code_with, codes_with}
 use Rattle.laws_endings.specs.Inlines.{inline_code_with, content_with}
@@ -35,7 +35,7 @@ flattened c = inline_code c.code Whitespace Whitespace
 abbrev flat_unless : Bool → InlineCode → InlineCode
 flat_unless marks c = cond marks c (flattened c)
 
-abbrev tame : InlineCode → InlineCode
+abbrev pub tame : InlineCode → InlineCode
 tame c = flat_unless (may_mark c.code) c
 
 abbrev pub tamed : List InlineCode → List InlineCode
@@ -48,7 +48,7 @@ code_by false c = refl
 tame_code : (c : InlineCode) → (tame c).code ≡ c.code
 tame_code c = code_by (may_mark c.code) c
 
-tamed_codes : (cs : List InlineCode) → codes_of (tamed cs) ≡ codes_of cs
+pub tamed_codes : (cs : List InlineCode) → codes_of (tamed cs) ≡ codes_of cs
 tamed_codes [] = refl
 tamed_codes (c ∷ cs) = ap (λ code. code ∷ codes_of (tamed cs)) (tame_code c) ∙ ap (λ more. c.code ∷ more) (tamed_codes cs)
 
@@ -58,6 +58,10 @@ tamed_prefix test [] = refl
 tamed_prefix test (c ∷ cs) =
     ap (λ code. cond (test code) (1 + prefix_len (λ (x : InlineCode). test x.code) (tamed cs)) 0) (tame_code c)
     ∙ ap (λ n. cond (test c.code) (1 + n) 0) (tamed_prefix test cs)
+
+pub tamed_unindented : (content : List InlineCode) → unindented (tamed content) ≡ tamed (unindented content)
+tamed_unindented content =
+    ap (λ n. drop n (tamed content)) (tamed_prefix is_white content) ∙ drop-map tame (prefix_len (λ (c : InlineCode). is_white c.code) content) content
 
 -- the last of the elements at the front that pass a test passes it
 last_by : {A : Type 0} (test : A → Bool) (c x : A) (xs : List A) (d : A) (n : ℕ) → test c ≡ true → (passes : Bool) → test x ≡ passes
@@ -133,13 +137,11 @@ module _ (context : InlineContext) where
       ∙ then_same (step context r c cs) (λ k next. scan context k next (tamed cs)) (λ k next. scan context k next cs) (λ k next. tamed_scan k next cs)
   tamed_scan (suc k) r (c ∷ cs) = tamed_scan k r cs
 
+  pub tamed_from : (content : List InlineCode) → inlines_from context (tamed content) ≡ inlines_from context content
+  tamed_from content = ap (λ r. emphasized (whole_text r).tokens) (tamed_scan 0 (reading (text [] false) []) content)
+
   pub tamed_inlines : (content : List InlineCode) → inlines context (tamed content) ≡ inlines context content
-  tamed_inlines content =
-      let empty = reading (text [] false) [] in
-      let start = prefix_len (λ (c : InlineCode). is_white c.code) content in
-      ap (λ n. emphasized (whole_text (scan context 0 empty (drop n (tamed content)))).tokens) (tamed_prefix is_white content)
-      ∙ ap (λ cs. emphasized (whole_text (scan context 0 empty cs)).tokens) (drop-map tame start content)
-      ∙ ap (λ r. emphasized (whole_text r).tokens) (tamed_scan 0 empty (drop start content))
+  tamed_inlines content = ap (inlines_from context) (tamed_unindented content) ∙ tamed_from (unindented content)
 
 -- ---- kinds of whole characters
 

@@ -1,7 +1,9 @@
 -- The page of the blocks of a text with another line ending in place of each LF.
-use Rattle.std.proofs.Common.{◌≡◌, ℕ, zero, suc, Bool, false, true≢false, cond, eqb, not, ◌||◌, ◌&&◌, leb, List, [], ◌∷◌, ◌++◌, Option, None, Some, refl, sym, ap, ◌∙◌, subst, map}
+use Rattle.std.proofs.Common.{◌≡◌, ℕ, zero, suc, Bool, false, true≢false, cond, eqb, not, ◌||◌, ◌&&◌, leb, List, [], ◌∷◌, ◌++◌, Option, None, Some, refl, sym, ap, ◌∙◌, subst, map, drop}
 use Rattle.std.proofs.lemmas.Bool.{cond_both}
-use Rattle.std.proofs.lemmas.List.{map-append}
+use Rattle.std.proofs.lemmas.List.{drop-map, map-append}
+use Rattle.std.specs.List.{prefix_len}
+use Rattle.definition_text.specs.Columns.{is_white}
 use Rattle.markdown_options.specs.declared.line_ending.LineEnding.{LineEnding}
 use Rattle.markdown_options.specs.declared.line_ending.LineEnding.TheVariants.{CarriageReturnLineFeed, CarriageReturn, LineFeed}
 use Rattle.definition_text.specs.declared.beside.Kind.{Kind}
@@ -10,7 +12,8 @@ use Rattle.definition_text.specs.BlockLines.{BlockLine, own_lines}
 use Rattle.definition_text.specs.Columns.{is_tab_column, code_byte}
 use Rattle.definition_text.specs.Content.{ending_code, line_codes}
 use Rattle.definition_text.specs.InlineCode.{InlineCode, codes_of, with_kinds, next_kind, line_content, inline_content}
-use Rattle.definition_inline.specs.Scan.{InlineContext, inlines}
+use Rattle.definition_inline.specs.GfmTaskListItem.{check_at, check_size}
+use Rattle.definition_inline.specs.Scan.{InlineContext, inlines, inlines_from, unindented}
 use Rattle.definition_inline.specs.Strings.{string_text}
 use Rattle.definition_block.specs.declared.container.Container.TheVariants.{Quote, Item}
 use Rattle.definition_block.specs.Tree as tree
@@ -18,18 +21,19 @@ use Rattle.definition_block.specs.Tree.{is_ending, join, one}
 use Rattle.definition_block.specs.Lists.{leading, endings_of, after_endings, is_some_block, has_gap, has_gap_inside, is_loose, item_marker, list_marker, list_items, rest_of, before_list, before, grouped_block, grouped}
 use Rattle.definition_page.specs.Page as page
 use Rattle.definition_page.specs.Page.{cons_ending, cons_blank}
-use Rattle.definition_page.specs.Read.{Reading, read_text, info_text, code_lines, without_ending, after_code, list_number, read_block, read_blocks, is_blank_ending, ends_blank}
+use Rattle.definition_page.specs.Read.{Reading, Standing, in_container, in_item, next_standing, checked_paragraph, read_paragraph, read_text, info_text, code_lines, without_ending, after_code, list_number, read_block, read_blocks, is_blank_ending, ends_blank}
 use Rattle.laws_endings.specs.Endings.{with_ending, ending_with, if_ending_with, codes_with, line_with, lines_with, block_with, blocks_with}
-use Rattle.laws_endings.specs.Inlines.{inlines_with, content_with}
+use Rattle.laws_endings.specs.Inlines.{inline_code_with, inlines_with, content_with}
 use Rattle.laws_endings.proofs.Codes.{cond-under}
 use Rattle.laws_endings.proofs.Cuts.{own_lines-with, line_codes-with, join-with}
 use Rattle.laws_endings.proofs.Matching.{bytes-with}
-use Rattle.laws_endings.proofs.Contents.{inlines-with}
+use Rattle.laws_endings.proofs.Contents.{codes_of-with, unindented-with, from-with, inlines-with}
+use Rattle.laws_endings.proofs.GfmTaskListItem.{check_at-with}
 use Rattle.laws_endings_page.proofs.Each.{Each, each-append, each_map}
 use Rattle.laws_endings_page.proofs.Characters.{Begins, continues_one, AreWhole}
-use Rattle.laws_endings_page.proofs.Neighbours.{tamed, tamed_inlines, kinds-with, kinds-kept}
+use Rattle.laws_endings_page.proofs.Neighbours.{tame, tamed, tamed_codes, tamed_unindented, tamed_from, tamed_inlines, kinds-with, kinds-kept}
 use Rattle.laws_endings_page.proofs.Fits.{Single, Plain}
-use Rattle.laws_endings_page.proofs.InlineReads.{AreFit, inlines_fit}
+use Rattle.laws_endings_page.proofs.InlineReads.{AreFit, dropped_codes, from_fits, inlines_fit}
 use Rattle.laws_endings_page.proofs.BlockReads.{IsFed, WholeBefore, LineFits, LinesFit, BlockFits, BlocksFit, line_singles, join_fits, own_fit}
 use Rattle.laws_endings_page.proofs.Bytes.{IsNoFeed}
 use Rattle.laws_endings_page.proofs.Saids.{plains_no_feed, codes-kept, string_text-with}
@@ -336,7 +340,7 @@ module _ (e : LineEnding) where
 
   abbrev mutual
     pub page_block_with : page.Block → page.Block
-    page_block_with (page.Paragraph is) = page.Paragraph (inlines_with e is)
+    page_block_with (page.Paragraph check is) = page.Paragraph check (inlines_with e is)
     page_block_with (page.Heading rank is) = page.Heading rank (inlines_with e is)
     page_block_with page.Break = page.Break
     page_block_with (page.IndentedCode ls) = page.IndentedCode (lines_with e ls)
@@ -360,7 +364,7 @@ module _ (e : LineEnding) where
 
   abbrev mutual
     pub PageBlockFits : page.Block → Type 0
-    PageBlockFits (page.Paragraph is) = AreFit is
+    PageBlockFits (page.Paragraph check is) = AreFit is
     PageBlockFits (page.Heading rank is) = AreFit is
     PageBlockFits page.Break = Unit {0}
     PageBlockFits (page.IndentedCode ls) = LinesFit ls
@@ -397,7 +401,7 @@ module _ (e : LineEnding) where
 
   without_ending-with : (bs : page.Blocks) → without_ending (page_blocks_with bs) ≡ page_blocks_with (without_ending bs)
   without_ending-with page.Nil = refl
-  without_ending-with (page.Cons (page.Paragraph is) bs) = refl
+  without_ending-with (page.Cons (page.Paragraph check is) bs) = refl
   without_ending-with (page.Cons (page.Heading rank is) bs) = refl
   without_ending-with (page.Cons page.Break bs) = refl
   without_ending-with (page.Cons (page.IndentedCode ls) bs) = refl
@@ -442,6 +446,53 @@ module _ (e : LineEnding) where
     text_fits : (ls : List BlockLine) → LinesFit ls → AreFit (read_text r ls)
     text_fits ls h = inlines_fit context (inline_content r.tables.is_punctuation Whitespace ls) (content_fits r.tables.is_punctuation ls h)
 
+    -- what is read of contents that are the same but for their endings
+    from-same : (other content : List InlineCode) → tamed other ≡ content_with e (tamed content)
+        → inlines_from context other ≡ inlines_with e (inlines_from context content)
+    from-same other content h =
+        sym (tamed_from context other) ∙ ap (inlines_from context) h ∙ from-with e context same (tamed content)
+        ∙ ap (inlines_with e) (tamed_from context content)
+
+    codes-same : (other content : List InlineCode) → tamed other ≡ content_with e (tamed content) → codes_of other ≡ codes_with e (codes_of content)
+    codes-same other content h =
+        sym (tamed_codes other) ∙ ap codes_of h ∙ codes_of-with e (tamed content) ∙ ap (codes_with e) (tamed_codes content)
+
+    drop-same : (n : ℕ) (other content : List InlineCode) → tamed other ≡ content_with e (tamed content)
+        → tamed (drop n other) ≡ content_with e (tamed (drop n content))
+    drop-same n other content h =
+        sym (drop-map tame n other) ∙ ap (drop n) h ∙ drop-map (inline_code_with e) n (tamed content) ∙ ap (content_with e) (drop-map tame n content)
+
+    checked-same : (other content : List InlineCode) → tamed other ≡ content_with e (tamed content) → (found : Option Bool)
+        → checked_paragraph r other found ≡ page_block_with (checked_paragraph r content found)
+    checked-same other content h None = ap (page.Paragraph None) (from-same other content h)
+    checked-same other content h (Some done) =
+        ap (page.Paragraph (Some done)) (from-same (drop check_size other) (drop check_size content) (drop-same check_size other content h))
+
+    paragraph-with : (first : Bool) (ls : List BlockLine) → LinesFit ls
+        → read_paragraph r first (lines_with e ls) ≡ page_block_with (read_paragraph r first ls)
+    paragraph-with first ls h =
+        let p = r.tables.is_punctuation in
+        let on = r.options.constructs in
+        let other = inline_content p Whitespace (lines_with e ls) in
+        let content = inline_content p Whitespace ls in
+        let alike : tamed (unindented other) ≡ content_with e (tamed (unindented content)) =
+        sym (tamed_unindented other) ∙ ap unindented (content-with p ls h) ∙ unindented-with e (tamed content)
+        ∙ ap (content_with e) (tamed_unindented content) in
+        ap (λ codes. checked_paragraph r (unindented other) (check_at on first codes)) (codes-same (unindented other) (unindented content) alike)
+        ∙ ap (checked_paragraph r (unindented other)) (check_at-with e on first (codes_of (unindented content)))
+        ∙ checked-same (unindented other) (unindented content) alike (check_at on first (codes_of (unindented content)))
+
+    checked_fits : (content : List InlineCode) → Each Single (codes_of content) → (found : Option Bool) → PageBlockFits (checked_paragraph r content found)
+    checked_fits content p None = from_fits context content p
+    checked_fits content p (Some done) = from_fits context (drop check_size content) (dropped_codes context check_size content p)
+
+    paragraph_fits : (first : Bool) (ls : List BlockLine) → LinesFit ls → PageBlockFits (read_paragraph r first ls)
+    paragraph_fits first ls h =
+        let content = inline_content r.tables.is_punctuation Whitespace ls in
+        checked_fits (unindented content)
+        (dropped_codes context (prefix_len (λ (c : InlineCode). is_white c.code) content) content (content_fits r.tables.is_punctuation ls h))
+        (check_at r.options.constructs first (codes_of (unindented content)))
+
     singles_of : (cs : List ℕ) → Each Plain cs → Each Single cs
     singles_of [] p = tt
     singles_of (c ∷ cs) p = (p.0.0, singles_of cs p.1)
@@ -455,59 +506,61 @@ module _ (e : LineEnding) where
         ∙ ap (string_text on r.tables.names) (codes-kept e info (plains_no_feed info p))
 
     mutual
-      read_block-with : (top : Bool) (b : tree.Block) (others' others : page.Blocks) → BlockFits b → others' ≡ page_blocks_with others
-          → read_block r top (block_with e b) others' ≡ page_blocks_with (read_block r top b others)
-      read_block-with top (tree.Paragraph ls) others' others p q =
-          ap (λ is. page.Cons (page.Paragraph is) others') (text-with ls p) ∙ ap (page.Cons (page.Paragraph (inlines_with e (read_text r ls)))) q
-      read_block-with top (tree.Heading rank ls) others' others p q =
+      read_block-with : (s : Standing) (b : tree.Block) (others' others : page.Blocks) → BlockFits b → others' ≡ page_blocks_with others
+          → read_block r s (block_with e b) others' ≡ page_blocks_with (read_block r s b others)
+      read_block-with s (tree.Paragraph ls) others' others p q =
+          ap (λ b. page.Cons b others') (paragraph-with s.first ls p) ∙ ap (page.Cons (page_block_with (read_paragraph r s.first ls))) q
+      read_block-with s (tree.Heading rank ls) others' others p q =
           ap (λ is. page.Cons (page.Heading rank is) others') (text-with ls p) ∙ ap (page.Cons (page.Heading rank (inlines_with e (read_text r ls)))) q
-      read_block-with top tree.Break others' others p q = ap (page.Cons page.Break) q
-      read_block-with top (tree.IndentedCode ls) others' others p q = ap (page.Cons (page.IndentedCode (lines_with e ls))) q
-      read_block-with top (tree.FencedCode info is_closed ls) others' others p q =
+      read_block-with s tree.Break others' others p q = ap (page.Cons page.Break) q
+      read_block-with s (tree.IndentedCode ls) others' others p q = ap (page.Cons (page.IndentedCode (lines_with e ls))) q
+      read_block-with s (tree.FencedCode info is_closed ls) others' others p q =
           let code : List BlockLine → page.Block = λ own. page.FencedCode (info_text r info) is_closed own in
-          ap (λ own. page.Cons (code own) (after_code top is_closed others')) (code_lines-with top is_closed ls)
-          ∙ ap (page.Cons (code (lines_with e (code_lines top is_closed ls)))) (ap (after_code top is_closed) q ∙ after_code-with top is_closed others)
-      read_block-with top (tree.Html ls) others' others p q = ap (page.Cons (page.Html (lines_with e ls))) q
-      read_block-with top (tree.Definition label destination title) others' others p q = ap (page.Cons page.Definition) q
-      read_block-with top (tree.Holds Quote kids) others' others p q =
-          ap (λ inside. page.Cons (page.Quote inside) others') (read_blocks-with false kids p)
-          ∙ ap (page.Cons (page.Quote (page_blocks_with (read_blocks r false kids)))) q
-      read_block-with top (tree.Holds (Item item) kids) others' others p q =
-          ap (λ inside. page.Cons (page.Item inside) others') (read_blocks-with false kids p)
-          ∙ ap (page.Cons (page.Item (page_blocks_with (read_blocks r false kids)))) q
-      read_block-with top (tree.Items items) others' others p q =
-          let items' = read_blocks r false (blocks_with e items) in
+          ap (λ own. page.Cons (code own) (after_code s.top is_closed others')) (code_lines-with s.top is_closed ls)
+          ∙ ap (page.Cons (code (lines_with e (code_lines s.top is_closed ls)))) (ap (after_code s.top is_closed) q ∙ after_code-with s.top is_closed others)
+      read_block-with s (tree.Html ls) others' others p q = ap (page.Cons (page.Html (lines_with e ls))) q
+      read_block-with s (tree.Definition label destination title) others' others p q = ap (page.Cons page.Definition) q
+      read_block-with s (tree.Holds Quote kids) others' others p q =
+          ap (λ inside. page.Cons (page.Quote inside) others') (read_blocks-with in_container kids p)
+          ∙ ap (page.Cons (page.Quote (page_blocks_with (read_blocks r in_container kids)))) q
+      read_block-with s (tree.Holds (Item item) kids) others' others p q =
+          ap (λ inside. page.Cons (page.Item inside) others') (read_blocks-with in_item kids p)
+          ∙ ap (page.Cons (page.Item (page_blocks_with (read_blocks r in_item kids)))) q
+      read_block-with s (tree.Items items) others' others p q =
+          let items' = read_blocks r in_container (blocks_with e items) in
           ap (λ number. page.Cons (page.ItemList number (is_loose (blocks_with e items)) items') others') (list_number-with items)
           ∙ ap (λ loose. page.Cons (page.ItemList (list_number items) loose items') others') (is_loose-with items)
-          ∙ ap (λ inside. page.Cons (page.ItemList (list_number items) (is_loose items) inside) others') (read_blocks-with false items p)
-          ∙ ap (page.Cons (page.ItemList (list_number items) (is_loose items) (page_blocks_with (read_blocks r false items)))) q
-      read_block-with top (tree.Ending ending) others' others p q = ap (cons_ending (if_ending_with e ending)) q ∙ cons_ending-with ending others
-      read_block-with top (tree.Blank ending) others' others p q = ap (cons_blank (if_ending_with e ending)) q ∙ cons_blank-with ending others
+          ∙ ap (λ inside. page.Cons (page.ItemList (list_number items) (is_loose items) inside) others') (read_blocks-with in_container items p)
+          ∙ ap (page.Cons (page.ItemList (list_number items) (is_loose items) (page_blocks_with (read_blocks r in_container items)))) q
+      read_block-with s (tree.Ending ending) others' others p q = ap (cons_ending (if_ending_with e ending)) q ∙ cons_ending-with ending others
+      read_block-with s (tree.Blank ending) others' others p q = ap (cons_blank (if_ending_with e ending)) q ∙ cons_blank-with ending others
 
-      pub read_blocks-with : (top : Bool) (bs : tree.Blocks) → BlocksFit bs → read_blocks r top (blocks_with e bs) ≡ page_blocks_with (read_blocks r top bs)
-      read_blocks-with top tree.Nil p = refl
-      read_blocks-with top (tree.Cons b bs) p =
-          read_block-with top b (read_blocks r top (blocks_with e bs)) (read_blocks r top bs) p.0 (read_blocks-with top bs p.1)
+      pub read_blocks-with : (s : Standing) (bs : tree.Blocks) → BlocksFit bs → read_blocks r s (blocks_with e bs) ≡ page_blocks_with (read_blocks r s bs)
+      read_blocks-with s tree.Nil p = refl
+      read_blocks-with s (tree.Cons b bs) p =
+          ap (λ t. read_block r s (block_with e b) (read_blocks r (record { top = s.top; first = s.first && t }) (blocks_with e bs))) (is_ending-with b)
+          ∙ read_block-with s b (read_blocks r (next_standing s b) (blocks_with e bs)) (read_blocks r (next_standing s b) bs) p.0
+          (read_blocks-with (next_standing s b) bs p.1)
 
     mutual
-      read_block_fits : (top : Bool) (b : tree.Block) (others : page.Blocks) → BlockFits b → PageFits others → PageFits (read_block r top b others)
-      read_block_fits top (tree.Paragraph ls) others p q = (text_fits ls p, q)
-      read_block_fits top (tree.Heading rank ls) others p q = (text_fits ls p, q)
-      read_block_fits top tree.Break others p q = (tt, q)
-      read_block_fits top (tree.IndentedCode ls) others p q = (p, q)
-      read_block_fits top (tree.FencedCode info is_closed ls) others p q =
-          ((info_fits info p.0, code_lines_fit top is_closed ls p.1), after_code_fits top is_closed others q)
-      read_block_fits top (tree.Html ls) others p q = (p, q)
-      read_block_fits top (tree.Definition label destination title) others p q = (tt, q)
-      read_block_fits top (tree.Holds Quote kids) others p q = (read_blocks_fit false kids p, q)
-      read_block_fits top (tree.Holds (Item item) kids) others p q = (read_blocks_fit false kids p, q)
-      read_block_fits top (tree.Items items) others p q = (read_blocks_fit false items p, q)
-      read_block_fits top (tree.Ending ending) others p q = cons_ending_fits ending others p q
-      read_block_fits top (tree.Blank ending) others p q = cons_blank_fits ending others p q
+      read_block_fits : (s : Standing) (b : tree.Block) (others : page.Blocks) → BlockFits b → PageFits others → PageFits (read_block r s b others)
+      read_block_fits s (tree.Paragraph ls) others p q = (paragraph_fits s.first ls p, q)
+      read_block_fits s (tree.Heading rank ls) others p q = (text_fits ls p, q)
+      read_block_fits s tree.Break others p q = (tt, q)
+      read_block_fits s (tree.IndentedCode ls) others p q = (p, q)
+      read_block_fits s (tree.FencedCode info is_closed ls) others p q =
+          ((info_fits info p.0, code_lines_fit s.top is_closed ls p.1), after_code_fits s.top is_closed others q)
+      read_block_fits s (tree.Html ls) others p q = (p, q)
+      read_block_fits s (tree.Definition label destination title) others p q = (tt, q)
+      read_block_fits s (tree.Holds Quote kids) others p q = (read_blocks_fit in_container kids p, q)
+      read_block_fits s (tree.Holds (Item item) kids) others p q = (read_blocks_fit in_item kids p, q)
+      read_block_fits s (tree.Items items) others p q = (read_blocks_fit in_container items p, q)
+      read_block_fits s (tree.Ending ending) others p q = cons_ending_fits ending others p q
+      read_block_fits s (tree.Blank ending) others p q = cons_blank_fits ending others p q
 
-      pub read_blocks_fit : (top : Bool) (bs : tree.Blocks) → BlocksFit bs → PageFits (read_blocks r top bs)
-      read_blocks_fit top tree.Nil p = tt
-      read_blocks_fit top (tree.Cons b bs) p = read_block_fits top b (read_blocks r top bs) p.0 (read_blocks_fit top bs p.1)
+      pub read_blocks_fit : (s : Standing) (bs : tree.Blocks) → BlocksFit bs → PageFits (read_blocks r s bs)
+      read_blocks_fit s tree.Nil p = tt
+      read_blocks_fit s (tree.Cons b bs) p = read_block_fits s b (read_blocks r (next_standing s b) bs) p.0 (read_blocks_fit (next_standing s b) bs p.1)
 
   -- ---- whether the end is blank
 
