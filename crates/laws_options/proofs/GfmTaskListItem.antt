@@ -36,7 +36,7 @@ no_check_by true found = refl
 no_check_by false found = refl
 
 module _ (r : Reading) (off : r.options.constructs.gfm_task_list_item ≡ false) where
-  no_check : (first : Bool) (codes : List ℕ) → check_at r.options.constructs first codes ≡ None
+  pub no_check : (first : Bool) (codes : List ℕ) → check_at r.options.constructs first codes ≡ None
   no_check first codes = ap (λ on. cond (first && on) (check_of codes) None) off ∙ no_check_by first (check_of codes)
 
   unchecked_paragraph : (first : Bool) (ls : List BlockLine) → HasNoCheck (read_paragraph r first ls)

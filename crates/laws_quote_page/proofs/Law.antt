@@ -34,7 +34,7 @@ use Rattle.laws_quote_page.proofs.Printed.{with_piece, with_pieces, pieces_print
 use Rattle.laws_quote_page.proofs.Lists.{grouped-join}
 use Rattle.laws_quote_page.proofs.Siblings.{print_siblings, same_in_quote, keep_join}
 
-join-nil : (bs : tree.Blocks) → tree.join bs tree.Nil ≡ bs
+pub join-nil : (bs : tree.Blocks) → tree.join bs tree.Nil ≡ bs
 join-nil tree.Nil = refl
 join-nil (tree.Cons b bs) = ap (tree.Cons b) (join-nil bs)
 
@@ -57,24 +57,24 @@ squeeze_around bytes =
 -- ---- the page of children of a document, with these definitions
 
 module _ (tables : TextTables) (options : Options) (default : LineEnding) (ds : List Definition) where
-  abbrev reading : Reading
+  abbrev pub reading : Reading
   reading = record { options = options.parse; tables = tables; is_defined = is_label_of ds }
 
-  abbrev meaning : Meaning
+  abbrev pub meaning : Meaning
   meaning = record { on = options.parse.constructs; compile = options.compile; names = tables.names; definition = linked_by ds }
 
-  abbrev page_bytes : tree.Blocks → List ℕ
+  abbrev pub page_bytes : tree.Blocks → List ℕ
   page_bytes bs = layout (ending_bytes default) (pieces tables options (page_with tables options.parse ds bs))
 
   -- children in a quote, squeezed
-  abbrev squeezed_kids : tree.Blocks → Squeezed
+  abbrev pub squeezed_kids : tree.Blocks → Squeezed
   squeezed_kids bs = print_siblings default meaning (inside false) None (read_blocks reading in_container (grouped bs)) nothing_yet
 
   last_line : (said : Bool) (s : Squeezed) → (with_pieces default s (fresh_unless said)).kept ≡ s.kept
   last_line true s = refl
   last_line false s = kept_at_fresh default s
 
-  squeeze_page : (bs : tree.Blocks) → squeeze (page_bytes bs) ≡ (squeezed_kids bs).kept
+  pub squeeze_page : (bs : tree.Blocks) → squeeze (page_bytes bs) ≡ (squeezed_kids bs).kept
   squeeze_page bs =
       let kids = children_pieces meaning at_top None (read_blocks reading on_page (grouped bs)) in
       let said = not (ends_blank false bs) in
@@ -123,7 +123,7 @@ module _ (tables : TextTables) (options : Options) (default : LineEnding) (ds : 
 -- ---- the text
 
 -- the ending that a text's page adds
-abbrev added_ending : Options → List ℕ → LineEnding
+abbrev pub added_ending : Options → List ℕ → LineEnding
 added_ending options text = unwrap_or (first_line text).ending options.compile.default_line_ending
 
 first_ending : (ls : List TextLine) → (first_of (map quoted_line ls)).ending ≡ (first_of ls).ending
@@ -136,7 +136,7 @@ added_ending-quoted options text =
     ∙ ap (λ ending. unwrap_or ending options.compile.default_line_ending) (first_ending (lines text))
 
 -- the page of a text without a byte order mark
-html_unmarked : (tables : TextTables) (text : List ℕ) (options : Options) → has_mark text ≡ false
+pub html_unmarked : (tables : TextTables) (text : List ℕ) (options : Options) → has_mark text ≡ false
     → let kids = tree.blocks options.parse.constructs Whitespace text in
     html tables text options ≡ page_bytes tables options (added_ending options text) (document_definitions kids) kids
 html_unmarked tables text options unmarked =

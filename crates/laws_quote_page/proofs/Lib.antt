@@ -1,6 +1,6 @@
-mod Lists
-mod Siblings
-mod Bytes
-mod Printed
+pub mod Lists
+pub mod Siblings
+pub mod Bytes
+pub mod Printed
 pub mod Law
 pub mod Rows

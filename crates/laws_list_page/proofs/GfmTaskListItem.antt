@@ -1,0 +1,39 @@
+-- Where task list items are off, blocks are read in an item as in any container.
+use Rattle.std.proofs.Common.{◌≡◌, Bool, false, ◌&&◌, List, refl, ap, ◌∙◌}
+use Rattle.definition_text.specs.BlockLines.{BlockLine}
+use Rattle.definition_text.specs.InlineCode.{codes_of}
+use Rattle.definition_inline.specs.Scan.{unindented}
+use Rattle.definition_block.specs.declared.container.Container.TheVariants.{Quote, Item}
+use Rattle.definition_block.specs.Blocks as tree
+use Rattle.definition_block.specs.Tree.{is_ending}
+use Rattle.definition_page.specs.Page as page
+use Rattle.definition_page.specs.Read.{Reading, Standing, in_container, text_content, checked_paragraph, read_paragraph, read_block, read_blocks}
+use Rattle.laws_options.proofs.GfmTaskListItem.{no_check}
+
+-- in a container, as the first block of an item or not
+abbrev standing_by : Bool → Standing
+standing_by first = record { top = false; first = first }
+
+module _ (r : Reading) (off : r.options.constructs.gfm_task_list_item ≡ false) where
+  same_paragraph : (first : Bool) (ls : List BlockLine) → read_paragraph r first ls ≡ read_paragraph r false ls
+  same_paragraph first ls =
+      let content = unindented (text_content r ls) in ap (checked_paragraph r content) (no_check r off first (codes_of content))
+
+  same_block : (first : Bool) (b : tree.Block) (others : page.Blocks) → read_block r (standing_by first) b others ≡ read_block r in_container b others
+  same_block first (tree.Paragraph ls) others = ap (λ b. page.Cons b others) (same_paragraph first ls)
+  same_block first (tree.Heading rank ls) others = refl
+  same_block first tree.Break others = refl
+  same_block first (tree.IndentedCode ls) others = refl
+  same_block first (tree.FencedCode info is_closed ls) others = refl
+  same_block first (tree.Html ls) others = refl
+  same_block first (tree.Definition label destination title) others = refl
+  same_block first (tree.Holds Quote kids) others = refl
+  same_block first (tree.Holds (Item item) kids) others = refl
+  same_block first (tree.Items items) others = refl
+  same_block first (tree.Ending ending) others = refl
+  same_block first (tree.Blank ending) others = refl
+
+  pub read_in_item : (first : Bool) (bs : tree.Blocks) → read_blocks r (standing_by first) bs ≡ read_blocks r in_container bs
+  read_in_item first tree.Nil = refl
+  read_in_item first (tree.Cons b bs) =
+      ap (read_block r (standing_by first) b) (read_in_item (first && is_ending b) bs) ∙ same_block first b (read_blocks r in_container bs)

@@ -1,0 +1,3 @@
+pub mod GfmTaskListItem
+mod Gaps
+pub mod Law

@@ -1,0 +1,4 @@
+//! What a text with `+ ` before its first line and two spaces before every other prints: a list of one item around the text's page, but for line endings beside tags.
+#![tactic(auto)]
+
+pub mod laws;
