@@ -19,12 +19,12 @@ use Rattle.inline_states.specs.Inlines.{bodies}
 abbrev pub text_of : List ℕ → Text
 text_of bytes = text_to (unskipped bytes) (length bytes, 0)
 
-module _ {T : Type 0} (texts : List ℕ → Option (List ℕ)) (x : Context T) where
+module _ {T : Type 0} (texts : List ℕ → Option (List ℕ)) (is_punctuation : ℕ → Bool) (x : Context T) where
   -- these are the events of the one reading of a text, from a state on
   pub record IsReading (first : InlineName) (machine : Inlines) (events : List Event) : Type 0 where
     pub config : Config Inlines
     pub well : Bool
-    pub runs : Runs (text_of x.bytes) (step_by (bodies texts x)) (fresh text_start machine) [] (states.Next (Inline first)) config well
+    pub runs : Runs (text_of x.bytes) (step_by (bodies texts is_punctuation x)) (fresh text_start machine) [] (states.Next (Inline first)) config well
     pub read : events ≡ config.events
 
   -- the events of a text, where contents that may begin with a check begin at these places

@@ -68,7 +68,7 @@ impl<'s, T: Tables> Machine<T> for Inlines<'s> {
 
     ghost seen = { λ machine. machine };
 
-    ghost step = { λ x. step_by (bodies (T.reference_of x.tables) x) };
+    ghost step = { λ x. step_by (bodies (T.reference_of x.tables) (T.punctuation_of x.tables) x) };
 
     ghost valid = { λ x. program_valid sorts 64 (length x.bytes) };
 
@@ -101,7 +101,7 @@ impl<'s, T: Tables> Machine<T> for Inlines<'s> {
         Ok(None)
     }
 
-    ghost lawful = { λ x. inline_lawful (T.reference_of x.tables) x };
+    ghost lawful = { λ x. inline_lawful (T.reference_of x.tables) (T.punctuation_of x.tables) x };
 
-    ghost resolving = { λ x. inline_resolves (T.reference_of x.tables) x };
+    ghost resolving = { λ x. inline_resolves (T.reference_of x.tables) (T.punctuation_of x.tables) x };
 }

@@ -21,7 +21,8 @@ pub fn read_text<T: Tables, A: Allocator + Clone>(
     parse_state: &ParseState<'_, T, A>,
     starts: &[usize],
 ) -> Result<Vec<Event, A>, Message>
-    ensures reads { IfOk result (λ events. AreTextEvents (T.reference_of parse_state.now.tables.now) (context parse_state.now) starts.entry events.items) }
+    ensures reads { IfOk result (λ events. AreTextEvents
+        (T.reference_of parse_state.now.tables.now) (T.punctuation_of parse_state.now.tables.now) (context parse_state.now) starts.entry events.items) }
     ensures balanced { IfOk result (λ events. IsBalanced events.items) }
     ensures order { IfOk result (λ events. AreInOrder events.items) }
     ensures memory { IfErr result (λ message. IsOutOfMemory message) }
@@ -40,7 +41,8 @@ pub fn read_string<T: Tables, A: Allocator + Clone>(
     alloc: A,
     parse_state: &ParseState<'_, T, A>,
 ) -> Result<Vec<Event, A>, Message>
-    ensures reads { IfOk result (λ events. AreStringEvents (T.reference_of parse_state.now.tables.now) (context parse_state.now) events.items) }
+    ensures reads { IfOk result (λ events. AreStringEvents
+        (T.reference_of parse_state.now.tables.now) (T.punctuation_of parse_state.now.tables.now) (context parse_state.now) events.items) }
     ensures balanced { IfOk result (λ events. IsBalanced events.items) }
     ensures order { IfOk result (λ events. AreInOrder events.items) }
     ensures memory { IfErr result (λ message. IsOutOfMemory message) }
