@@ -208,7 +208,12 @@ fn begin_domain<M, T: Tables, A: Allocator>(tokenizer: &mut Tokenizer<'_, M, T, 
 pub fn protocol_start<M, T, A: Allocator>(tokenizer: &mut Tokenizer<'_, M, T, A>) -> State
     ensures { Does (gfm_autolink_literal_protocol_start (constructs_of tokenizer.old).gfm_autolink_literal) tokenizer.old tokenizer.new result }
 {
-    if !tokenizer.parse_state.options.constructs.gfm_autolink_literal {
+    if !tokenizer
+        .parse_state
+        .options
+        .constructs
+        .gfm_autolink_literal
+    {
         return State::Nok;
     }
     if let Some(byte) = tokenizer.previous {
@@ -291,7 +296,12 @@ pub fn protocol_slashes_inside<M, T: Tables, A: Allocator>(
 pub fn www_start<M, T, A: Allocator>(tokenizer: &mut Tokenizer<'_, M, T, A>) -> State
     ensures { Does (gfm_autolink_literal_www_start (constructs_of tokenizer.old).gfm_autolink_literal) tokenizer.old tokenizer.new result }
 {
-    if !tokenizer.parse_state.options.constructs.gfm_autolink_literal {
+    if !tokenizer
+        .parse_state
+        .options
+        .constructs
+        .gfm_autolink_literal
+    {
         return State::Nok;
     }
     if let Some(byte) = tokenizer.previous {
@@ -337,10 +347,7 @@ pub fn www_prefix_inside<M, T, A: Allocator>(tokenizer: &mut Tokenizer<'_, M, T,
         Some(b'W' | b'w') => {
             if size < 3 {
                 tokenizer.tokenize_state.size = size.saturating_add(1);
-                return consume_to(
-                    tokenizer,
-                    next(Inline::GfmAutolinkLiteralWwwPrefixInside),
-                );
+                return consume_to(tokenizer, next(Inline::GfmAutolinkLiteralWwwPrefixInside));
             }
             State::Nok
         },
@@ -349,9 +356,7 @@ pub fn www_prefix_inside<M, T, A: Allocator>(tokenizer: &mut Tokenizer<'_, M, T,
 }
 
 /// After `www.`.
-pub fn www_prefix_after<M, T: Tables, A: Allocator>(
-    tokenizer: &mut Tokenizer<'_, M, T, A>,
-) -> State
+pub fn www_prefix_after<M, T: Tables, A: Allocator>(tokenizer: &mut Tokenizer<'_, M, T, A>) -> State
     ensures { Does (gfm_autolink_literal_www_prefix_after
         (T.punctuation_of (tables_of tokenizer.old)) (bytes_of tokenizer.old)) tokenizer.old tokenizer.new result }
 {

@@ -27,22 +27,37 @@ pub fn call<M, T: Tables, A: Allocator>(
     match state {
         Inline::GfmAutolinkLiteralProtocolStart => gfm_autolink_literal::protocol_start(tokenizer),
         Inline::GfmAutolinkLiteralProtocolAfter => gfm_autolink_literal::protocol_after(tokenizer),
-        Inline::GfmAutolinkLiteralProtocolPrefixInside => gfm_autolink_literal::protocol_prefix_inside(tokenizer),
-        Inline::GfmAutolinkLiteralProtocolSlashesInside => gfm_autolink_literal::protocol_slashes_inside(tokenizer),
+        Inline::GfmAutolinkLiteralProtocolPrefixInside =>
+            gfm_autolink_literal::protocol_prefix_inside(tokenizer),
+        Inline::GfmAutolinkLiteralProtocolSlashesInside =>
+            gfm_autolink_literal::protocol_slashes_inside(tokenizer),
         Inline::GfmAutolinkLiteralWwwStart => gfm_autolink_literal::www_start(tokenizer),
         Inline::GfmAutolinkLiteralWwwAfter => gfm_autolink_literal::www_after(tokenizer),
-        Inline::GfmAutolinkLiteralWwwPrefixInside => gfm_autolink_literal::www_prefix_inside(tokenizer),
-        Inline::GfmAutolinkLiteralWwwPrefixAfter => gfm_autolink_literal::www_prefix_after(tokenizer),
+        Inline::GfmAutolinkLiteralWwwPrefixInside => gfm_autolink_literal::www_prefix_inside(
+            tokenizer,
+        ),
+        Inline::GfmAutolinkLiteralWwwPrefixAfter => gfm_autolink_literal::www_prefix_after(
+            tokenizer,
+        ),
         Inline::GfmAutolinkLiteralDomainInside => gfm_autolink_literal::domain_inside(tokenizer),
-        Inline::GfmAutolinkLiteralDomainAtPunctuation => gfm_autolink_literal::domain_at_punctuation(tokenizer),
+        Inline::GfmAutolinkLiteralDomainAtPunctuation =>
+            gfm_autolink_literal::domain_at_punctuation(tokenizer),
         Inline::GfmAutolinkLiteralDomainAfter => gfm_autolink_literal::domain_after(tokenizer),
         Inline::GfmAutolinkLiteralPathInside => gfm_autolink_literal::path_inside(tokenizer),
-        Inline::GfmAutolinkLiteralPathAtPunctuation => gfm_autolink_literal::path_at_punctuation(tokenizer),
+        Inline::GfmAutolinkLiteralPathAtPunctuation => gfm_autolink_literal::path_at_punctuation(
+            tokenizer,
+        ),
         Inline::GfmAutolinkLiteralPathAfter => gfm_autolink_literal::path_after(tokenizer),
         Inline::GfmAutolinkLiteralTrail => gfm_autolink_literal::trail(tokenizer),
-        Inline::GfmAutolinkLiteralTrailBracketAfter => gfm_autolink_literal::trail_bracket_after(tokenizer),
-        Inline::GfmAutolinkLiteralTrailCharRefStart => gfm_autolink_literal::trail_char_ref_start(tokenizer),
-        Inline::GfmAutolinkLiteralTrailCharRefInside => gfm_autolink_literal::trail_char_ref_inside(tokenizer),
+        Inline::GfmAutolinkLiteralTrailBracketAfter => gfm_autolink_literal::trail_bracket_after(
+            tokenizer,
+        ),
+        Inline::GfmAutolinkLiteralTrailCharRefStart => gfm_autolink_literal::trail_char_ref_start(
+            tokenizer,
+        ),
+        Inline::GfmAutolinkLiteralTrailCharRefInside => gfm_autolink_literal::trail_char_ref_inside(
+            tokenizer,
+        ),
         Inline::GfmLabelStartFootnoteStart => gfm_label_start_footnote::start(tokenizer),
         Inline::GfmLabelStartFootnoteOpen => gfm_label_start_footnote::open(tokenizer),
         Inline::GfmTaskListItemCheckStart => gfm_task_list_item_check::start(tokenizer),
