@@ -13,7 +13,7 @@ use Rattle.markdown_engine.specs.Laws.{LawfulAt}
 use Rattle.markdown_engine.specs.Machine.{fresh}
 use Rattle.markdown_engine.specs.Order.{open_after}
 use Rattle.markdown_engine.specs.Reading.{Config}
-use Rattle.markdown_engine.specs.Resolving.{ResolvesAt, resolves_nothing, settles_whole}
+use Rattle.markdown_engine.specs.Resolving.{ResolvesAt, settles_whole}
 use Rattle.engine_programs.specs.Bodies.{named_all, step_by}
 use Rattle.engine_programs.specs.Sorts.{fits, implies}
 use Rattle.engine_programs.specs.Stacks.{program_rank, program_valid}
@@ -27,6 +27,8 @@ use Rattle.inline_states_html.specs.HtmlStates.{html_fits}
 use Rattle.inline_states_labels.specs.LabelStates.{labels_fit}
 use Rattle.inline_states_ends.specs.EndStates.{ends_fit}
 use Rattle.inline_states_gfm.specs.GfmStates.{gfm_fits}
+use Rattle.inline_states_resolvers.specs.Resolving.{inline_resolved}
+use Rattle.inline_states_resolvers.specs.ResolvingLaws.{resolves_whole}
 use Rattle.inline_states.specs.declared.inlines.Inlines.{Inlines}
 use Rattle.inline_states.specs.Inlines.{bodies, body_of, whole_body}
 
@@ -57,8 +59,8 @@ module _ {T : Type 0} (texts : List ℕ → Option (List ℕ)) (is_punctuation :
   pub inline_lawful : LawfulAt (length x.bytes) (program_valid sorts 64 (length x.bytes)) (step_by (bodies texts is_punctuation x)) (program_rank sorts 64 (length x.bytes))
   inline_lawful = program_lawful sorts 64 (length x.bytes) (bodies texts is_punctuation x) least inline_fits
 
-  pub inline_resolves : ResolvesAt {M = Inlines} (program_valid sorts 64 (length x.bytes)) resolves_nothing settles_whole
-  inline_resolves = program_resolves sorts 64 (length x.bytes) (bodies texts is_punctuation x) least inline_fits
+  pub inline_resolves : ResolvesAt {M = Inlines} (program_valid sorts 64 (length x.bytes)) inline_resolved settles_whole
+  inline_resolves = resolves_whole (program_valid sorts 64 (length x.bytes)) (program_resolves sorts 64 (length x.bytes) (bodies texts is_punctuation x) least inline_fits)
 
 -- what is open where a state is called
 pub inline_open : {T : Type 0} (texts : List ℕ → Option (List ℕ)) (is_punctuation : ℕ → Bool) (x : Context T) (c : Config Inlines) (stack : List Attempt) (n : Name) → program_valid sorts 64 (length x.bytes) c stack (states.Retry n) → (rest : List EventName) × (open_after [] c.events ≡ named_all c.tokenize_state (sorts n).open_tokens ++ rest)
