@@ -1,5 +1,5 @@
 -- The machine of texts and strings is lawful.
-use Rattle.std.proofs.Common.{◌≡◌, ℕ, ◌<◌, ◌++◌, true, refl, ap, length, List, [], Option, arith}
+use Rattle.std.proofs.Common.{◌≡◌, ℕ, Bool, ◌<◌, ◌++◌, true, refl, ap, length, List, [], Option, arith}
 use Rattle.engine_events.specs.declared.event.Name.{Name as EventName}
 use Rattle.engine_events.specs.declared.place.Point.{Point}
 use Rattle.engine_events.specs.declared.state.Inline.{Inline as InlineName}
@@ -13,7 +13,7 @@ use Rattle.markdown_engine.specs.Laws.{LawfulAt}
 use Rattle.markdown_engine.specs.Machine.{fresh}
 use Rattle.markdown_engine.specs.Order.{open_after}
 use Rattle.markdown_engine.specs.Reading.{Config}
-use Rattle.markdown_engine.specs.Resolving.{ResolvesAt, resolves_nothing, settles_whole}
+use Rattle.markdown_engine.specs.Resolving.{ResolvesAt, settles_whole}
 use Rattle.engine_programs.specs.Bodies.{named_all, step_by}
 use Rattle.engine_programs.specs.Sorts.{fits, implies}
 use Rattle.engine_programs.specs.Stacks.{program_rank, program_valid}
@@ -27,6 +27,8 @@ use Rattle.inline_states_html.specs.HtmlStates.{html_fits}
 use Rattle.inline_states_labels.specs.LabelStates.{labels_fit}
 use Rattle.inline_states_ends.specs.EndStates.{ends_fit}
 use Rattle.inline_states_gfm.specs.GfmStates.{gfm_fits}
+use Rattle.inline_states_resolvers.specs.Resolving.{inline_resolved}
+use Rattle.inline_states_resolvers.specs.ResolvingLaws.{resolves_whole}
 use Rattle.inline_states.specs.declared.inlines.Inlines.{Inlines}
 use Rattle.inline_states.specs.Inlines.{bodies, body_of, whole_body}
 
@@ -35,18 +37,18 @@ whole_fits : (n : InlineName) → implies (is_in groups.Whole n) (fits sorts 64 
 whole_fits inline_states.TextStart = refl
 whole_fits n = refl
 
-module _ {T : Type 0} (texts : List ℕ → Option (List ℕ)) (x : Context T) where
+module _ {T : Type 0} (texts : List ℕ → Option (List ℕ)) (is_punctuation : ℕ → Bool) (x : Context T) where
   -- each group has its own test
-  group_fits : (g : Group) (n : InlineName) → inline_group n ≡ g → fits sorts 64 (Inline n) (body_of texts x g n) ≡ true
+  group_fits : (g : Group) (n : InlineName) → inline_group n ≡ g → fits sorts 64 (Inline n) (body_of texts is_punctuation x g n) ≡ true
   group_fits groups.Leaves n e = implied _ _ (leaves_fit Inlines texts x n) (ap (λ (g : Group). same_group g groups.Leaves) e)
   group_fits groups.Html n e = implied _ _ (html_fits Inlines x n) (ap (λ (g : Group). same_group g groups.Html) e)
   group_fits groups.Labels n e = implied _ _ (labels_fit Inlines x n) (ap (λ (g : Group). same_group g groups.Labels) e)
   group_fits groups.Ends n e = implied _ _ (ends_fit Inlines x n) (ap (λ (g : Group). same_group g groups.Ends) e)
-  group_fits groups.Gfm n e = implied _ _ (gfm_fits Inlines x n) (ap (λ (g : Group). same_group g groups.Gfm) e)
+  group_fits groups.Gfm n e = implied _ _ (gfm_fits Inlines is_punctuation x n) (ap (λ (g : Group). same_group g groups.Gfm) e)
   group_fits groups.Whole n e = implied _ _ (whole_fits n) (ap (λ (g : Group). same_group g groups.Whole) e)
 
   -- the bodies fit the table
-  inline_fits : (n : Name) → fits sorts 64 n (bodies texts x n) ≡ true
+  inline_fits : (n : Name) → fits sorts 64 n (bodies texts is_punctuation x n) ≡ true
   unfolding bodies
   inline_fits (Inline n) = group_fits (inline_group n) n refl
   inline_fits n = refl
@@ -54,15 +56,15 @@ module _ {T : Type 0} (texts : List ℕ → Option (List ℕ)) (x : Context T) w
   least : 1 < 64
   least = omega arith
 
-  pub inline_lawful : LawfulAt (length x.bytes) (program_valid sorts 64 (length x.bytes)) (step_by (bodies texts x)) (program_rank sorts 64 (length x.bytes))
-  inline_lawful = program_lawful sorts 64 (length x.bytes) (bodies texts x) least inline_fits
+  pub inline_lawful : LawfulAt (length x.bytes) (program_valid sorts 64 (length x.bytes)) (step_by (bodies texts is_punctuation x)) (program_rank sorts 64 (length x.bytes))
+  inline_lawful = program_lawful sorts 64 (length x.bytes) (bodies texts is_punctuation x) least inline_fits
 
-  pub inline_resolves : ResolvesAt {M = Inlines} (program_valid sorts 64 (length x.bytes)) resolves_nothing settles_whole
-  inline_resolves = program_resolves sorts 64 (length x.bytes) (bodies texts x) least inline_fits
+  pub inline_resolves : ResolvesAt {M = Inlines} (program_valid sorts 64 (length x.bytes)) inline_resolved settles_whole
+  inline_resolves = resolves_whole (program_valid sorts 64 (length x.bytes)) (program_resolves sorts 64 (length x.bytes) (bodies texts is_punctuation x) least inline_fits)
 
 -- what is open where a state is called
-pub inline_open : {T : Type 0} (texts : List ℕ → Option (List ℕ)) (x : Context T) (c : Config Inlines) (stack : List Attempt) (n : Name) → program_valid sorts 64 (length x.bytes) c stack (states.Retry n) → (rest : List EventName) × (open_after [] c.events ≡ named_all c.tokenize_state (sorts n).open_tokens ++ rest)
-inline_open texts x c stack n h = program_open sorts 64 (length x.bytes) (bodies texts x) (least texts x) (inline_fits texts x) c stack n h
+pub inline_open : {T : Type 0} (texts : List ℕ → Option (List ℕ)) (is_punctuation : ℕ → Bool) (x : Context T) (c : Config Inlines) (stack : List Attempt) (n : Name) → program_valid sorts 64 (length x.bytes) c stack (states.Retry n) → (rest : List EventName) × (open_after [] c.events ≡ named_all c.tokenize_state (sorts n).open_tokens ++ rest)
+inline_open texts is_punctuation x c stack n h = program_open sorts 64 (length x.bytes) (bodies texts is_punctuation x) (least texts is_punctuation x) (inline_fits texts is_punctuation x) c stack n h
 
 -- reading may begin with a text, or with a string
 pub text_begins : (size : ℕ) (machine : Inlines) (p : Point) → program_valid sorts 64 size (fresh p machine) [] (states.Next (Inline inline_states.TextStart))

@@ -44,13 +44,13 @@ whole_body inline_states.TextBeforeLabelStartLink = text_before_label_start_link
 whole_body inline_states.TextBeforeData = text_before_data
 whole_body n = Answer states.Nok
 
-module _ {T : Type 0} (texts : List ℕ → Option (List ℕ)) (x : Context T) where
+module _ {T : Type 0} (texts : List ℕ → Option (List ℕ)) (is_punctuation : ℕ → Bool) (x : Context T) where
   abbrev pub body_of : Group → InlineName → Body Inlines
   body_of groups.Leaves n = leaf_body texts x n
   body_of groups.Html n = html_body x n
   body_of groups.Labels n = label_body x n
   body_of groups.Ends n = end_body x n
-  body_of groups.Gfm n = gfm_body x n
+  body_of groups.Gfm n = gfm_body is_punctuation x n
   body_of groups.Whole n = whole_body n
 
   unfoldable pub bodies : Name → Body Inlines

@@ -1,6 +1,6 @@
 -- What reading by the inline states gives.
 use Rattle.std.specs.Borrow.{Bor}
-use Rattle.std.specs.Prelude.{◌≡◌, ℕ, Bool, List, [], length, Option}
+use Rattle.std.specs.Prelude.{◌≡◌, ℕ, Bool, true, List, [], length, Option}
 use Rattle.engine_events.specs.declared.event.Event.{Event}
 use Rattle.engine_events.specs.declared.state.Inline.{Inline as InlineName}
 use Rattle.engine_events.specs.declared.state.Inline.TheVariants as inline_states
@@ -10,8 +10,10 @@ use Rattle.markdown_engine.specs.Context.{Context}
 use Rattle.markdown_engine.specs.Machine.{fresh}
 use Rattle.markdown_engine.specs.Order.{text_start}
 use Rattle.markdown_engine.specs.Reading.{Config, Runs}
+use Rattle.markdown_engine.specs.Resolving.{resolve_all}
 use Rattle.markdown_engine.specs.VirtualText.{Text, text_to, unskipped}
 use Rattle.engine_programs.specs.Bodies.{step_by}
+use Rattle.inline_states_resolvers.specs.Resolving.{inline_resolved}
 use Rattle.inline_states.specs.declared.inlines.Inlines.{Inlines}
 use Rattle.inline_states.specs.Inlines.{bodies}
 
@@ -19,17 +21,27 @@ use Rattle.inline_states.specs.Inlines.{bodies}
 abbrev pub text_of : List ℕ → Text
 text_of bytes = text_to (unskipped bytes) (length bytes, 0)
 
-module _ {T : Type 0} (texts : List ℕ → Option (List ℕ)) (x : Context T) where
+module _ {T : Type 0} (texts : List ℕ → Option (List ℕ)) (is_punctuation : ℕ → Bool) (x : Context T) where
   -- these are the events of the one reading of a text, from a state on
   pub record IsReading (first : InlineName) (machine : Inlines) (events : List Event) : Type 0 where
     pub config : Config Inlines
     pub well : Bool
-    pub runs : Runs (text_of x.bytes) (step_by (bodies texts x)) (fresh text_start machine) [] (states.Next (Inline first)) config well
+    pub runs : Runs (text_of x.bytes) (step_by (bodies texts is_punctuation x)) (fresh text_start machine) [] (states.Next (Inline first)) config well
     pub read : events ≡ config.events
+
+  -- these are the events of that reading once its resolvers ran
+  pub record IsResolved (first : InlineName) (machine : Inlines) (events : List Event) : Type 0 where
+    pub read : Config Inlines
+    pub runs : Runs (text_of x.bytes) (step_by (bodies texts is_punctuation x)) (fresh text_start machine) [] (states.Next (Inline first)) read true
+    pub are : events ≡ (resolve_all inline_resolved read).config.events
 
   -- the events of a text, where contents that may begin with a check begin at these places
   abbrev pub AreTextEvents : Bor (List ℕ) → List Event → Type 0
   AreTextEvents starts events = IsReading inline_states.TextStart (record { starts = starts }) events
+
+  -- the same, after the resolvers
+  abbrev pub AreResolvedTextEvents : Bor (List ℕ) → List Event → Type 0
+  AreResolvedTextEvents starts events = IsResolved inline_states.TextStart (record { starts = starts }) events
 
   -- the events of a string
   abbrev pub AreStringEvents : List Event → Type 0

@@ -1,7 +1,8 @@
 //! The machine of texts and strings.
 ghost use Rattle.std.specs.Prelude.{◌≡◌, ℕ, length};
 ghost use Rattle.markdown_engine.specs.Machine.{config, read_with};
-ghost use Rattle.markdown_engine.specs.Resolving.{resolves_nothing, settles_whole};
+ghost use Rattle.markdown_engine.specs.Resolving.{settles_whole};
+ghost use Rattle.inline_states_resolvers.specs.Resolving.{inline_resolved};
 ghost use Rattle.engine_programs.specs.Bodies.{step_by};
 ghost use Rattle.engine_programs.specs.Stacks.{Does, IsOpen, program_rank, program_valid};
 ghost use Rattle.engine_events.specs.declared.state.Name.TheVariants as any_states;
@@ -12,6 +13,7 @@ ghost use Rattle.inline_states.specs.InlineLaws.{inline_lawful, inline_resolves}
 
 use crate::{string, text};
 use engine_programs::steps::attempt_to;
+use inline_states_resolvers::resolving;
 use inline_states_table::{Group, group_of, next, retry};
 use markdown_engine::state::{Inline, Name, State};
 use markdown_engine::subresult::Subresult;
@@ -68,13 +70,13 @@ impl<'s, T: Tables> Machine<T> for Inlines<'s> {
 
     ghost seen = { λ machine. machine };
 
-    ghost step = { λ x. step_by (bodies (T.reference_of x.tables) x) };
+    ghost step = { λ x. step_by (bodies (T.reference_of x.tables) (T.punctuation_of x.tables) x) };
 
     ghost valid = { λ x. program_valid sorts 64 (length x.bytes) };
 
     ghost rank = { λ x. program_rank sorts 64 (length x.bytes) };
 
-    ghost resolved = { λ x. resolves_nothing };
+    ghost resolved = { λ x. inline_resolved };
 
     ghost settled = { λ x. settles_whole };
 
@@ -93,15 +95,16 @@ impl<'s, T: Tables> Machine<T> for Inlines<'s> {
         }
     }
 
-    #[tactic(auto)]
+    #[tactic(auto, unfolding(inline_states_resolvers::specs::Resolving::inline_resolved))]
     fn resolve<'a, A: Allocator + Clone>(
         tokenizer: &mut Tokenizer<'a, Self, T, A>,
-        _name: resolve::Name,
+        name: resolve::Name,
     ) -> Result<Option<Subresult<A>>, Message> {
+        resolving::resolve(tokenizer, name)?;
         Ok(None)
     }
 
-    ghost lawful = { λ x. inline_lawful (T.reference_of x.tables) x };
+    ghost lawful = { λ x. inline_lawful (T.reference_of x.tables) (T.punctuation_of x.tables) x };
 
-    ghost resolving = { λ x. inline_resolves (T.reference_of x.tables) x };
+    ghost resolving = { λ x. inline_resolves (T.reference_of x.tables) (T.punctuation_of x.tables) x };
 }

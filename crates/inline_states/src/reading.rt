@@ -1,9 +1,10 @@
 //! The events of a text, or of a string.
-ghost use Rattle.std.specs.Prelude.{IfOk, IfErr};
+ghost use Rattle.std.specs.Prelude.{IfOk, IfErr, length};
 ghost use Rattle.markdown_options.specs.Messages.{IsOutOfMemory};
 ghost use Rattle.markdown_engine.specs.Context.{context};
+ghost use Rattle.markdown_engine.specs.Machine.{AreCuts};
 ghost use Rattle.markdown_engine.specs.Order.{AreInOrder, IsBalanced};
-ghost use Rattle.inline_states.specs.Reading.{AreStringEvents, AreTextEvents};
+ghost use Rattle.inline_states.specs.Reading.{AreResolvedTextEvents, AreStringEvents, AreTextEvents};
 
 use crate::inlines::Inlines;
 use markdown_engine::event::Event;
@@ -21,7 +22,8 @@ pub fn read_text<T: Tables, A: Allocator + Clone>(
     parse_state: &ParseState<'_, T, A>,
     starts: &[usize],
 ) -> Result<Vec<Event, A>, Message>
-    ensures reads { IfOk result (λ events. AreTextEvents (T.reference_of parse_state.now.tables.now) (context parse_state.now) starts.entry events.items) }
+    ensures reads { IfOk result (λ events. AreTextEvents
+        (T.reference_of parse_state.now.tables.now) (T.punctuation_of parse_state.now.tables.now) (context parse_state.now) starts.entry events.items) }
     ensures balanced { IfOk result (λ events. IsBalanced events.items) }
     ensures order { IfOk result (λ events. AreInOrder events.items) }
     ensures memory { IfErr result (λ message. IsOutOfMemory message) }
@@ -34,13 +36,57 @@ pub fn read_text<T: Tables, A: Allocator + Clone>(
     }
 }
 
+/// The events of a text that comes in ranges, each of which ends at one of these places, an index
+/// and a column of a tab there, and the last at the text's end: the same as of the text at once.
+#[tactic(auto, using(crate::specs::InlineLaws::text_begins))]
+pub fn read_text_in_ranges<T: Tables, A: Allocator + Clone>(
+    alloc: A,
+    parse_state: &ParseState<'_, T, A>,
+    starts: &[usize],
+    cuts: &[(usize, usize)],
+) -> Result<Vec<Event, A>, Message>
+    requires cuts { AreCuts (0, 0) cuts.now (length parse_state.now.bytes.now) }
+    ensures reads { IfOk result (λ events. AreTextEvents
+        (T.reference_of parse_state.now.tables.now) (T.punctuation_of parse_state.now.tables.now) (context parse_state.now) starts.entry events.items) }
+    ensures balanced { IfOk result (λ events. IsBalanced events.items) }
+    ensures order { IfOk result (λ events. AreInOrder events.items) }
+    ensures memory { IfErr result (λ message. IsOutOfMemory message) }
+{
+    let machine = Inlines { starts };
+    let mut tokenizer = Tokenizer::new(alloc, START, parse_state, machine)?;
+    match tokenizer.in_ranges(cuts, State::Next(Name::Inline(Inline::TextStart))) {
+        State::Error(message) => Err(*message),
+        _ => Ok(tokenizer.events),
+    }
+}
+
+/// The events of a text after its resolvers.
+#[tactic(auto, using(crate::specs::InlineLaws::text_begins))]
+pub fn resolved_text<T: Tables, A: Allocator + Clone>(
+    alloc: A,
+    parse_state: &ParseState<'_, T, A>,
+    starts: &[usize],
+) -> Result<Vec<Event, A>, Message>
+    ensures reads { IfOk result (λ events. AreResolvedTextEvents
+        (T.reference_of parse_state.now.tables.now) (T.punctuation_of parse_state.now.tables.now) (context parse_state.now) starts.entry events.items) }
+    ensures balanced { IfOk result (λ events. IsBalanced events.items) }
+    ensures order { IfOk result (λ events. AreInOrder events.items) }
+    ensures memory { IfErr result (λ message. IsOutOfMemory message) }
+{
+    let machine = Inlines { starts };
+    let mut tokenizer = Tokenizer::new(alloc, START, parse_state, machine)?;
+    tokenizer.resolved(State::Next(Name::Inline(Inline::TextStart)))?;
+    Ok(tokenizer.events)
+}
+
 /// The events of a string.
 #[tactic(auto, using(crate::specs::InlineLaws::string_begins))]
 pub fn read_string<T: Tables, A: Allocator + Clone>(
     alloc: A,
     parse_state: &ParseState<'_, T, A>,
 ) -> Result<Vec<Event, A>, Message>
-    ensures reads { IfOk result (λ events. AreStringEvents (T.reference_of parse_state.now.tables.now) (context parse_state.now) events.items) }
+    ensures reads { IfOk result (λ events. AreStringEvents
+        (T.reference_of parse_state.now.tables.now) (T.punctuation_of parse_state.now.tables.now) (context parse_state.now) events.items) }
     ensures balanced { IfOk result (λ events. IsBalanced events.items) }
     ensures order { IfOk result (λ events. AreInOrder events.items) }
     ensures memory { IfErr result (λ message. IsOutOfMemory message) }

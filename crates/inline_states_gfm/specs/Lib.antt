@@ -1,3 +1,4 @@
+pub mod GfmAutolinkLiteral
 pub mod GfmLabelStartFootnote
 pub mod GfmTaskListItemCheck
 pub mod GfmStates

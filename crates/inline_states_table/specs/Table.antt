@@ -62,6 +62,10 @@ outermost after height = record (base [] height) { after = after; moved = false;
 abbrev pub in_data : List Token → ℕ → Sort
 in_data open_tokens height = record (base open_tokens height) { sure = true }
 
+-- a look ahead, that may end where it begins
+abbrev pub ahead : ℕ → Sort
+ahead height = record (first height) { yields = false; firm = false }
+
 -- ---- what is open
 
 abbrev pub reference_tokens : List Token
@@ -113,6 +117,25 @@ inline_row inline_states.CharacterReferenceStart = of_group groups.Leaves (first
 inline_row inline_states.CharacterReferenceOpen = of_group groups.Leaves (within reference_tokens 1)
 inline_row inline_states.CharacterReferenceNumeric = of_group groups.Leaves (within reference_tokens 1)
 inline_row inline_states.CharacterReferenceValue = of_group groups.Leaves (within (Fixed names.CharacterReferenceValue ∷ reference_tokens) 1)
+-- gfm_autolink_literal
+inline_row inline_states.GfmAutolinkLiteralProtocolStart = of_group groups.Gfm (first 4)
+inline_row inline_states.GfmAutolinkLiteralProtocolAfter = of_group groups.Gfm (resumes (within (Fixed names.GfmAutolinkLiteralProtocol ∷ []) 1))
+inline_row inline_states.GfmAutolinkLiteralProtocolPrefixInside = of_group groups.Gfm (first 1)
+inline_row inline_states.GfmAutolinkLiteralProtocolSlashesInside = of_group groups.Gfm (within [] 7)
+inline_row inline_states.GfmAutolinkLiteralWwwStart = of_group groups.Gfm (first 4)
+inline_row inline_states.GfmAutolinkLiteralWwwAfter = of_group groups.Gfm (resumes (within (Fixed names.GfmAutolinkLiteralWww ∷ []) 1))
+inline_row inline_states.GfmAutolinkLiteralWwwPrefixInside = of_group groups.Gfm (first 1)
+inline_row inline_states.GfmAutolinkLiteralWwwPrefixAfter = of_group groups.Gfm (within [] 7)
+inline_row inline_states.GfmAutolinkLiteralDomainInside = of_group groups.Gfm (within [] 6)
+inline_row inline_states.GfmAutolinkLiteralDomainAtPunctuation = of_group groups.Gfm (within [] 1)
+inline_row inline_states.GfmAutolinkLiteralDomainAfter = of_group groups.Gfm (within [] 4)
+inline_row inline_states.GfmAutolinkLiteralPathInside = of_group groups.Gfm (within [] 3)
+inline_row inline_states.GfmAutolinkLiteralPathAtPunctuation = of_group groups.Gfm (within [] 1)
+inline_row inline_states.GfmAutolinkLiteralPathAfter = of_group groups.Gfm (within [] 1)
+inline_row inline_states.GfmAutolinkLiteralTrail = of_group groups.Gfm (ahead 1)
+inline_row inline_states.GfmAutolinkLiteralTrailBracketAfter = of_group groups.Gfm (ahead 1)
+inline_row inline_states.GfmAutolinkLiteralTrailCharRefStart = of_group groups.Gfm (ahead 1)
+inline_row inline_states.GfmAutolinkLiteralTrailCharRefInside = of_group groups.Gfm (ahead 1)
 -- gfm_label_start_footnote
 inline_row inline_states.GfmLabelStartFootnoteStart = of_group groups.Gfm (first 4)
 inline_row inline_states.GfmLabelStartFootnoteOpen = of_group groups.Gfm (within (Fixed names.GfmFootnoteCallLabel ∷ []) 1)
@@ -121,7 +144,7 @@ inline_row inline_states.GfmTaskListItemCheckStart = of_group groups.Gfm (first 
 inline_row inline_states.GfmTaskListItemCheckInside = of_group groups.Gfm (within check_tokens 1)
 inline_row inline_states.GfmTaskListItemCheckClose = of_group groups.Gfm (within check_tokens 1)
 inline_row inline_states.GfmTaskListItemCheckAfter = of_group groups.Gfm (within [] 5)
-inline_row inline_states.GfmTaskListItemCheckAfterSpaceOrTab = of_group groups.Gfm (record (first 4) { after = true; yields = false; firm = false })
+inline_row inline_states.GfmTaskListItemCheckAfterSpaceOrTab = of_group groups.Gfm (record (ahead 4) { after = true })
 -- hard_break_escape
 inline_row inline_states.HardBreakEscapeStart = of_group groups.Leaves (first 4)
 inline_row inline_states.HardBreakEscapeAfter = of_group groups.Leaves (within (Fixed names.HardBreakEscape ∷ []) 1)
@@ -214,24 +237,7 @@ inline_row inline_states.TextBeforeHtml = of_group groups.Whole (outermost false
 inline_row inline_states.TextBeforeHardBreakEscape = of_group groups.Whole (outermost false 8)
 inline_row inline_states.TextBeforeLabelStartLink = of_group groups.Whole (outermost false 8)
 inline_row inline_states.TextBeforeData = of_group groups.Whole (outermost false 4)
-inline_row inline_states.GfmAutolinkLiteralProtocolStart = of_group groups.Gfm (first 4)
-inline_row inline_states.GfmAutolinkLiteralProtocolAfter = of_group groups.Gfm (first 4)
-inline_row inline_states.GfmAutolinkLiteralProtocolPrefixInside = of_group groups.Gfm (first 4)
-inline_row inline_states.GfmAutolinkLiteralProtocolSlashesInside = of_group groups.Gfm (first 4)
-inline_row inline_states.GfmAutolinkLiteralWwwStart = of_group groups.Gfm (first 4)
-inline_row inline_states.GfmAutolinkLiteralWwwAfter = of_group groups.Gfm (first 4)
-inline_row inline_states.GfmAutolinkLiteralWwwPrefixInside = of_group groups.Gfm (first 4)
-inline_row inline_states.GfmAutolinkLiteralWwwPrefixAfter = of_group groups.Gfm (first 4)
-inline_row inline_states.GfmAutolinkLiteralDomainInside = of_group groups.Gfm (first 4)
-inline_row inline_states.GfmAutolinkLiteralDomainAtPunctuation = of_group groups.Gfm (first 4)
-inline_row inline_states.GfmAutolinkLiteralDomainAfter = of_group groups.Gfm (first 4)
-inline_row inline_states.GfmAutolinkLiteralPathInside = of_group groups.Gfm (first 4)
-inline_row inline_states.GfmAutolinkLiteralPathAtPunctuation = of_group groups.Gfm (first 4)
-inline_row inline_states.GfmAutolinkLiteralPathAfter = of_group groups.Gfm (first 4)
-inline_row inline_states.GfmAutolinkLiteralTrail = of_group groups.Gfm (first 4)
-inline_row inline_states.GfmAutolinkLiteralTrailBracketAfter = of_group groups.Gfm (first 4)
-inline_row inline_states.GfmAutolinkLiteralTrailCharRefStart = of_group groups.Gfm (first 4)
-inline_row inline_states.GfmAutolinkLiteralTrailCharRefInside = of_group groups.Gfm (first 4)
+-- label_end
 inline_row inline_states.LabelEndStart = of_group groups.Ends (first_plain 4)
 inline_row inline_states.LabelEndAfter = of_group groups.Ends (within_plain [] 7)
 inline_row inline_states.LabelEndReferenceNotFull = of_group groups.Ends (within_plain [] 4)

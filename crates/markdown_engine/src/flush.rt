@@ -38,7 +38,7 @@ pub(crate) fn add_found<A: Allocator>(
 }
 
 impl<'a, M: Machine<T>, T: Tables, A: Allocator + Clone> Tokenizer<'a, M, T, A> {
-    ghost use Rattle.std.specs.Prelude.{◌≡◌, ◌⊎◌, IfErr, IfOk, IsErr, OnErr, OnOk, [], false, true};
+    ghost use Rattle.std.specs.Prelude.{◌≡◌, ◌⊎◌, IfErr, IfOk, IsErr, OnErr, OnOk, [], false, length, true};
     ghost use Rattle.markdown_options.specs.Messages.{IsOutOfMemory};
     ghost use Rattle.engine_events.specs.declared.state.State.TheVariants as states;
     ghost use Rattle.markdown_engine.specs.Machine.{Completes, IsResolved, bytes_of, read_with, view_config};
@@ -63,6 +63,24 @@ impl<'a, M: Machine<T>, T: Tables, A: Allocator + Clone> Tokenizer<'a, M, T, A> 
         ensures memory { IfErr result (λ message. IsOutOfMemory message) }
     {
         self.flush_to(self.end, state, resolve)
+    }
+
+    /// Reads a text at once, runs the resolvers in their order, and makes the edits that they asked
+    /// for. Answers what they found.
+    ///
+    /// Once memory was refused, an error is answered.
+    pub fn resolved(&mut self, state: State) -> Result<Subresult<A>, Message>
+        requires valid { (self.old.failed ≡ true) ⊎ M.valid (read_with self.old) (view_config M.seen self.old) self.old.attempts.items state }
+        ensures completed { IfOk result (λ found. Completes M.seen M.step M.resolved
+            (length (bytes_of self.old), 0) true state self.old self.new (found_in found)) }
+        ensures done { IfOk result (λ found. found.done ≡ false) }
+        ensures whole { OnOk result (AreWhole self.new.events.items self.new.point) }
+        ensures err { OnErr result (self.new.failed ≡ true) }
+        ensures failed { self.old.failed ≡ true → IsErr result }
+        ensures memory { IfErr result (λ message. IsOutOfMemory message) }
+    {
+        let to = (self.parse_state.bytes.len(), 0);
+        self.flush_to(to, state, true)
     }
 
     /// Reads on, up to an index and a column of a tab there, where the text ends; then as [`flush`].

@@ -1,5 +1,5 @@
 //! Events as texts: a sign and a name, and the index.
-use inline_states::reading::{read_string, read_text};
+use inline_states::reading::{read_string, read_text, resolved_text};
 use markdown_engine::event::{Event, Kind};
 use markdown_engine::{ParseOptions, ParseState};
 use markdown_tables::Builtin;
@@ -65,4 +65,19 @@ pub fn is_gfm(
 ) -> Result<bool, Fail> {
     let out = text_events(rt, &ParseOptions::gfm(), starts, bytes)?;
     Ok(out.as_str() == wanted)
+}
+
+/// The events of a text as a text, once its resolvers ran, where a label and one of a footnote are defined.
+pub fn resolved_events<'t>(
+    rt: &HostRuntime,
+    label: &str,
+    footnote: &str,
+    bytes: &'t [u8],
+) -> Result<String, Fail> {
+    let options = ParseOptions::gfm();
+    let mut text = ParseState::new(rt.alloc(), bytes, &options, &Builtin)?;
+    text.definitions.push(String::from_str(rt.alloc(), label)?)?;
+    text.gfm_footnote_definitions
+        .push(String::from_str(rt.alloc(), footnote)?)?;
+    show(rt, &resolved_text(rt.alloc(), &text, &[])?)
 }

@@ -86,3 +86,105 @@ fn strikes(rt: HostRuntime) -> Result<(), Fail> {
     );
     Ok(())
 }
+
+#[test]
+fn literals(rt: HostRuntime) -> Result<(), Fail> {
+    assert!(rt;
+        is_gfm(
+            &rt,
+            &[],
+            b"www.a.b.",
+            "+GfmAutolinkLiteralWww0 -GfmAutolinkLiteralWww7 +Data7 -Data8 ",
+        )?
+    );
+    assert!(rt;
+        is_gfm(
+            &rt,
+            &[],
+            b"(www.a)",
+            "+Data0 -Data1 +GfmAutolinkLiteralWww1 -GfmAutolinkLiteralWww6 +Data6 -Data7 ",
+        )?
+    );
+    assert!(rt;
+        is_gfm(
+            &rt,
+            &[],
+            b"www.a(b.)",
+            "+GfmAutolinkLiteralWww0 -GfmAutolinkLiteralWww9 ",
+        )?
+    );
+    assert!(rt;
+        is_gfm(
+            &rt,
+            &[],
+            b"http://a.b&c;",
+            "+GfmAutolinkLiteralProtocol0 -GfmAutolinkLiteralProtocol10 +Data10 -Data13 ",
+        )?
+    );
+    assert!(rt;
+        is_gfm(
+            &rt,
+            &[],
+            b"HTTPS://a&c;d",
+            "+GfmAutolinkLiteralProtocol0 -GfmAutolinkLiteralProtocol13 ",
+        )?
+    );
+    assert!(rt;
+        is_gfm(
+            &rt,
+            &[],
+            b"www.a.]",
+            "+GfmAutolinkLiteralWww0 -GfmAutolinkLiteralWww5 +Data5 -Data6 +Data6 -Data7 ",
+        )?
+    );
+    assert!(rt;
+        is_gfm(
+            &rt,
+            &[],
+            b"www.a].",
+            "+GfmAutolinkLiteralWww0 -GfmAutolinkLiteralWww6 +Data6 -Data7 ",
+        )?
+    );
+    Ok(())
+}
+
+#[test]
+fn what_is_no_literal(rt: HostRuntime) -> Result<(), Fail> {
+    assert!(rt; is_gfm(&rt, &[], b"http:/a", "+Data0 -Data7 ",)?);
+    assert!(rt; is_gfm(&rt, &[], b"ahttp://b", "+Data0 -Data1 +Data1 -Data9 ",)?);
+    assert!(rt;
+        is_gfm(
+            &rt,
+            &[],
+            b"www.",
+            "+Data0 -Data1 +Data1 -Data2 +Data2 -Data4 ",
+        )?
+    );
+    assert!(rt;
+        is_gfm(
+            &rt,
+            &[],
+            b"www.a_b.c",
+            "+Data0 -Data1 +Data1 -Data2 +Data2 -Data5 +AttentionSequence5 -AttentionSequence6 \
+             +Data6 -Data9 ",
+        )?
+    );
+    assert!(rt;
+        is_gfm(
+            &rt,
+            &[],
+            b"www.a_b.c.d",
+            "+GfmAutolinkLiteralWww0 -GfmAutolinkLiteralWww11 ",
+        )?
+    );
+    assert!(rt;
+        is_gfm(
+            &rt,
+            &[],
+            b"www.a_www.b",
+            "+Data0 -Data1 +Data1 -Data2 +Data2 -Data5 +AttentionSequence5 -AttentionSequence6 \
+             +GfmAutolinkLiteralWww6 -GfmAutolinkLiteralWww11 ",
+        )?
+    );
+    Ok(())
+}

@@ -9,3 +9,5 @@ mod events;
 mod gfm;
 #[cfg(test)]
 mod links;
+#[cfg(test)]
+mod reading;

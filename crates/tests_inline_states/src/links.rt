@@ -1,5 +1,5 @@
 //! Events of links, images and calls.
-use crate::display::{is_text, labelled_events};
+use crate::display::{is_text, labelled_events, resolved_events};
 use markdown_engine::ParseOptions;
 use std::test::Fail;
 
@@ -132,5 +132,63 @@ fn calls(rt: HostRuntime) -> Result<(), Fail> {
         "+GfmFootnoteCallLabel0 +LabelMarker0 -LabelMarker1 +GfmFootnoteCallMarker1 -GfmFootnoteCallMarker2 \
          -GfmFootnoteCallLabel2 +Data2 -Data3 +Data3 -Data4 ";
     assert!(rt; out.as_str() == wanted);
+    Ok(())
+}
+
+/// Whether these are the events of a text once its resolvers ran, where `a` is defined and a footnote.
+fn is_resolved(rt: &HostRuntime, bytes: &[u8], wanted: &str) -> Result<bool, Fail> {
+    let out = resolved_events(rt, "a", "a", bytes)?;
+    Ok(out.as_str() == wanted)
+}
+
+#[test]
+fn resolved_labels(rt: HostRuntime) -> Result<(), Fail> {
+    let wanted = "+Data0 -Data3 ";
+    assert!(rt; is_resolved(&rt, b"a!b", wanted)?);
+    let wanted = "+Data0 -Data2 ";
+    assert!(rt; is_resolved(&rt, b"[a", wanted)?);
+    let wanted = "+Link0 +Label0 +LabelLink0 +LabelMarker0 -LabelMarker1 -LabelLink1 +LabelText1 \
+         +Data1 -Data2 -LabelText2 +LabelEnd2 +LabelMarker2 -LabelMarker3 -LabelEnd3 -Label3 \
+         +Resource3 +ResourceMarker3 -ResourceMarker4 +ResourceDestination4 \
+         +ResourceDestinationRaw4 +ResourceDestinationString4 +Data4 -Data5 \
+         -ResourceDestinationString5 -ResourceDestinationRaw5 -ResourceDestination5 \
+         +ResourceMarker5 -ResourceMarker6 -Resource6 -Link6 +Data6 -Data8 ";
+    assert!(rt; is_resolved(&rt, b"[a](b)[c", wanted)?);
+    let wanted = "+Image0 +Label0 +LabelImage0 +LabelImageMarker0 -LabelImageMarker1 +LabelMarker1 \
+         -LabelMarker2 -LabelImage2 +LabelText2 +Link2 +Label2 +LabelLink2 +LabelMarker2 \
+         -LabelMarker3 -LabelLink3 +LabelText3 +Data3 -Data4 -LabelText4 +LabelEnd4 \
+         +LabelMarker4 -LabelMarker5 -LabelEnd5 -Label5 +Resource5 +ResourceMarker5 \
+         -ResourceMarker6 +ResourceDestination6 +ResourceDestinationRaw6 \
+         +ResourceDestinationString6 +Data6 -Data7 -ResourceDestinationString7 \
+         -ResourceDestinationRaw7 -ResourceDestination7 +ResourceMarker7 -ResourceMarker8 \
+         -Resource8 -Link8 -LabelText8 +LabelEnd8 +LabelMarker8 -LabelMarker9 -LabelEnd9 \
+         -Label9 +Resource9 +ResourceMarker9 -ResourceMarker10 +ResourceDestination10 \
+         +ResourceDestinationRaw10 +ResourceDestinationString10 +Data10 -Data11 \
+         -ResourceDestinationString11 -ResourceDestinationRaw11 -ResourceDestination11 \
+         +ResourceMarker11 -ResourceMarker12 -Resource12 -Image12 ";
+    assert!(rt; is_resolved(&rt, b"![[a](b)](c)", wanted)?);
+    let wanted = "+GfmFootnoteCall0 +Label0 +GfmFootnoteCallLabel0 +LabelMarker0 -LabelMarker1 \
+         +GfmFootnoteCallMarker1 -GfmFootnoteCallMarker2 -GfmFootnoteCallLabel2 +LabelText2 \
+         +Data2 -Data3 -LabelText3 +LabelEnd3 +LabelMarker3 -LabelMarker4 -LabelEnd4 -Label4 \
+         -GfmFootnoteCall4 +Data4 -Data5 ";
+    assert!(rt; is_resolved(&rt, b"[^a]!", wanted)?);
+    let wanted = "+Link0 +Label0 +LabelLink0 +LabelMarker0 -LabelMarker1 -LabelLink1 +LabelText1 \
+         +Data1 -Data3 -LabelText3 +LabelEnd3 +LabelMarker3 -LabelMarker4 -LabelEnd4 -Label4 \
+         +Resource4 +ResourceMarker4 -ResourceMarker5 +ResourceDestination5 \
+         +ResourceDestinationRaw5 +ResourceDestinationString5 +Data5 -Data6 \
+         -ResourceDestinationString6 -ResourceDestinationRaw6 -ResourceDestination6 \
+         +ResourceMarker6 -ResourceMarker7 -Resource7 -Link7 ";
+    assert!(rt; is_resolved(&rt, b"[^x](b)", wanted)?);
+    let wanted = "+Link0 +Label0 +LabelLink0 +LabelMarker0 -LabelMarker1 -LabelLink1 +LabelText1 \
+         -LabelText1 +LabelEnd1 +LabelMarker1 -LabelMarker2 -LabelEnd2 -Label2 +Resource2 \
+         +ResourceMarker2 -ResourceMarker3 +ResourceDestination3 +ResourceDestinationRaw3 \
+         +ResourceDestinationString3 +Data3 -Data4 -ResourceDestinationString4 \
+         -ResourceDestinationRaw4 -ResourceDestination4 +ResourceMarker4 -ResourceMarker5 \
+         -Resource5 -Link5 ";
+    assert!(rt; is_resolved(&rt, b"[](b)", wanted)?);
+    let wanted = "+Link0 +Label0 +LabelLink0 +LabelMarker0 -LabelMarker1 -LabelLink1 +LabelText1 \
+         +Data1 -Data2 -LabelText2 +LabelEnd2 +LabelMarker2 -LabelMarker3 -LabelEnd3 -Label3 \
+         -Link3 ";
+    assert!(rt; is_resolved(&rt, b"[a]", wanted)?);
     Ok(())
 }

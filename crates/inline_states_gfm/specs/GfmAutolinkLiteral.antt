@@ -1,0 +1,236 @@
+-- What the states of `gfm_autolink_literal` do.
+use Rattle.std.specs.Prelude.{ℕ, Bool, true, false, not, nat_le, nat_lt, is_none, if◌then◌else◌, ◌==◌, ◌&&◌, ◌||◌, List, Option, None, slice_get, take, drop, refl}
+use Rattle.std.specs.Char.{is_ascii_alphabetic, is_ascii_alphanumeric}
+use Rattle.std.specs.Str.{chars, is_utf8}
+use denote.Enum.Bare.{sameb}
+use Rattle.engine_events.specs.declared.event.Name.TheVariants as names
+use Rattle.engine_events.specs.declared.state.Inline.TheVariants as inline_states
+use Rattle.engine_events.specs.declared.state.State.TheVariants as states
+use Rattle.engine_text.specs.Characters.{kind_of_any}
+use Rattle.engine_text.specs.contracts.char.Kind.{the_type}
+use Rattle.engine_text.specs.declared.char.Kind.TheVariants.{Other}
+use Rattle.markdown_engine.specs.Reading.{Config}
+use Rattle.engine_programs.specs.Bodies.{Fixed, Body, Answer, Consume, Enter, Exit, Keep, Tries, Byte, On, Test, has}
+use Rattle.inline_states_table.specs.Words.{next, retry, more}
+
+-- ---- characters
+
+-- so many bytes has a character that begins with this one
+abbrev pub width : ℕ → ℕ
+width b = if nat_lt b 192 then 1 else if nat_lt b 224 then 2 else if nat_lt b 240 then 3 else 4
+
+abbrev pub first_code : List ℕ → Option ℕ
+first_code text = if is_utf8 text then slice_get (chars text) 0 else None
+
+-- the character at an index begins with this byte, and is neither white space nor punctuation
+abbrev pub is_plain : (ℕ → Bool) → List ℕ → ℕ → ℕ → Bool
+is_plain is_punctuation bytes index b = sameb the_type (kind_of_any is_punctuation (first_code (take (width b) (drop index bytes)))) Other
+
+abbrev pub is_control : ℕ → Bool
+is_control b = nat_lt b 32 || (b == 127)
+
+-- a byte in a character of several, but not its first
+abbrev pub goes_on : ℕ → Bool
+goes_on b = nat_le 128 b && nat_lt b 192
+
+-- a literal that begins with `www.` may follow this byte
+abbrev pub is_before_www : ℕ → Bool
+is_before_www b = (b == 9) || (b == 10) || (b == 32) || (b == 40) || (b == 42) || (b == 91) || (b == 93) || (b == 95) || (b == 126)
+
+-- a literal ends before these
+abbrev pub is_hard_end : ℕ → Bool
+is_hard_end b = (b == 9) || (b == 10) || (b == 32) || (b == 60)
+
+-- what is cut from the end of a literal, but for `)` and references
+abbrev pub is_trail : ℕ → Bool
+is_trail b = (b == 33) || (b == 34) || (b == 39) || (b == 42) || (b == 44) || (b == 46) || (b == 58) || (b == 59) || (b == 63) || (b == 95) || (b == 126)
+
+-- a trail may begin with this byte
+abbrev pub may_trail : ℕ → Bool
+may_trail b = (b == 38) || (b == 41) || (b == 93) || is_trail b
+
+-- after a `]` that a literal ends before
+abbrev pub is_after_bracket : ℕ → Bool
+is_after_bracket b = (b == 9) || (b == 10) || (b == 32) || (b == 40) || (b == 91)
+
+-- the byte of `https`, in either case, after so many
+abbrev pub is_scheme_byte : ℕ → ℕ → Bool
+is_scheme_byte size b =
+    if size == 0 then (b == 72) || (b == 104)
+    else if (size == 1) || (size == 2) then (b == 84) || (b == 116)
+    else if size == 3 then (b == 80) || (b == 112)
+    else (size == 4) && ((b == 83) || (b == 115))
+
+module _ {M : Type 0} where
+  -- no `_` is in the last two parts of a domain: `size_c` is after the last one, and `size_b` counts dots since
+  abbrev pub is_domain : Config M → Bool
+  is_domain c = (c.tokenize_state.size_c == 0) || nat_le 2 c.tokenize_state.size_b
+
+  -- up to `end` it is known that no trail begins, and no literal that begins with `www.`
+  abbrev pub is_known : Config M → Bool
+  is_known c = nat_lt c.point.index c.tokenize_state.end
+
+  -- what begins here is no trail
+  abbrev pub no_trail : Body M
+  no_trail = Keep (λ c. record c.tokenize_state { end = c.point.index }) (λ c i. refl) (Answer states.Nok)
+
+  abbrev pub is_plain_here : (ℕ → Bool) → List ℕ → Config M → Bool
+  is_plain_here is_punctuation bytes c = has (is_plain is_punctuation bytes c.point.index) c.current
+
+  -- where a domain may begin
+  abbrev pub domain_begun : (ℕ → Bool) → List ℕ → Body M
+  domain_begun is_punctuation bytes =
+      Byte (Answer states.Nok)
+      (On is_control (Answer states.Nok)
+      (Test (is_plain_here is_punctuation bytes)
+      (Keep (λ c. record c.tokenize_state { size = 0; size_b = 0; size_c = 0 }) (λ c i. refl) (Answer (retry inline_states.GfmAutolinkLiteralDomainInside)))
+      (Answer states.Nok)))
+
+  -- at an `h`
+  abbrev pub gfm_autolink_literal_protocol_start : Bool → Body M
+  gfm_autolink_literal_protocol_start on =
+      Test (λ c. on && not (has is_ascii_alphabetic c.previous))
+      (Enter (Fixed names.GfmAutolinkLiteralProtocol)
+      (Keep (λ c. record c.tokenize_state { size = 0 }) (λ c i. refl)
+      (Tries false (next inline_states.GfmAutolinkLiteralProtocolAfter) states.Nok (retry inline_states.GfmAutolinkLiteralProtocolPrefixInside))))
+      (Answer states.Nok)
+
+  -- after the literal
+  abbrev pub gfm_autolink_literal_protocol_after : Body M
+  gfm_autolink_literal_protocol_after = Exit (Fixed names.GfmAutolinkLiteralProtocol) (Answer states.Ok)
+
+  -- in `http` or `https`
+  abbrev pub gfm_autolink_literal_protocol_prefix_inside : Body M
+  gfm_autolink_literal_protocol_prefix_inside =
+      Byte (Answer states.Nok)
+      (On (λ b. b == 58)
+      (Test (λ c. (c.tokenize_state.size == 4) || (c.tokenize_state.size == 5))
+      (Keep (λ c. record c.tokenize_state { size = 0 }) (λ c i. refl) (Consume (Answer (next inline_states.GfmAutolinkLiteralProtocolSlashesInside))))
+      (Answer states.Nok))
+      (Test (λ c. has (is_scheme_byte c.tokenize_state.size) c.current)
+      (Keep (λ c. record c.tokenize_state { size = more c.tokenize_state.size }) (λ c i. refl)
+      (Consume (Answer (next inline_states.GfmAutolinkLiteralProtocolPrefixInside))))
+      (Answer states.Nok)))
+
+  -- in `//`, or after it
+  abbrev pub gfm_autolink_literal_protocol_slashes_inside : (ℕ → Bool) → List ℕ → Body M
+  gfm_autolink_literal_protocol_slashes_inside is_punctuation bytes =
+      Test (λ c. nat_lt c.tokenize_state.size 2)
+      (On (λ b. b == 47)
+      (Keep (λ c. record c.tokenize_state { size = more c.tokenize_state.size }) (λ c i. refl)
+      (Consume (Answer (next inline_states.GfmAutolinkLiteralProtocolSlashesInside))))
+      (Answer states.Nok))
+      (domain_begun is_punctuation bytes)
+
+  -- at a `w`
+  abbrev pub gfm_autolink_literal_www_start : Bool → Body M
+  gfm_autolink_literal_www_start on =
+      Test (λ c. on && ((is_none c.previous || has is_before_www c.previous) && not (is_known c)))
+      (Enter (Fixed names.GfmAutolinkLiteralWww)
+      (Keep (λ c. record c.tokenize_state { size = 0 }) (λ c i. refl)
+      (Tries false (next inline_states.GfmAutolinkLiteralWwwAfter) states.Nok (retry inline_states.GfmAutolinkLiteralWwwPrefixInside))))
+      (Answer states.Nok)
+
+  -- after the literal
+  abbrev pub gfm_autolink_literal_www_after : Body M
+  gfm_autolink_literal_www_after = Exit (Fixed names.GfmAutolinkLiteralWww) (Answer states.Ok)
+
+  -- in `www.`
+  abbrev pub gfm_autolink_literal_www_prefix_inside : Body M
+  gfm_autolink_literal_www_prefix_inside =
+      Byte (Answer states.Nok)
+      (On (λ b. b == 46)
+      (Test (λ c. c.tokenize_state.size == 3) (Consume (Answer (next inline_states.GfmAutolinkLiteralWwwPrefixAfter))) (Answer states.Nok))
+      (On (λ b. (b == 87) || (b == 119))
+      (Test (λ c. nat_lt c.tokenize_state.size 3)
+      (Keep (λ c. record c.tokenize_state { size = more c.tokenize_state.size }) (λ c i. refl)
+      (Consume (Answer (next inline_states.GfmAutolinkLiteralWwwPrefixInside))))
+      (Answer states.Nok))
+      (Answer states.Nok)))
+
+  -- after `www.`, of which no part has a `_`
+  abbrev pub gfm_autolink_literal_www_prefix_after : (ℕ → Bool) → List ℕ → Body M
+  gfm_autolink_literal_www_prefix_after is_punctuation bytes = domain_begun is_punctuation bytes
+
+  -- in a domain
+  abbrev pub gfm_autolink_literal_domain_inside : (ℕ → Bool) → List ℕ → Body M
+  gfm_autolink_literal_domain_inside is_punctuation bytes =
+      Byte (Answer (retry inline_states.GfmAutolinkLiteralDomainAfter))
+      (On (λ b. (b == 46) || (b == 95))
+      (Test is_known (Answer (retry inline_states.GfmAutolinkLiteralDomainAtPunctuation))
+      (Tries true (next inline_states.GfmAutolinkLiteralDomainAfter) (next inline_states.GfmAutolinkLiteralDomainAtPunctuation) (retry inline_states.GfmAutolinkLiteralTrail)))
+      (On (λ b. (b == 45) || goes_on b) (Consume (Answer (next inline_states.GfmAutolinkLiteralDomainInside)))
+      (Test (is_plain_here is_punctuation bytes)
+      (Consume (Answer (next inline_states.GfmAutolinkLiteralDomainInside)))
+      (Answer (retry inline_states.GfmAutolinkLiteralDomainAfter)))))
+
+  -- at a `.` or `_` of a domain
+  abbrev pub gfm_autolink_literal_domain_at_punctuation : Body M
+  gfm_autolink_literal_domain_at_punctuation =
+      Byte (Answer states.Nok)
+      (On (λ b. b == 95)
+      (Keep (λ c. record c.tokenize_state { size_b = 0; size_c = more c.point.index }) (λ c i. refl)
+      (Consume (Answer (next inline_states.GfmAutolinkLiteralDomainInside))))
+      (Keep (λ c. record c.tokenize_state { size_b = more c.tokenize_state.size_b }) (λ c i. refl)
+      (Consume (Answer (next inline_states.GfmAutolinkLiteralDomainInside)))))
+
+  -- where a domain ends: if it is none, no other literal begins up to its last `_`
+  abbrev pub gfm_autolink_literal_domain_after : Body M
+  gfm_autolink_literal_domain_after =
+      Test is_domain
+      (Keep (λ c. record c.tokenize_state { size = 0; size_b = 0 }) (λ c i. refl) (Answer (retry inline_states.GfmAutolinkLiteralPathInside)))
+      (Keep (λ c. record c.tokenize_state { end = c.tokenize_state.size_c }) (λ c i. refl) (Answer states.Nok))
+
+  -- after the domain: `size` counts `(`, and `size_b` counts `)`
+  abbrev pub gfm_autolink_literal_path_inside : Body M
+  gfm_autolink_literal_path_inside =
+      Byte (Answer (retry inline_states.GfmAutolinkLiteralPathAfter))
+      (On is_hard_end (Answer (retry inline_states.GfmAutolinkLiteralPathAfter))
+      (On may_trail
+      (Test is_known (Answer (retry inline_states.GfmAutolinkLiteralPathAtPunctuation))
+      (Tries true (next inline_states.GfmAutolinkLiteralPathAfter) (next inline_states.GfmAutolinkLiteralPathAtPunctuation) (retry inline_states.GfmAutolinkLiteralTrail)))
+      (On (λ b. b == 40)
+      (Keep (λ c. record c.tokenize_state { size = more c.tokenize_state.size }) (λ c i. refl)
+      (Consume (Answer (next inline_states.GfmAutolinkLiteralPathInside))))
+      (Consume (Answer (next inline_states.GfmAutolinkLiteralPathInside))))))
+
+  -- at punctuation that isn't cut
+  abbrev pub gfm_autolink_literal_path_at_punctuation : Body M
+  gfm_autolink_literal_path_at_punctuation =
+      Byte (Answer states.Nok)
+      (On (λ b. b == 41)
+      (Keep (λ c. record c.tokenize_state { size_b = more c.tokenize_state.size_b }) (λ c i. refl)
+      (Consume (Answer (next inline_states.GfmAutolinkLiteralPathInside))))
+      (Consume (Answer (next inline_states.GfmAutolinkLiteralPathInside))))
+
+  -- where the literal ends
+  abbrev pub gfm_autolink_literal_path_after : Body M
+  gfm_autolink_literal_path_after = Answer states.Ok
+
+  -- in what is cut, if only such follows up to the end
+  abbrev pub gfm_autolink_literal_trail : Body M
+  gfm_autolink_literal_trail =
+      Byte (Answer states.Ok)
+      (On is_hard_end (Answer states.Ok)
+      (On (λ b. b == 38) (Consume (Answer (next inline_states.GfmAutolinkLiteralTrailCharRefStart)))
+      (On (λ b. b == 41)
+      (Test (λ c. nat_lt c.tokenize_state.size_b c.tokenize_state.size) no_trail (Consume (Answer (next inline_states.GfmAutolinkLiteralTrail))))
+      (On (λ b. b == 93) (Consume (Answer (next inline_states.GfmAutolinkLiteralTrailBracketAfter)))
+      (On is_trail (Consume (Answer (next inline_states.GfmAutolinkLiteralTrail))) no_trail)))))
+
+  -- after a `]`
+  abbrev pub gfm_autolink_literal_trail_bracket_after : Body M
+  gfm_autolink_literal_trail_bracket_after =
+      Byte (Answer states.Ok)
+      (On is_after_bracket (Answer states.Ok) no_trail)
+
+  -- after an `&`
+  abbrev pub gfm_autolink_literal_trail_char_ref_start : Body M
+  gfm_autolink_literal_trail_char_ref_start =
+      On is_ascii_alphanumeric (Consume (Answer (next inline_states.GfmAutolinkLiteralTrailCharRefInside))) no_trail
+
+  -- in letters and digits after an `&`
+  abbrev pub gfm_autolink_literal_trail_char_ref_inside : Body M
+  gfm_autolink_literal_trail_char_ref_inside =
+      On is_ascii_alphanumeric (Consume (Answer (next inline_states.GfmAutolinkLiteralTrailCharRefInside)))
+      (On (λ b. b == 59) (Consume (Answer (next inline_states.GfmAutolinkLiteralTrail))) no_trail)

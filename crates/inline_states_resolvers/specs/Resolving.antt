@@ -1,0 +1,24 @@
+-- What the resolvers of texts and strings do: each makes its edits, if these leave whole events.
+use Rattle.std.specs.Prelude.{length}
+use Rattle.engine_events.specs.declared.resolve.Name.{Name as Resolver}
+use Rattle.engine_events.specs.declared.resolve.Name.TheVariants as resolvers
+use Rattle.markdown_engine.specs.Reading.{Config}
+use Rattle.markdown_engine.specs.Resolving.{Resolves, nothing_found}
+use Rattle.inline_states_resolvers.specs.Data.{data_edits}
+use Rattle.inline_states_resolvers.specs.Edited.{with_edited}
+use Rattle.inline_states_resolvers.specs.LabelEnd.{label_edits}
+
+module _ {M : Type 0} where
+  abbrev pub data_resolved : Config M → Config M
+  data_resolved c = with_edited (data_edits c.events (length c.events)) c
+
+  abbrev pub label_resolved : Config M → Config M
+  label_resolved c = with_edited (label_edits c.events c.tokenize_state) c
+
+  abbrev pub resolved_config : Config M → Resolver → Config M
+  resolved_config c resolvers.Data = data_resolved c
+  resolved_config c resolvers.Label = label_resolved c
+  resolved_config c n = c
+
+  unfoldable pub inline_resolved : Resolves M
+  inline_resolved c n = record { config = resolved_config c n; found = nothing_found }

@@ -1,0 +1,41 @@
+-- The resolvers leave whole events.
+use Rattle.std.proofs.Common.{◌≡◌, refl, Bool, true, false, ◌&&◌, if◌then◌else◌, List, [], ◌∷◌, length}
+use Rattle.engine_events.specs.declared.event.Event.{Event}
+use Rattle.engine_events.specs.declared.place.Point.{Point}
+use Rattle.engine_events.specs.declared.resolve.Name.{Name as Resolver}
+use Rattle.engine_events.specs.declared.resolve.Name.TheVariants as resolvers
+use Rattle.engine_edits.specs.Edits.{Placed}
+use Rattle.engine_edits.specs.Replacement.{events_after}
+use Rattle.markdown_engine.specs.Laws.{HoldsAt}
+use Rattle.markdown_engine.specs.Order.{AreWhole}
+use Rattle.markdown_engine.specs.Reading.{Config}
+use Rattle.markdown_engine.specs.Resolving.{ResolvesAt, resolves_nothing, settles_whole}
+use Rattle.inline_states_resolvers.specs.Data.{data_edits}
+use Rattle.inline_states_resolvers.specs.Edited.{edited, is_ordered}
+use Rattle.inline_states_resolvers.specs.LabelEnd.{label_edits}
+use Rattle.inline_states_resolvers.specs.Resolving.{inline_resolved, resolved_config}
+use Rattle.inline_states_resolvers.specs.Whole.{is_whole}
+use Rattle.inline_states_resolvers.specs.WholeLaws.{whole}
+
+either : (a b : Bool) (all events : List Event) (to : Point) → (b ≡ true → AreWhole all to) → AreWhole events to → AreWhole (if a && b then all else events) to
+either true true all events to h k = h refl
+either true false all events to h k = k
+either false b all events to h k = k
+
+edited_whole : (edits : List Placed) (to : Point) (events : List Event) → AreWhole events to → AreWhole (edited edits to events) to
+unfolding edited
+edited_whole edits to events h = either (is_ordered 0 edits (length events)) (is_whole (events_after edits events) to) (events_after edits events) events to (whole (events_after edits events) to) h
+
+module _ {M : Type 0} where
+  settled : (c : Config M) (n : Resolver) → settles_whole c [] → settles_whole (resolved_config c n) []
+  settled c resolvers.Data h = (h.0, edited_whole (data_edits c.events (length c.events)) c.point c.events h.1)
+  settled c resolvers.Label h = (h.0, edited_whole (label_edits c.events c.tokenize_state) c.point c.events h.1)
+  settled c n h = h
+
+  kept_settled : (c : Config M) (n : Resolver) (ns : List Resolver) → settles_whole c (n ∷ ns) → settles_whole (inline_resolved c n).config ns
+  unfolding inline_resolved
+  kept_settled c n ns h = settled c n h
+
+  -- where resolvers that change nothing are lawful, these are
+  pub resolves_whole : (valid : HoldsAt M) → ResolvesAt valid resolves_nothing settles_whole → ResolvesAt valid inline_resolved settles_whole
+  resolves_whole valid r = record { well = r.well; begins = r.begins; keeps = kept_settled; ordered = r.ordered; whole = r.whole }

@@ -1,0 +1,8 @@
+//! What is done with the events of a text or a string once it is read.
+#![tactic(auto)]
+
+pub mod edited;
+pub mod label_end;
+pub mod partial_data;
+pub mod resolving;
+pub mod whole;

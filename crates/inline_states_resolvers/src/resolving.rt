@@ -1,0 +1,55 @@
+//! The resolvers of texts and strings.
+ghost use Rattle.std.specs.Prelude.{◌≡◌, OnOk, IfErr};
+ghost use Rattle.markdown_options.specs.Messages.{IsOutOfMemory};
+ghost use Rattle.markdown_engine.specs.Machine.{Became, config};
+ghost use Rattle.inline_states_resolvers.specs.Resolving.{data_resolved, inline_resolved, label_resolved, resolved_config};
+
+use crate::edited::make;
+use crate::label_end::label_edits;
+use crate::partial_data::data_edits;
+use markdown_engine::Message;
+use markdown_engine::resolve::Name;
+use markdown_engine::tokenizer::Tokenizer;
+use std::alloc::Allocator;
+
+/// Joins data that stands side by side.
+pub fn resolve_data<M, T, A: Allocator + Clone>(
+    tokenizer: &mut Tokenizer<'_, M, T, A>,
+) -> Result<(), Message>
+    ensures became { OnOk result (config tokenizer.new ≡ data_resolved (config tokenizer.old)) }
+    ensures parse_state { tokenizer.new.parse_state ≡ tokenizer.old.parse_state }
+    ensures memory { IfErr result (λ message. IsOutOfMemory message) }
+{
+    let edits = data_edits(tokenizer.events.allocator().clone()?, &tokenizer.events)?;
+    make(tokenizer, edits)
+}
+
+/// Puts links, images and calls in place of the labels that were found.
+pub fn resolve_label<M, T, A: Allocator + Clone>(
+    tokenizer: &mut Tokenizer<'_, M, T, A>,
+) -> Result<(), Message>
+    ensures became { OnOk result (config tokenizer.new ≡ label_resolved (config tokenizer.old)) }
+    ensures parse_state { tokenizer.new.parse_state ≡ tokenizer.old.parse_state }
+    ensures memory { IfErr result (λ message. IsOutOfMemory message) }
+{
+    let alloc = tokenizer.events.allocator().clone()?;
+    let edits = label_edits(&alloc, &tokenizer.events, &tokenizer.tokenize_state)?;
+    make(tokenizer, edits)
+}
+
+/// Runs a resolver.
+#[tactic(auto, unfolding(crate::specs::Resolving::inline_resolved))]
+pub fn resolve<M, T, A: Allocator + Clone>(
+    tokenizer: &mut Tokenizer<'_, M, T, A>,
+    name: Name,
+) -> Result<(), Message>
+    ensures config { OnOk result (config tokenizer.new ≡ (inline_resolved (config tokenizer.old) name).config) }
+    ensures parse_state { tokenizer.new.parse_state ≡ tokenizer.old.parse_state }
+    ensures memory { IfErr result (λ message. IsOutOfMemory message) }
+{
+    match name {
+        Name::Data => resolve_data(tokenizer),
+        Name::Label => resolve_label(tokenizer),
+        _ => Ok(()),
+    }
+}
