@@ -19,4 +19,4 @@ mod raw_text;
 pub mod searches;
 pub mod space;
 
-pub use leaf::{Leaf, LeafPart};
+pub use leaf::{Leaf, LeafPart, LiteralKind};
