@@ -4,7 +4,7 @@ use Rattle.std.specs.List.{prefix_len, suffix_len, filter, list_any}
 use Rattle.std.specs.Str.{bytes_eq}
 use Rattle.markdown_options.specs.declared.configuration.Constructs.{Constructs}
 use Rattle.definition_text.specs.declared.beside.Kind.{Kind}
-use Rattle.definition_text.specs.Bytes.{is_letter, is_letter_or_digit, lower, begins_with}
+use Rattle.definition_text.specs.Bytes.{is_letter, is_letter_or_digit, same_caselessly, begins_with}
 use Rattle.definition_text.specs.Columns.{is_white}
 use Rattle.definition_text.specs.Content.{is_space}
 use Rattle.definition_text.specs.InlineCode.{InlineCode, codes_of, is_continuation}
@@ -27,9 +27,9 @@ abbrev pub may_precede_protocol : Option ℕ → Bool
 may_precede_protocol None = true
 may_precede_protocol (Some code) = not (is_letter code)
 
--- a content begins with a text of lower case, in either case
+-- a content begins with a text, in either case
 abbrev pub begins_caselessly : List ℕ → List ℕ → Bool
-begins_caselessly text content = bytes_eq text (lower (take (length text) content))
+begins_caselessly text content = same_caselessly text (take (length text) content)
 
 -- what a literal begins with: its kind, and how many codes that is
 pub record LiteralStart : Type 0 where

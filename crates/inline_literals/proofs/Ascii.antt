@@ -1,9 +1,11 @@
 -- Bytes of addresses are ASCII.
-use Rattle.std.proofs.Common.{◌≡◌, ℕ, ◌<◌, ◌≤◌, Bool, true, false, ◌||◌, ◌⊎◌, eqb, refl, sym, arith, inl, inr}
+use Rattle.std.proofs.Common.{◌≡◌, ℕ, ◌<◌, ◌≤◌, Bool, true, false, ◌||◌, ◌⊎◌, List, [], ◌∷◌, eqb, refl, sym, arith, inl, inr}
+use Rattle.std.specs.Prelude.{nat_lt}
 use Rattle.std.specs.Int.{is_in_range}
-use Rattle.std.proofs.lemmas.Bool.{and_parts, leb-true, eqb-true, true≢false}
+use Rattle.std.specs.List.{list_all}
+use Rattle.std.proofs.lemmas.Bool.{and_parts, leb-true, ltb-true, eqb-true, true≢false}
 use Rattle.definition_text.specs.Bytes.{is_letter, is_letter_or_digit}
-use Rattle.definition_inline.specs.GfmAutolinkLiteral.{is_user_byte}
+use Rattle.definition_inline.specs.GfmAutolinkLiteral.{is_among, is_user_byte}
 
 -- one of two that hold
 one_of : (a b : Bool) → (a || b) ≡ true → (a ≡ true) ⊎ (b ≡ true)
@@ -47,4 +49,14 @@ user_ascii c h = elim (one_of (is_letter_or_digit c) _ h) [
           ]
         ]
       ]
+    ]
+
+-- one of bytes that are ASCII
+pub among_ascii : (text : List ℕ) (c : ℕ) → list_all (λ t. nat_lt t 128) text ≡ true → is_among text c ≡ true → c < 128
+among_ascii [] c low h = absurd (true≢false (sym h))
+among_ascii (t ∷ ts) c low h =
+    let parts = and_parts (nat_lt t 128) (list_all (λ t. nat_lt t 128) ts) low in
+    elim (one_of (eqb c t) (is_among ts c) h) [
+      | inl here ↦ omega (arith, eqb-true c t here, ltb-true t 128 parts.0)
+      | inr later ↦ among_ascii ts c parts.1 later
     ]

@@ -1,2 +1,5 @@
 pub mod Addresses
 pub mod Ascii
+pub mod Names
+pub mod Domains
+pub mod Starts

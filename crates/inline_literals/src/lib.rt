@@ -2,5 +2,7 @@
 #![tactic(auto)]
 
 pub mod address;
+pub mod gfm_autolink_literal;
+mod name;
 
 pub use address::{FoundAddress, first_address};
