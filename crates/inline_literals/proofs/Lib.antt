@@ -3,3 +3,4 @@ pub mod Ascii
 pub mod Names
 pub mod Domains
 pub mod Starts
+pub mod Found

@@ -1,5 +1,5 @@
 -- Names of literals, in bytes and backwards.
-use Rattle.std.proofs.Common.{◌≡◌, ℕ, zero, suc, ◌+◌, ◌-◌, ◌<◌, ◌≤◌, List, [], ◌∷◌, ◌++◌, Bool, true, false, cond, eqb, leb, ◌&&◌, ◌||◌, refl, sym, ap, ap₂, ◌∙◌, get_or, length, drop, take, arith, subst, append_assoc, inl, inr}
+use Rattle.std.proofs.Common.{◌≡◌, ℕ, zero, suc, ◌+◌, ◌-◌, ◌<◌, ◌≤◌, List, [], ◌∷◌, ◌++◌, true, false, cond, eqb, ◌&&◌, ◌||◌, refl, sym, ap, ap₂, ◌∙◌, get_or, length, drop, take, arith, subst, append_assoc, inl, inr}
 use Rattle.std.specs.Prelude.{reverse, codes, nat_le, nat_lt}
 use Rattle.std.specs.List.{prefix_len, filter}
 use Rattle.std.proofs.lemmas.Bool.{cases_Bool, cases_lt, cond_both, cond-false, cond-true, eqb-true, eq-eqb, ne_eqb, and_left, and_right, and_parts, and_from, or_from, le-leb, lt-ltb, le-ltb, true≢false}
@@ -7,7 +7,7 @@ use Rattle.std.proofs.lemmas.List.{length-reverse, reverse-append, length-take-l
 use Rattle.std.proofs.lemmas.List.Sums.{prefix_len_passes}
 use Rattle.std.proofs.Math.Seq.{drop-cons, take-suc}
 use Rattle.definition_text.specs.Bytes.{is_letter_or_digit, begins_with}
-use Rattle.definition_text.specs.Content.{is_space, content_codes}
+use Rattle.definition_text.specs.Content.{content_codes}
 use Rattle.definition_inline.specs.GfmAutolinkLiteral.{ends_label, ends_literal, literal_run, count_of, has_more_closed, is_trailing, is_cut, name_size, cut_more, without_tail, low_line_in}
 use Rattle.inline_leaves.specs.Leaves.{IsPlain}
 use Rattle.inline_leaves.proofs.Codes.{at_return, plain_code}
@@ -43,7 +43,7 @@ run_ends b bs h = elim (cases_Bool (eqb b 13)) [
   | inr o ↦ ap literal_run (cond-false (eqb b 13) _ _ o) ∙ cond-true (ends_literal b (content_codes bs)) _ _ h
 ]
 
-no_return : (b : ℕ) (cs : List ℕ) → ends_literal b cs ≡ false → b ≡ 13 → ⊥
+pub no_return : (b : ℕ) (cs : List ℕ) → ends_literal b cs ≡ false → b ≡ 13 → ⊥
 no_return b cs h e = true≢false (sym (ap (λ x. ends_literal x cs) e) ∙ h)
 
 -- a byte that doesn't

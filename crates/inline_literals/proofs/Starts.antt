@@ -1,6 +1,6 @@
 -- What a literal begins with, in bytes and in codes.
-use Rattle.std.proofs.Common.{◌≡◌, ℕ, zero, suc, ◌+◌, ◌-◌, ◌<◌, ◌≤◌, List, [], ◌∷◌, Bool, true, false, cond, not, ◌&&◌, eqb, refl, sym, ap, ap₂, ◌∙◌, get_or, length, Option, None, Some, arith, inl, inr}
-use Rattle.std.specs.Prelude.{codes, nat_lt, nat_le}
+use Rattle.std.proofs.Common.{◌≡◌, ℕ, zero, suc, ◌+◌, ◌-◌, ◌<◌, ◌≤◌, List, [], ◌∷◌, Bool, true, false, cond, not, ◌&&◌, eqb, refl, sym, ap, ◌∙◌, get_or, length, Option, None, Some, arith, inl, inr}
+use Rattle.std.specs.Prelude.{codes, nat_lt}
 use Rattle.std.specs.List.{list_all}
 use Rattle.std.specs.Char.{to_ascii_lowercase}
 use Rattle.std.proofs.lemmas.Bool.{cases_Bool, and_parts, and_left, eqb-true, ne_eqb, ltb-true, true≢false, cond_both}
@@ -10,9 +10,9 @@ use Rattle.definition_inline.specs.Inline.{Www, Protocol}
 use Rattle.inline_leaves.proofs.Codes.{at_return, plain_code}
 use Rattle.inline_literals.specs.Literals.{StartsLiteral}
 
--- an ASCII byte that is no CR, in lower case
+-- an ASCII byte that is no CR and no LF, in lower case
 abbrev pub is_low : ℕ → Bool
-is_low t = not (eqb (to_ascii_lowercase t) 13) && nat_lt (to_ascii_lowercase t) 128
+is_low t = not (eqb (to_ascii_lowercase t) 13) && (not (eqb (to_ascii_lowercase t) 10) && nat_lt (to_ascii_lowercase t) 128)
 
 -- the same byte in either case
 record IsSame (text bytes : List ℕ) : Type 0 where
@@ -20,7 +20,7 @@ record IsSame (text bytes : List ℕ) : Type 0 where
   bytes_are : (k : ℕ) → k < length text → is_low (get_or bytes k 0) ≡ true
 
 same_low : (t b : ℕ) → is_low t ≡ true → to_ascii_lowercase t ≡ to_ascii_lowercase b → is_low b ≡ true
-same_low t b low e = ap (λ x. not (eqb x 13) && nat_lt x 128) (sym e) ∙ low
+same_low t b low e = ap (λ x. not (eqb x 13) && (not (eqb x 10) && nat_lt x 128)) (sym e) ∙ low
 
 begun : (text bytes : List ℕ) → list_all is_low text ≡ true → begins_caselessly text bytes ≡ true → IsSame text bytes
 begun [] bytes low h = record { within = omega arith; bytes_are = λ k lt. absurd (omega (arith, lt)) }
@@ -50,7 +50,9 @@ starts text bytes low some h =
       plain = record { within = same.within; plain = λ k lt e. true≢false (sym (same.bytes_are k lt) ∙ ap is_low e) };
       ascii = let last = same.bytes_are (length text - 1) (omega (arith, some)) in
           let b = get_or bytes (length text - 1) 0 in
-          omega (arith, not_less b, ltb-true (to_ascii_lowercase b) 128 (and_parts (not (eqb (to_ascii_lowercase b) 13)) _ last).1);
+          let rest = (and_parts (not (eqb (to_ascii_lowercase b) 13)) _ last).1 in
+          omega (arith, not_less b, ltb-true (to_ascii_lowercase b) 128 (and_parts (not (eqb (to_ascii_lowercase b) 10)) _ rest).1);
+      inside = λ e. true≢false (sym (same.bytes_are (length text - 1) (omega (arith, some))) ∙ ap is_low e);
     }
 
 -- ---- in codes

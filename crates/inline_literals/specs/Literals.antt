@@ -1,5 +1,5 @@
 -- What is found of literals, in bytes.
-use Rattle.std.specs.Prelude.{◌≡◌, ◌+◌, ◌-◌, ◌<◌, ◌≤◌, ℕ, zero, suc, Bool, false, not, ◌&&◌, ◌||◌, ◌==◌, if◌then◌else◌, List, [], ◌∷◌, Option, None, Some, codes, drop, length, slice_index, take}
+use Rattle.std.specs.Prelude.{◌≡◌, ◌+◌, ◌-◌, ◌<◌, ℕ, zero, suc, Bool, false, not, ◌&&◌, ◌||◌, ◌==◌, if◌then◌else◌, List, [], ◌∷◌, Option, None, Some, codes, length, slice_index, take}
 use Rattle.std.specs.Str.{IsCharBoundary}
 use Rattle.definition_text.specs.declared.beside.Kind.TheVariants.{Whitespace}
 use Rattle.definition_text.specs.Content.{content_codes}
@@ -15,11 +15,17 @@ use Rattle.inline_literals.specs.declared.gfm_autolink_literal.LiteralStart.{Lit
 abbrev pub start_view : LiteralStart → literal.LiteralStart
 start_view start = literal_start (kind_view start.kind) start.size
 
--- bytes that a literal begins with: none of them is CR, and the last is ASCII
+-- a byte comes first that a literal may begin with
+abbrev pub may_begin : List ℕ → Bool
+may_begin [] = false
+may_begin (b ∷ bs) = (b == 72) || ((b == 87) || ((b == 104) || (b == 119)))
+
+-- bytes that a literal begins with: none of them is CR, and the last is ASCII and no LF
 pub record StartsLiteral (bytes : List ℕ) (size : ℕ) : Type 0 where
   pub some : 0 < size
   pub plain : IsPlain bytes size
   pub ascii : slice_index bytes (size - 1) < 128
+  pub inside : slice_index bytes (size - 1) ≡ 10 → ⊥
 
 module _ (p : ℕ → Bool) where
   -- a character comes first that is neither whitespace nor punctuation
@@ -49,5 +55,6 @@ module _ (p : ℕ → Bool) where
 
 -- a place after a name
 pub record IsNameEnd (after : List ℕ) (size : ℕ) : Type 0 where
+  pub name : take size after ≡ literal_name (content_codes after)
   pub plain : IsPlain after size
   pub boundary : IsCharBoundary after size

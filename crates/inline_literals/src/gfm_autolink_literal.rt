@@ -12,7 +12,7 @@ ghost use Rattle.definition_inline.specs.GfmAutolinkLiteral.{begins_caselessly, 
 ghost use Rattle.inline_content.specs.View.{view_at};
 ghost use Rattle.inline_leaves.specs.Leaves.{found_leaf, size_before, IsAfter};
 ghost use Rattle.inline_links.specs.Codes.{IsRest};
-ghost use Rattle.inline_literals.specs.Literals.{begins_domain, begins_name, begins_other, domain_size, size_after, start_view, IsNameEnd, StartsLiteral};
+ghost use Rattle.inline_literals.specs.Literals.{begins_domain, begins_name, begins_other, domain_size, may_begin, size_after, start_view, IsNameEnd, StartsLiteral};
 
 use crate::name::{has_low_line, name_size};
 use definition_text::Kind;
@@ -27,6 +27,53 @@ struct LiteralStart {
     kind: LiteralKind,
     /// How many bytes it has.
     size: usize,
+}
+
+/// A literal that is no email address, at a rest of a content (GFM 6.9).
+pub fn literal_at<'a, T: Tables>(
+    on: &Constructs,
+    tables: &T,
+    content: Content<'_>,
+    rest: &'a str,
+) -> Option<Leaf<'a>>
+    requires rest { IsRest content.text.now rest.now }
+    requires codes { content_codes rest.now ≡ drop (size_before content.text.now rest.now) (content_codes content.text.now) }
+    ensures read { found_leaf rest.now result ≡ literal_at on.now (view_at (T.punctuation_of tables.now) content.entry rest.now) }
+    ensures place { IfSome result (λ found. IsAfter rest.now found.after.now) }
+{
+    if !on.gfm_autolink_literal || !may_begin(rest.as_bytes()) {
+        return None;
+    }
+    let Some(start) = start_at(content.previous(rest), rest.as_bytes()) else {
+        return None;
+    };
+    let after = cut_after(rest, start.size);
+    let Some(size) = size_after(tables, after) else {
+        return None;
+    };
+    let end = start.size + size;
+    Some(Leaf {
+        part: LeafPart::Literal {
+            kind: start.kind,
+            text: text_before(rest, end),
+        },
+        after: rest_from(rest, end),
+    })
+}
+
+/// Whether a byte comes first that a literal may begin with.
+fn may_begin(bytes: &[u8]) -> bool
+    ensures { result ≡ may_begin bytes.now }
+{
+    !bytes.is_empty() && matches!(bytes[0], b'h' | b'H' | b'w' | b'W')
+}
+
+/// The content from a place on that isn't inside a character.
+fn rest_from(text: &str, at: usize) -> &str
+    requires { IsCharBoundary text.now at }
+    ensures { result.now ≡ drop at text.now }
+{
+    &text[at..]
 }
 
 /// How many bytes the name after the start of a literal has, where it may stand there (GFM 6.9).

@@ -1,5 +1,4 @@
-use Rattle.std.proofs.Common.{◌≡◌, ◌+◌, ◌-◌, ◌<◌, ◌≤◌, length, drop, sym, ◌∙◌, ap, arith}
-use Rattle.inline_literals.specs.Literals.{domain_size}
+use Rattle.std.proofs.Common.{sym, ◌∙◌, arith}
 use Rattle.inline_literals.proofs.Domains.{domain_goes_on, domain_ends}
 use Rattle.inline_literals.proofs.gfm_autolink_literal.domain_size.Goals as goal
 

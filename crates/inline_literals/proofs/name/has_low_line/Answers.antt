@@ -1,4 +1,4 @@
-use Rattle.std.proofs.Common.{sym, ◌∙◌, ◌-◌, ◌≤◌, arith}
+use Rattle.std.proofs.Common.{sym, ◌∙◌, arith}
 use Rattle.inline_literals.proofs.Names.{low_line_found, low_line_dot, low_line_other}
 use Rattle.inline_literals.proofs.name.has_low_line.Goals as goal
 

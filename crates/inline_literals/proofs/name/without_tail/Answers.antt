@@ -1,8 +1,7 @@
-use Rattle.std.proofs.Common.{◌-◌, length, take, sym, ◌∙◌, ap, refl, arith}
-use Rattle.std.proofs.lemmas.List.{length-reverse}
+use Rattle.std.proofs.Common.{sym, ◌∙◌, refl}
 use Rattle.std.specs.Prelude.{codes}
 use Rattle.inline_literals.proofs.Ascii.{among_ascii}
-use Rattle.inline_literals.proofs.Names.{IsCutTo, cut_trailing, next_cut}
+use Rattle.inline_literals.proofs.Names.{cut_trailing, next_cut}
 use Rattle.inline_literals.proofs.name.without_tail.Goals as goal
 
 pub loop-end-preserved-then-is_trailing : goal.loop-end-preserved-then-is_trailing
