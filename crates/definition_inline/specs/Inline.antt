@@ -14,7 +14,13 @@ pub record Linked : Type 0 where
 abbrev pub linked : List ℕ → Option (List ℕ) → Linked
 linked destination title = record { destination = destination; title = title }
 
--- A part of a text: a byte; a byte after the backslash that escapes it; the text that a character reference stands for; the text of a code span; that of math; an autolink to an email address or not, with what stands between its brackets; raw HTML by its codes; a hard line break by a backslash; one by spaces; the code of a line ending; emphasis; strong emphasis; strikethrough; a link; an image with its description.
+-- what a literal leads to: `http://` and its text; its text, which begins with a protocol; or `mailto:` and its text (GFM 6.9)
+pub data LiteralKind : Type 0 where
+  Www : LiteralKind
+  Protocol : LiteralKind
+  Email : LiteralKind
+
+-- A part of a text: a byte; a byte after the backslash that escapes it; the text that a character reference stands for; the text of a code span; that of math; an autolink to an email address or not, with what stands between its brackets; a literal; raw HTML by its codes; a hard line break by a backslash; one by spaces; the code of a line ending; emphasis; strong emphasis; strikethrough; a link; an image with its description.
 mutual
   pub data Inline : Type 0 where
     Data : ℕ → Inline
@@ -23,6 +29,7 @@ mutual
     Code : List ℕ → Inline
     Math : List ℕ → Inline
     Autolink : Bool → List ℕ → Inline
+    Literal : LiteralKind → List ℕ → Inline
     Html : List ℕ → Inline
     EscapedBreak : Inline
     TrailingBreak : Inline

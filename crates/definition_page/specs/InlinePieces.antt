@@ -6,7 +6,7 @@ use Rattle.markdown_options.specs.declared.configuration.CompileOptions.{Compile
 use Rattle.definition_text.specs.Columns.{bytes_of, bare}
 use Rattle.definition_text.specs.Content.{is_eol}
 use Rattle.definition_text.specs.Encode.{plain}
-use Rattle.definition_inline.specs.Inline.{Target, Resource, Reference, Linked, linked, Inline, Data, Escape, Character, Code, Math, Autolink, Html, EscapedBreak, TrailingBreak, LineEnd, Emphasis, Strong, Strikethrough, Link, Image, Inlines, Nil, Cons}
+use Rattle.definition_inline.specs.Inline.{Target, Resource, Reference, Linked, linked, LiteralKind, Www, Protocol, Email, Inline, Data, Escape, Character, Code, Math, Autolink, Literal, Html, EscapedBreak, TrailingBreak, LineEnd, Emphasis, Strong, Strikethrough, Link, Image, Inlines, Nil, Cons}
 use Rattle.definition_inline.specs.Strings.{string_text}
 use Rattle.definition_page.specs.GfmTagfilter.{filtered}
 use Rattle.definition_page.specs.Urls.{percent, sanitized, permitted, href_protocols, src_protocols}
@@ -104,6 +104,12 @@ abbrev pub address : Bool → List ℕ → List ℕ
 address true text = codes "mailto:" ++ text
 address false text = text
 
+-- the address that a literal leads to (GFM 6.9)
+abbrev pub literal_address : LiteralKind → List ℕ → List ℕ
+literal_address Www text = codes "http://" ++ text
+literal_address Protocol text = text
+literal_address Email text = codes "mailto:" ++ text
+
 -- the tag of math in a text
 abbrev pub math_tag : Tag
 math_tag = tag (codes "code") (attribute (codes "class") (codes "language-math math-inline") ∷ [])
@@ -118,6 +124,7 @@ abbrev mutual
   part_says options (Code text) = Words text ∷ []
   part_says options (Math text) = Words text ∷ []
   part_says options (Autolink is_email text) = Words text ∷ []
+  part_says options (Literal kind text) = Words text ∷ []
   part_says options (Html html) = html_says options html
   part_says options EscapedBreak = []
   part_says options TrailingBreak = []
@@ -148,6 +155,8 @@ abbrev mutual
   part_pieces m (Math text) = element math_tag (Says (Words text) ∷ [])
   part_pieces m (Autolink is_email text) =
       element (tag (codes "a") (attribute (codes "href") (link_url m.compile (address is_email text)) ∷ [])) (Says (Words text) ∷ [])
+  part_pieces m (Literal kind text) =
+      element (tag (codes "a") (attribute (codes "href") (link_url m.compile (literal_address kind text)) ∷ [])) (Says (Words text) ∷ [])
   part_pieces m (Html html) = map Says (html_says m.compile html)
   part_pieces m EscapedBreak = Void (bare_tag (codes "br")) ∷ []
   part_pieces m TrailingBreak = Void (bare_tag (codes "br")) ∷ []

@@ -1,5 +1,5 @@
 -- The content of a block as codes that know what stands beside them (CommonMark 6.2).
-use Rattle.std.specs.Prelude.{ℕ, ◌+◌, ◌-◌, ◌*◌, Bool, if◌then◌else◌, ◌&&◌, nat_lt, nat_le, List, [], ◌∷◌, map, slice_index}
+use Rattle.std.specs.Prelude.{Option, None, Some, ℕ, ◌+◌, ◌-◌, ◌*◌, Bool, if◌then◌else◌, ◌&&◌, nat_lt, nat_le, List, [], ◌∷◌, map, slice_index}
 use Rattle.std.specs.List.{flat_map}
 use Rattle.std.specs.Char.{is_whitespace}
 use Rattle.definition_text.specs.declared.beside.Kind.{Kind}
@@ -8,14 +8,15 @@ use Rattle.definition_text.specs.Columns.{code_byte}
 use Rattle.definition_text.specs.BlockLines.{BlockLine}
 use Rattle.definition_text.specs.Content.{is_eol, line_codes}
 
--- a code of a content, and the kinds of the characters before and after it in the text
+-- a code of a content, the code before it in its line, and the kinds of the characters before and after it in the text
 pub record InlineCode : Type 0 where
   pub code : ℕ
+  pub previous : Option ℕ
   pub before : Kind
   pub after : Kind
 
-abbrev pub inline_code : ℕ → Kind → Kind → InlineCode
-inline_code code before after = record { code = code; before = before; after = after }
+abbrev pub inline_code : ℕ → Option ℕ → Kind → Kind → InlineCode
+inline_code code previous before after = record { code = code; previous = previous; before = before; after = after }
 
 -- the codes alone
 abbrev pub codes_of : List InlineCode → List ℕ
@@ -55,16 +56,16 @@ abbrev pub next_kind : (ℕ → Bool) → Kind → List ℕ → Kind
 next_kind is_punctuation before [] = before
 next_kind is_punctuation before (c ∷ cs) = if is_continuation c then before else first_kind is_punctuation before (c ∷ cs)
 
--- codes with the kinds of their neighbours, of which those of the first and the last code are given
-abbrev pub with_kinds : (ℕ → Bool) → Kind → Kind → List ℕ → List InlineCode
-with_kinds is_punctuation before after [] = []
-with_kinds is_punctuation before after (c ∷ cs) =
-    inline_code c before (first_kind is_punctuation after cs)
-    ∷ with_kinds is_punctuation (next_kind is_punctuation before (c ∷ cs)) after cs
+-- codes with their neighbours, of which those of the first and the last code are given
+abbrev pub with_kinds : (ℕ → Bool) → Option ℕ → Kind → Kind → List ℕ → List InlineCode
+with_kinds is_punctuation previous before after [] = []
+with_kinds is_punctuation previous before after (c ∷ cs) =
+    inline_code c previous before (first_kind is_punctuation after cs)
+    ∷ with_kinds is_punctuation (Some c) (next_kind is_punctuation before (c ∷ cs)) after cs
 
 -- the codes of a line with its ending, in which a column that is left of a tab is a space; the kind of the character after the content is given
 abbrev pub line_content : (ℕ → Bool) → Kind → BlockLine → List InlineCode
-line_content is_punctuation after line = with_kinds is_punctuation line.before after (map code_byte (line_codes line))
+line_content is_punctuation after line = with_kinds is_punctuation None line.before after (map code_byte (line_codes line))
 
 -- the content of lines, before a character of this kind in the text
 abbrev pub inline_content : (ℕ → Bool) → Kind → List BlockLine → List InlineCode

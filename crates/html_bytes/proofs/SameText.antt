@@ -8,14 +8,14 @@ use Rattle.markdown_options.specs.declared.configuration.Constructs.{Constructs}
 use Rattle.markdown_options.specs.declared.configuration.CompileOptions.{CompileOptions}
 use Rattle.definition_text.specs.Columns.{bytes_of, bare}
 use Rattle.definition_text.specs.Encode.{encode, encoded_byte, plain}
-use Rattle.definition_inline.specs.Inline.{Target, Linked, Inline, Data, Escape, Character, Code, Math, Autolink, Html, EscapedBreak, TrailingBreak, LineEnd, Emphasis, Strong, Strikethrough, Link, Image, Inlines, Nil, Cons}
+use Rattle.definition_inline.specs.Inline.{Target, Linked, Inline, Data, Escape, Character, Code, Math, Autolink, Literal, Html, EscapedBreak, TrailingBreak, LineEnd, Emphasis, Strong, Strikethrough, Link, Image, Inlines, Nil, Cons}
 use Rattle.definition_inline.specs.Strings.{string_text, eol_bytes}
 use Rattle.definition_page.specs.Urls.{percent, sanitized, permitted, href_protocols, src_protocols}
 use Rattle.definition_page.specs.GfmTagfilter.{filtered}
 use Rattle.definition_page.specs.Tags.{Said, Words, AsItIs, EndOfLine, said_bytes, Attribute, attribute, attribute_bytes, Tag, tag, bare_tag, start_tag, end_tag, void_tag}
 use Rattle.definition_page.specs.Pieces.{Piece, Open, Close, Void, Says, print}
 use Rattle.definition_page.specs.InlinePieces as page
-use Rattle.definition_page.specs.InlinePieces.{Meaning, HtmlLine, html_lines, leads_to, address, element, part_pieces, inline_pieces, part_says}
+use Rattle.definition_page.specs.InlinePieces.{Meaning, HtmlLine, html_lines, leads_to, address, literal_address, element, part_pieces, inline_pieces, part_says}
 use Rattle.html_bytes.specs.InlineHtml.{InlineMeaning, html_line_bytes, later_line_bytes, html_lines_bytes, html_text_bytes, title_attribute, titled, link_tag, image_tag, part_description, description, part_html, inline_html}
 use Rattle.html_bytes.specs.Meaning.{inline_meaning, link_url, image_url}
 use Rattle.html_bytes.specs.RawHtml.{raw_html}
@@ -155,6 +155,7 @@ mutual
   part_said options (Code text) = append-nil (encode text)
   part_said options (Math text) = append-nil (encode text)
   part_said options (Autolink is_email text) = append-nil (encode text)
+  part_said options (Literal kind text) = append-nil (encode text)
   part_said options (Html html) = html_said options html
   part_said options EscapedBreak = refl
   part_said options TrailingBreak = refl
@@ -188,6 +189,11 @@ mutual
   part_printed on options names definition default (Autolink is_email text) out =
       let m = piece_meaning on options names definition in
       let url = address is_email text in
+      element_printed default out (tag (codes "a") (attribute (codes "href") (page.link_url options url) ∷ [])) (Says (Words text) ∷ []) (encode text) (λ o. refl)
+      ∙ ap (λ x. out ++ (x ++ encode text ++ codes "</a>")) (autolink_said options url)
+  part_printed on options names definition default (Literal kind text) out =
+      let m = piece_meaning on options names definition in
+      let url = literal_address kind text in
       element_printed default out (tag (codes "a") (attribute (codes "href") (page.link_url options url) ∷ [])) (Says (Words text) ∷ []) (encode text) (λ o. refl)
       ∙ ap (λ x. out ++ (x ++ encode text ++ codes "</a>")) (autolink_said options url)
   part_printed on options names definition default (Html html) out =

@@ -5,9 +5,9 @@ use Rattle.markdown_options.specs.declared.configuration.Constructs.{Constructs}
 use Rattle.markdown_options.specs.declared.configuration.CompileOptions.{CompileOptions}
 use Rattle.definition_text.specs.Columns.{bytes_of, bare}
 use Rattle.definition_text.specs.Encode.{encode, encoded_byte, plain}
-use Rattle.definition_page.specs.InlinePieces.{HtmlLine, html_lines, leads_to, address}
+use Rattle.definition_page.specs.InlinePieces.{HtmlLine, html_lines, leads_to, address, literal_address}
 use Rattle.html_bytes.specs.RawHtml.{raw_html}
-use Rattle.definition_inline.specs.Inline.{Linked, Inline, Data, Escape, Character, Code, Math, Autolink, Html, EscapedBreak, TrailingBreak, LineEnd, Emphasis, Strong, Strikethrough, Link, Image, Inlines, Nil, Cons}
+use Rattle.definition_inline.specs.Inline.{Linked, Inline, Data, Escape, Character, Code, Math, Autolink, Literal, Html, EscapedBreak, TrailingBreak, LineEnd, Emphasis, Strong, Strikethrough, Link, Image, Inlines, Nil, Cons}
 use Rattle.definition_inline.specs.Strings.{string_text, eol_bytes}
 
 -- what is printed is given by: the options, the texts of named characters, what the definition of a label leads to, and how the URL of a link and of an image is printed as a value of its attribute
@@ -60,6 +60,7 @@ abbrev mutual
   part_description options (Code bytes) = encode bytes
   part_description options (Math bytes) = encode bytes
   part_description options (Autolink is_email bytes) = encode bytes
+  part_description options (Literal kind bytes) = encode bytes
   part_description options (Html text) = html_text_bytes options text
   part_description options EscapedBreak = []
   part_description options TrailingBreak = []
@@ -97,6 +98,8 @@ abbrev mutual
   part_html meaning (Math bytes) = codes "<code class=\"language-math math-inline\">" ++ encode bytes ++ codes "</code>"
   part_html meaning (Autolink is_email bytes) =
       codes "<a href=\"" ++ meaning.link_url (address is_email bytes) ++ codes "\">" ++ encode bytes ++ codes "</a>"
+  part_html meaning (Literal kind bytes) =
+      codes "<a href=\"" ++ meaning.link_url (literal_address kind bytes) ++ codes "\">" ++ encode bytes ++ codes "</a>"
   part_html meaning (Html text) = html_text_bytes meaning.compile text
   part_html meaning EscapedBreak = codes "<br />"
   part_html meaning TrailingBreak = codes "<br />"

@@ -3,7 +3,7 @@ use Rattle.std.proofs.Common.{◌≡◌, ℕ, Bool, true, false, cond, List, [],
 use Rattle.std.specs.List.{fold}
 use Rattle.std.proofs.lemmas.List.{append-nil}
 use Rattle.std.proofs.lemmas.List.Sums.{fold-append}
-use Rattle.definition_inline.specs.Inline.{Target, Linked, Inline, Data, Escape, Character, Code, Math, Autolink, Html, EscapedBreak, TrailingBreak, LineEnd, Emphasis, Strong, Strikethrough, Link, Image, Inlines, Nil, Cons}
+use Rattle.definition_inline.specs.Inline.{Target, Linked, Inline, Data, Escape, Character, Code, Math, Autolink, Literal, Html, EscapedBreak, TrailingBreak, LineEnd, Emphasis, Strong, Strikethrough, Link, Image, Inlines, Nil, Cons}
 use Rattle.definition_page.specs.InlinePieces.{leads_to}
 use Rattle.html_bytes.specs.InlineHtml.{InlineMeaning, title_attribute, link_tag, image_tag, description, inline_html, part_description, part_html}
 use Rattle.inline_rows.specs.InlineRows.{InlineRow, Leave, part_rows, inline_rows}
@@ -89,6 +89,7 @@ mutual
   part_rows_printed meaning (Code bytes) out stack = refl
   part_rows_printed meaning (Math bytes) out stack = refl
   part_rows_printed meaning (Autolink is_email bytes) out stack = refl
+  part_rows_printed meaning (Literal kind bytes) out stack = refl
   part_rows_printed meaning (Html text) out stack = refl
   part_rows_printed meaning EscapedBreak out stack = refl
   part_rows_printed meaning TrailingBreak out stack = refl

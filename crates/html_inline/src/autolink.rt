@@ -22,8 +22,21 @@ pub(crate) fn push_autolink<A: Allocator>(
         ++ encode text.now ++ codes "</a>") }
 {
     read_address(room, email, text)?;
+    push_linked_text(out, compile, room.as_str(), text)
+}
+
+/// Prints a text that is a link to an address.
+pub(crate) fn push_linked_text<A: Allocator>(
+    out: &mut String<A>,
+    compile: &CompileOptions,
+    address: &str,
+    text: &str,
+) -> Result<(), AllocError>
+    ensures { Prints result out.old out.new (codes "<a href=\"" ++ link_url compile.now address.now ++ codes "\">"
+        ++ encode text.now ++ codes "</a>") }
+{
     out.push_str("<a href=\"")?;
-    push_link_url(out, compile, room.as_str())?;
+    push_link_url(out, compile, address)?;
     out.push_str("\">")?;
     push_encoded(out, text)?;
     out.push_str("</a>")

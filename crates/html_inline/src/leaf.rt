@@ -8,6 +8,7 @@ use crate::autolink::push_autolink;
 use crate::character_reference::push_number;
 use crate::code_text::{push_code, push_code_span};
 use crate::form::Form;
+use crate::gfm_autolink_literal::push_literal;
 use crate::html_text::push_html_text;
 use crate::math_text::push_math;
 use crate::printing::Printing;
@@ -34,6 +35,7 @@ pub(crate) fn push_description<A: Allocator>(
         LeafPart::Math(math) => push_code(out, room, math),
         LeafPart::Unclosed(text) => push_encoded(out, text),
         LeafPart::Autolink { text, .. } => push_encoded(out, text),
+        LeafPart::Literal { text, .. } => push_encoded(out, text),
         LeafPart::Html(html) => push_html_text(out, compile, html),
         LeafPart::LineEnd(ending) => out.push_str(ending.as_str()),
         LeafPart::EscapedBreak => Ok(()),
@@ -63,6 +65,7 @@ pub(crate) fn push_leaf<A: Allocator, T: Tables>(
         LeafPart::Autolink { email, text } => {
             push_autolink(out, room, printing.compile, email, text)
         }
+        LeafPart::Literal { kind, text } => push_literal(out, room, printing.compile, kind, text),
         LeafPart::Html(html) => push_html_text(out, printing.compile, html),
         LeafPart::LineEnd(ending) => out.push_str(ending.as_str()),
         LeafPart::EscapedBreak => out.push_str("<br />"),

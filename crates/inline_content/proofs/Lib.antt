@@ -6,3 +6,4 @@ pub mod Runs
 pub mod Lined
 pub mod FirstLines
 pub mod Utf8Bytes
+pub mod PreviousCodes

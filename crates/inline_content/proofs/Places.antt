@@ -96,10 +96,10 @@ pub record EndsLine (cs : List ℕ) : Type 0 where
   pub same : cs ≡ front ++ ending ∷ []
   pub is : is_eol ending ≡ true
 
-ends_with_return : (zs : List ℕ) → EndsLine (content_codes (zs ++ 13 ∷ []))
+pub ends_with_return : (zs : List ℕ) → EndsLine (content_codes (zs ++ 13 ∷ []))
 ends_with_return zs = record { front = content_codes zs; ending = 13; same = codes_append zs 13 [] (λ e. omega (arith, e)); is = refl }
 
-ends_with_feed : (zs : List ℕ) → EndsLine (content_codes (zs ++ 10 ∷ []))
+pub ends_with_feed : (zs : List ℕ) → EndsLine (content_codes (zs ++ 10 ∷ []))
 ends_with_feed [] = record { front = []; ending = 10; same = refl; is = refl }
 ends_with_feed (z ∷ []) = elim (cases_Bool (eqb z 13)) [
   | inl r ↦ record { front = []; ending = 257; same = cond-true (eqb z 13) _ _ r; is = refl }

@@ -1,5 +1,5 @@
 -- The run that a rest of a content begins with.
-use Rattle.std.proofs.Common.{◌≡◌, ℕ, zero, suc, ◌+◌, ◌-◌, ◌<◌, ◌≤◌, Bool, true, false, cond, eqb, ◌==◌, ◌||◌, ◌&&◌, ◌⊎◌, List, [], ◌∷◌, ◌++◌, None, Some, inl, inr, refl, sym, ap, ◌∙◌, get_or, length, take, drop, subst, arith}
+use Rattle.std.proofs.Common.{◌≡◌, ℕ, zero, suc, ◌+◌, ◌-◌, ◌<◌, ◌≤◌, Bool, true, false, cond, eqb, ◌==◌, ◌||◌, ◌&&◌, ◌⊎◌, List, [], ◌∷◌, ◌++◌, Option, None, Some, inl, inr, refl, sym, ap, ◌∙◌, get_or, length, take, drop, subst, arith}
 use Rattle.std.specs.List.{prefix_len}
 use Rattle.std.proofs.lemmas.Bool.{true≢false, cases_Bool, cond-true, cond-false, eqb-true, ne_eqb, eq-eqb, or_cases, or_parts, and_parts, and_right, or_from}
 use Rattle.std.proofs.lemmas.List.{take-append-drop, drop-map, drop_at, drop_all, length-append}
@@ -15,7 +15,7 @@ use Rattle.definition_inline.specs.Attention.{is_marker, run_between, run_size, 
 use Rattle.inline_links.specs.Codes.{IsRest}
 use Rattle.inline_content.specs.declared.mark.Mark.{Mark}
 use Rattle.inline_content.specs.Marks.{kind_at}
-use Rattle.inline_content.specs.View.{line_left, kind_after, kind_between, view_from, marked}
+use Rattle.inline_content.specs.View.{line_left, kind_after, kind_between, previous_from, view_from, marked}
 use Rattle.inline_content.proofs.Views.{widths, codes_from, after_at, view_is}
 use Rattle.inline_content.proofs.Places.{codes_append, split_codes}
 
@@ -100,7 +100,7 @@ module _ (p : ℕ → Bool) (marks : List Mark) (options : ParseOptions) where
   pub rest_of_view : (text rest : List ℕ) → codes_of (drop (length (content_codes text) - length (content_codes rest)) (marked p marks text)) ≡ drop (length (content_codes text) - length (content_codes rest)) (content_codes text)
   rest_of_view text rest =
       let n = length (content_codes text) - length (content_codes rest) in
-      sym (drop-map (λ (c : InlineCode). c.code) n (marked p marks text)) ∙ ap (drop n) (codes_from p marks 0 (kind_at marks 0) (content_codes text))
+      sym (drop-map (λ (c : InlineCode). c.code) n (marked p marks text)) ∙ ap (drop n) (codes_from p marks 0 None (kind_at marks 0) (content_codes text))
 
   pub no_run : (text rest : List ℕ) → IsRest text rest → (0 < length rest → is_marker options (get_or rest 0 0) ≡ false)
       → None ≡ run_at options (drop (length (content_codes text) - length (content_codes rest)) (marked p marks text))
@@ -171,22 +171,22 @@ module _ (p : ℕ → Bool) (marks : List Mark) (options : ParseOptions) where
   same_run m s t a b e f h k l = ap (λ n. run_between options m n a e) h ∙ ap (λ x. run_between options m t x e) k ∙ ap (run_between options m t b) l
 
   -- a run of codes
-  run_of_codes : (place : ℕ) (kind : Kind) (b : ℕ) (bs : List ℕ) (size : ℕ) (before after : Kind) → is_marker options b ≡ true
+  run_of_codes : (place : ℕ) (previous : Option ℕ) (kind : Kind) (b : ℕ) (bs : List ℕ) (size : ℕ) (before after : Kind) → is_marker options b ≡ true
       → size ≡ prefix_len (λ x. x == b) (b ∷ bs) → before ≡ kind → after ≡ first_kind p Whitespace (line_left (content_codes (drop size (b ∷ bs))))
-      → Some (run_between options b size before after) ≡ run_at options (view_from p marks place kind (b ∷ content_codes bs))
-  run_of_codes place kind b bs size before after h sized is_before is_after =
-      let v = view_from p marks place kind (b ∷ content_codes bs) in
+      → Some (run_between options b size before after) ≡ run_at options (view_from p marks place previous kind (b ∷ content_codes bs))
+  run_of_codes place previous kind b bs size before after h sized is_before is_after =
+      let v = view_from p marks place previous kind (b ∷ content_codes bs) in
       let codes = b ∷ content_codes bs in
       let return : b ≡ 13 → ⊥ = marker_at options b 13 h refl in
       let both : b ≡ 257 → ⊥ = marker_at options b 257 h refl in
       let plain : content_codes (b ∷ bs) ≡ codes = cond-false (eqb b 13) _ _ (ne_eqb b 13 return) in
       let count : size ≡ run_size b v =
-      sized ∙ sym (size_bytes b (b ∷ bs) return both) ∙ ap (prefix_len (λ x. x == b)) (plain ∙ sym (codes_from p marks place kind codes)) ∙ sym (size_codes b v) in
+      sized ∙ sym (size_bytes b (b ∷ bs) return both) ∙ ap (prefix_len (λ x. x == b)) (plain ∙ sym (codes_from p marks place previous kind codes)) ∙ sym (size_codes b v) in
       let first : prefix_len (λ x. x == b) (b ∷ bs) ≡ 1 + prefix_len (λ x. x == b) bs = cond-true (eqb b b) _ 0 (eq-eqb b b refl) in
       let in_codes : size ≡ prefix_len (λ x. x == b) codes = sized ∙ sym (size_bytes b (b ∷ bs) return both) ∙ ap (prefix_len (λ x. x == b)) plain in
       let le = prefix_len-le-length (λ x. x == b) codes in
       let at_end : get_or codes (size - 1) 0 ≡ b = eqb-true (get_or codes (size - 1) 0) b (prefix_len_passes (λ x. x == b) codes (size - 1) 0 (omega (arith, in_codes, sized, first))) in
-      let d = inline_code b kind (kind_after p b (line_left (content_codes bs))) in
+      let d = inline_code b previous kind (kind_after p b (line_left (content_codes bs))) in
       let next : suc (size - 1) ≡ size = omega (arith, sized, first) in
       let past : drop (suc (size - 1)) codes ≡ content_codes (drop size (b ∷ bs)) =
       ap (λ k. drop k codes) next ∙ ap (drop size) (sym plain) ∙ drop_bytes b size (b ∷ bs) return (omega (arith, sized)) in
@@ -195,7 +195,7 @@ module _ (p : ℕ → Bool) (marks : List Mark) (options : ParseOptions) where
       ∙ sym (cond-false (is_eol b) Whitespace _ (within_line options b h))
       ∙ ap (λ l. kind_after p b (line_left l)) (sym past)
       ∙ ap (λ x. kind_after p x (line_left (drop (suc (size - 1)) codes))) (sym at_end)
-      ∙ sym (after_at p marks place kind codes (size - 1) d (omega (arith, in_codes, le, sized, first))) in
+      ∙ sym (after_at p marks place previous kind codes (size - 1) d (omega (arith, in_codes, le, sized, first))) in
       ap Some (same_run b size (run_size b v) before kind after (get_or v (run_size b v - 1) d).after count is_before (last ∙ ap (λ k. (get_or v (k - 1) d).after) count))
       ∙ sym (cond-true (is_marker options b) _ None h)
 
@@ -212,8 +212,8 @@ module _ (p : ℕ → Bool) (marks : List Mark) (options : ParseOptions) where
       let plain : content_codes rest ≡ b ∷ content_codes bs = cond-false (eqb b 13) _ _ (ne_eqb b 13 (marker_at options b 13 h refl)) in
       let whole : content_codes text ≡ front ++ content_codes rest =
       ap content_codes (text_is text rest r) ∙ codes_append zs b bs (marker_at options b 10 h refl) in
-      run_of_codes (widths front) (kind_between p marks 0 (kind_at marks 0) front (content_codes rest)) b bs size before after h sized is_before is_after
-      ∙ ap (λ cs. run_at options (view_from p marks (widths front) (kind_between p marks 0 (kind_at marks 0) front (content_codes rest)) cs)) (sym plain)
+      run_of_codes (widths front) (previous_from None front) (kind_between p marks 0 (kind_at marks 0) front (content_codes rest)) b bs size before after h sized is_before is_after
+      ∙ ap (λ cs. run_at options (view_from p marks (widths front) (previous_from None front) (kind_between p marks 0 (kind_at marks 0) front (content_codes rest)) cs)) (sym plain)
       ∙ ap (run_at options) (sym (view_is p marks text rest front whole))
 
 -- a text may be cut after a run

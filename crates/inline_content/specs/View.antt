@@ -1,5 +1,5 @@
 -- The codes that a content stands for, and what stands beside them (CommonMark 6.2).
-use Rattle.std.specs.Prelude.{ℕ, ◌+◌, ◌-◌, Bool, if◌then◌else◌, ◌==◌, List, [], ◌∷◌, ◌++◌, drop, take, length}
+use Rattle.std.specs.Prelude.{Option, None, Some, ℕ, ◌+◌, ◌-◌, Bool, if◌then◌else◌, ◌==◌, List, [], ◌∷◌, ◌++◌, drop, take, length}
 use Rattle.definition_text.specs.declared.beside.Kind.{Kind}
 use Rattle.definition_text.specs.declared.beside.Kind.TheVariants.{Whitespace}
 use Rattle.definition_text.specs.BlockLines.{own_lines}
@@ -28,16 +28,20 @@ abbrev pub kind_before : (ℕ → Bool) → List Mark → ℕ → Kind → ℕ �
 kind_before is_punctuation marks place before c left =
     if is_eol c then kind_at marks place else next_kind is_punctuation before (c ∷ left)
 
--- codes from a place on, with the kinds of their neighbours: after an ending a line starts, before which its mark tells the kind
-abbrev pub view_from : (ℕ → Bool) → List Mark → ℕ → Kind → List ℕ → List InlineCode
-view_from is_punctuation marks place before [] = []
-view_from is_punctuation marks place before (c ∷ cs) =
-    inline_code c before (kind_after is_punctuation c (line_left cs))
-    ∷ view_from is_punctuation marks (place + width c) (kind_before is_punctuation marks (place + width c) before c (line_left cs)) cs
+-- the code before a place in its line, after this code
+abbrev pub previous_after : ℕ → Option ℕ
+previous_after c = if is_eol c then None else Some c
 
--- the codes of a text with the kinds of their neighbours, by these marks
+-- codes from a place on, with their neighbours: after an ending a line starts, before which its mark tells the kind
+abbrev pub view_from : (ℕ → Bool) → List Mark → ℕ → Option ℕ → Kind → List ℕ → List InlineCode
+view_from is_punctuation marks place previous before [] = []
+view_from is_punctuation marks place previous before (c ∷ cs) =
+    inline_code c previous before (kind_after is_punctuation c (line_left cs))
+    ∷ view_from is_punctuation marks (place + width c) (previous_after c) (kind_before is_punctuation marks (place + width c) before c (line_left cs)) cs
+
+-- the codes of a text with their neighbours, by these marks
 abbrev pub marked : (ℕ → Bool) → List Mark → List ℕ → List InlineCode
-marked is_punctuation marks text = view_from is_punctuation marks 0 (kind_at marks 0) (content_codes text)
+marked is_punctuation marks text = view_from is_punctuation marks 0 None (kind_at marks 0) (content_codes text)
 
 -- the codes that a content stands for
 abbrev pub content_view : (ℕ → Bool) → Content → List InlineCode
@@ -47,6 +51,11 @@ content_view is_punctuation content = marked is_punctuation content.marks.now co
 abbrev pub view_at : (ℕ → Bool) → Content → List ℕ → List InlineCode
 view_at is_punctuation content rest =
     drop (length (content_codes content.text.now) - length (content_codes rest)) (content_view is_punctuation content)
+
+-- the code before a place in its line, given that before the codes before it, from this one on
+abbrev pub previous_from : Option ℕ → List ℕ → Option ℕ
+previous_from previous [] = previous
+previous_from previous (c ∷ front) = previous_from (previous_after c) front
 
 -- the kind of the character between codes that a content begins with and those after them
 abbrev pub kind_between : (ℕ → Bool) → List Mark → ℕ → Kind → List ℕ → List ℕ → Kind

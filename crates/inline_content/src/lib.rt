@@ -4,9 +4,11 @@
 pub mod buffer;
 pub mod content;
 pub mod mark;
+pub mod previous;
 pub mod run;
 pub mod whole;
 
 pub use buffer::ContentBuffer;
 pub use content::Content;
+pub use run::first_kind;
 pub use whole::whole_content;

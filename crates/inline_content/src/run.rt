@@ -87,7 +87,7 @@ fn last_character(text: &str) -> Option<char>
 }
 
 /// The kind of the character that a rest of a content begins with.
-pub(crate) fn first_kind<T: Tables>(tables: &T, rest: &str) -> Kind
+pub fn first_kind<T: Tables>(tables: &T, rest: &str) -> Kind
     ensures { result ≡ first_kind (T.punctuation_of tables.now) Whitespace (line_left (content_codes rest.now)) }
 {
     match rest.chars().next() {

@@ -17,8 +17,16 @@ use Rattle.definition_inline.specs.Inline.{Inline}
 use Rattle.inline_links.specs.Codes.{IsCut}
 use Rattle.inline_leaves.specs.declared.leaf.Leaf.{Leaf}
 use Rattle.inline_leaves.specs.declared.line_ending.Ending.{Ending}
+use Rattle.inline_leaves.specs.declared.leaf.LiteralKind.{LiteralKind}
+use Rattle.inline_leaves.specs.declared.leaf.LiteralKind.TheVariants.{Www, Protocol, Email}
 use Rattle.inline_leaves.specs.declared.leaf.LeafPart.{LeafPart}
-use Rattle.inline_leaves.specs.declared.leaf.LeafPart.TheVariants.{Escape, Character, Number, Code, Math, Unclosed, Autolink, Html, EscapedBreak, TrailingBreak, LineEnd, Spaces}
+use Rattle.inline_leaves.specs.declared.leaf.LeafPart.TheVariants.{Escape, Character, Number, Code, Math, Unclosed, Autolink, Literal, Html, EscapedBreak, TrailingBreak, LineEnd, Spaces}
+
+-- what a literal leads to
+abbrev pub kind_view : LiteralKind → inline.LiteralKind
+kind_view Www = inline.Www
+kind_view Protocol = inline.Protocol
+kind_view Email = inline.Email
 
 -- the parts that a construct makes
 abbrev pub parts_of : LeafPart → List Inline
@@ -29,6 +37,7 @@ parts_of (Code text) = inline.Code (code_text (content_codes text.now)) ∷ []
 parts_of (Math text) = inline.Math (code_text (content_codes text.now)) ∷ []
 parts_of (Unclosed text) = map inline.Data text.now
 parts_of (Autolink email text) = inline.Autolink email text.now ∷ []
+parts_of (Literal kind text) = inline.Literal (kind_view kind) text.now ∷ []
 parts_of (Html text) = inline.Html (content_codes text.now) ∷ []
 parts_of EscapedBreak = inline.EscapedBreak ∷ []
 parts_of TrailingBreak = inline.TrailingBreak ∷ []

@@ -1,6 +1,17 @@
 //! What a content begins with.
 use markdown_options::LineEnding;
 
+/// What a literal leads to (GFM 6.9).
+#[derive(Clone, Copy, Debug, PartialEq, Eq)]
+pub enum LiteralKind {
+    /// `http://` and its text, which begins with `www.`.
+    Www,
+    /// Its text, which begins with a protocol.
+    Protocol,
+    /// `mailto:` and its text, an email address.
+    Email,
+}
+
 /// A construct that holds no other, with what of the content it prints.
 #[derive(Clone, Copy, Debug, PartialEq, Eq)]
 pub enum LeafPart<'a> {
@@ -26,6 +37,13 @@ pub enum LeafPart<'a> {
         /// Whether it is an email address.
         email: bool,
         /// The URI or the address.
+        text: &'a str,
+    },
+    /// A link with no brackets (GFM 6.9).
+    Literal {
+        /// What it leads to.
+        kind: LiteralKind,
+        /// Its text.
         text: &'a str,
     },
     /// Raw HTML (CommonMark 6.6).

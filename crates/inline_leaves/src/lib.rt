@@ -21,4 +21,4 @@ pub mod searches;
 pub mod space;
 
 pub use gfm_task_list_item::Check;
-pub use leaf::{Leaf, LeafPart};
+pub use leaf::{Leaf, LeafPart, LiteralKind};

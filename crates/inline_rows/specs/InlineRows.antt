@@ -1,6 +1,6 @@
 -- The rows of inline structure: what the inline parser hands to the printer.
 use Rattle.std.specs.Prelude.{List, [], ◌∷◌, ◌++◌}
-use Rattle.definition_inline.specs.Inline.{Target, Linked, Inline, Data, Escape, Character, Code, Math, Autolink, Html, EscapedBreak, TrailingBreak, LineEnd, Emphasis, Strong, Strikethrough, Link, Image, Inlines, Nil, Cons}
+use Rattle.definition_inline.specs.Inline.{Target, Linked, Inline, Data, Escape, Character, Code, Math, Autolink, Literal, Html, EscapedBreak, TrailingBreak, LineEnd, Emphasis, Strong, Strikethrough, Link, Image, Inlines, Nil, Cons}
 use Rattle.definition_inline.specs.Spans.{Span, IsEmphasis, IsStrong, IsStrikethrough}
 
 -- a part that holds no other; the start of a span, of a link and of an image; the end of the innermost one
@@ -21,6 +21,7 @@ module _ (leads : Target → Linked) where
     part_rows (Code bytes) = Part (Code bytes) ∷ []
     part_rows (Math bytes) = Part (Math bytes) ∷ []
     part_rows (Autolink is_email bytes) = Part (Autolink is_email bytes) ∷ []
+    part_rows (Literal kind bytes) = Part (Literal kind bytes) ∷ []
     part_rows (Html text) = Part (Html text) ∷ []
     part_rows EscapedBreak = Part EscapedBreak ∷ []
     part_rows TrailingBreak = Part TrailingBreak ∷ []

@@ -43,6 +43,7 @@ leaf_rows leads at (leaf.Code text) = refl
 leaf_rows leads at (leaf.Math text) = refl
 leaf_rows leads at (leaf.Unclosed text) = append-nil (map rows.Part (map Data text.now)) ∙ bytes_are leads text.now
 leaf_rows leads at (leaf.Autolink email text) = refl
+leaf_rows leads at (leaf.Literal kind text) = refl
 leaf_rows leads at (leaf.Html text) = refl
 leaf_rows leads at leaf.EscapedBreak = refl
 leaf_rows leads at leaf.TrailingBreak = refl

@@ -3,12 +3,12 @@ use Rattle.std.specs.Prelude.{List, map}
 use Rattle.std.specs.Option.{option_map}
 use Rattle.markdown_options.specs.declared.line_ending.LineEnding.{LineEnding}
 use Rattle.definition_text.specs.InlineCode.{InlineCode, inline_code}
-use Rattle.definition_inline.specs.Inline.{Target, Resource, Reference, Inline, Data, Escape, Character, Code, Math, Autolink, Html, EscapedBreak, TrailingBreak, LineEnd, Emphasis, Strong, Strikethrough, Link, Image, Inlines, Nil, Cons}
+use Rattle.definition_inline.specs.Inline.{Target, Resource, Reference, Inline, Data, Escape, Character, Code, Math, Autolink, Literal, Html, EscapedBreak, TrailingBreak, LineEnd, Emphasis, Strong, Strikethrough, Link, Image, Inlines, Nil, Cons}
 use Rattle.laws_endings.specs.Endings.{code_with, codes_with}
 
 -- a code of a content, between the same kinds
 abbrev pub inline_code_with : LineEnding → InlineCode → InlineCode
-inline_code_with e c = inline_code (code_with e c.code) c.before c.after
+inline_code_with e c = inline_code (code_with e c.code) (option_map (code_with e) c.previous) c.before c.after
 
 abbrev pub content_with : LineEnding → List InlineCode → List InlineCode
 content_with e content = map (inline_code_with e) content
@@ -27,6 +27,7 @@ abbrev mutual
   inline_with e (Code text) = Code text
   inline_with e (Math text) = Math text
   inline_with e (Autolink is_email text) = Autolink is_email (codes_with e text)
+  inline_with e (Literal kind text) = Literal kind (codes_with e text)
   inline_with e (Html html) = Html (codes_with e html)
   inline_with e EscapedBreak = EscapedBreak
   inline_with e TrailingBreak = TrailingBreak

@@ -9,7 +9,7 @@ use Rattle.definition_text.specs.Bytes.{begins_with}
 use Rattle.definition_text.specs.Content.{Part, before, up_to}
 use Rattle.definition_text.specs.Runs.{run, after_run}
 use Rattle.definition_text.specs.InlineCode.{InlineCode, codes_of}
-use Rattle.definition_inline.specs.Inline.{Target, Inline, Data, Escape, Character, Code, Math, Autolink, Html, EscapedBreak, TrailingBreak, LineEnd, Emphasis, Strong, Strikethrough, Link, Image, Inlines, Nil, Cons, followed_by, Leaf, leaf, or_else}
+use Rattle.definition_inline.specs.Inline.{Target, Inline, Data, Escape, Character, Code, Math, Autolink, Literal, Html, EscapedBreak, TrailingBreak, LineEnd, Emphasis, Strong, Strikethrough, Link, Image, Inlines, Nil, Cons, followed_by, Leaf, leaf, or_else}
 use Rattle.definition_inline.specs.CharacterEscape.{escape_at}
 use Rattle.definition_inline.specs.CharacterReference.{CharacterReference, reference_form, reference_text, reference_leaf, reference_of, reference_at}
 use Rattle.definition_inline.specs.CodeText.{run_of, raw_leaf, code_text_at}
@@ -38,6 +38,7 @@ abbrev mutual
   PartMayStand on (Code bytes) = on.code_text ≡ true
   PartMayStand on (Math bytes) = on.math_text ≡ true
   PartMayStand on (Autolink is_email bytes) = on.autolink ≡ true
+  PartMayStand on (Literal kind bytes) = on.gfm_autolink_literal ≡ true
   PartMayStand on (Html text) = on.html_text ≡ true
   PartMayStand on EscapedBreak = on.hard_break_escape ≡ true
   PartMayStand on TrailingBreak = on.hard_break_trailing ≡ true
@@ -394,6 +395,7 @@ module _ (on : Constructs) (test : Inline → Bool) (fails : (i : Inline) → Pa
     part_never (Code bytes) h = fails (Code bytes) h
     part_never (Math bytes) h = fails (Math bytes) h
     part_never (Autolink is_email bytes) h = fails (Autolink is_email bytes) h
+    part_never (Literal kind bytes) h = fails (Literal kind bytes) h
     part_never (Html text) h = fails (Html text) h
     part_never EscapedBreak h = fails EscapedBreak h
     part_never TrailingBreak h = fails TrailingBreak h

@@ -6,10 +6,10 @@ use Rattle.markdown_options.specs.declared.configuration.CompileOptions.{Compile
 use Rattle.definition_text.specs.BlockLines.{BlockLine}
 use Rattle.definition_text.specs.Columns.{bytes_of, bare}
 use Rattle.definition_text.specs.Lines.{ending_text}
-use Rattle.definition_inline.specs.Inline.{Linked, Inline, Autolink, Html, Emphasis, Strong, Strikethrough, Link, Image, Inlines, Nil, Cons}
+use Rattle.definition_inline.specs.Inline.{Linked, Inline, Autolink, Literal, Html, Emphasis, Strong, Strikethrough, Link, Image, Inlines, Nil, Cons}
 use Rattle.definition_page.specs.Tags.{Said, Words, EndOfLine, Attribute, attribute, tag, bare_tag}
 use Rattle.definition_page.specs.Pieces.{Void, Says, Eol, Fresh}
-use Rattle.definition_page.specs.InlinePieces.{Meaning, link_url, image_url, url_of, title_attribute, address, raw_html, HtmlLine, html_lines, html_line_says, later_line_says, html_lines_say, leads_to, link_tag, image_tag, part_says, description, element, part_pieces, inline_pieces}
+use Rattle.definition_page.specs.InlinePieces.{Meaning, link_url, image_url, url_of, title_attribute, address, literal_address, raw_html, HtmlLine, html_lines, html_line_says, later_line_says, html_lines_say, leads_to, link_tag, image_tag, part_says, description, element, part_pieces, inline_pieces}
 use Rattle.definition_page.specs.Page as page
 use Rattle.definition_page.specs.Page.{Page}
 use Rattle.definition_page.specs.BlockPieces.{checkable_attributes, done_attributes, check_pieces, Place, at_top, inside, html_line, says, heading_name, list_tag, last_shown, ends_plainly, fresh_unless, block_pieces, children_pieces, document_pieces}
@@ -72,6 +72,8 @@ module _ (m : Meaning) (compile : CompileOptions) (alike : Alike compile m.compi
     same_part : (i : Inline) → part_pieces other i ≡ part_pieces m i
     same_part (Autolink is_email text) =
         ap (λ url. element (tag (codes "a") (attribute (codes "href") url ∷ [])) (Says (Words text) ∷ [])) (alike.link (address is_email text))
+    same_part (Literal kind text) =
+        ap (λ url. element (tag (codes "a") (attribute (codes "href") url ∷ [])) (Says (Words text) ∷ [])) (alike.link (literal_address kind text))
     same_part (Html html) = ap (map Says) (same_lines (html_lines html))
     same_part (Emphasis kids) = ap (element (bare_tag (codes "em"))) (same_inlines kids)
     same_part (Strong kids) = ap (element (bare_tag (codes "strong"))) (same_inlines kids)

@@ -5,11 +5,11 @@ use Rattle.std.proofs.lemmas.Bool.{cond_both}
 use Rattle.markdown_options.specs.declared.configuration.CompileOptions.{CompileOptions}
 use Rattle.definition_text.specs.Columns.{bytes_of, bare}
 use Rattle.definition_text.specs.Content.{is_eol}
-use Rattle.definition_inline.specs.Inline.{Inline, Data, Escape, Character, Code, Math, Autolink, Html, EscapedBreak, TrailingBreak, LineEnd, Emphasis, Strong, Strikethrough, Link, Image, Inlines, Nil, Cons}
+use Rattle.definition_inline.specs.Inline.{Inline, Data, Escape, Character, Code, Math, Autolink, Literal, Html, EscapedBreak, TrailingBreak, LineEnd, Emphasis, Strong, Strikethrough, Link, Image, Inlines, Nil, Cons}
 use Rattle.definition_page.specs.GfmTagfilter.{filtered}
 use Rattle.definition_page.specs.Tags.{Words, AsItIs, EndOfLine, attribute, tag, bare_tag}
 use Rattle.definition_page.specs.Pieces.{Says}
-use Rattle.definition_page.specs.InlinePieces.{Meaning, raw_html, HtmlLine, html_text_line, in_first_line, html_lines, html_line_says, later_line_says, html_lines_say, html_says, leads_to, url_of, link_url, link_tag, image_tag, math_tag, address, part_says, description, part_pieces, inline_pieces}
+use Rattle.definition_page.specs.InlinePieces.{Meaning, raw_html, HtmlLine, html_text_line, in_first_line, html_lines, html_line_says, later_line_says, html_lines_say, html_says, leads_to, url_of, link_url, link_tag, image_tag, math_tag, address, literal_address, part_says, description, part_pieces, inline_pieces}
 use Rattle.html_safe_page.specs.Table.{start_rows, void_rows}
 use Rattle.laws_safe_page.specs.SafeHtml.{AreSafe}
 use Rattle.laws_safe_page.proofs.Values.{IsTextPart, AreTextParts}
@@ -83,6 +83,7 @@ module _ (options : CompileOptions) (safe : AreSafe options) where
     part_is_text (Code text) h = (tt, tt)
     part_is_text (Math text) h = (tt, tt)
     part_is_text (Autolink is_email text) h = (tt, tt)
+    part_is_text (Literal kind text) h = (tt, tt)
     part_is_text (Html html) h = tags_are_text html
     part_is_text EscapedBreak h = tt
     part_is_text TrailingBreak h = tt
@@ -117,6 +118,9 @@ module _ (default : List ℕ) (m : Meaning) (safe : AreSafe m.compile) where
     part_adds (Autolink is_email text) h =
         adds_element default (tag (codes "a") (attribute (codes "href") (link_url m.compile (address is_email text)) ∷ [])) (Says (Words text) ∷ [])
         (link_is_tag m safe (address is_email text) None) (adds_says default (Words text) tt)
+    part_adds (Literal kind text) h =
+        adds_element default (tag (codes "a") (attribute (codes "href") (link_url m.compile (literal_address kind text)) ∷ [])) (Says (Words text) ∷ [])
+        (link_is_tag m safe (literal_address kind text) None) (adds_says default (Words text) tt)
     part_adds (Html html) h = adds_parts default (html_says m.compile html) (tags_are_text m.compile safe html)
     part_adds EscapedBreak h = adds_void default (bare_tag (codes "br")) (tt, refl)
     part_adds TrailingBreak h = adds_void default (bare_tag (codes "br")) (tt, refl)

@@ -361,9 +361,9 @@ module _ (meaning : InlineMeaning) where
 
 -- ---- the codes of lines
 
-kinds_codes : (is_punctuation : ℕ → Bool) (before after : Kind) (cs : List ℕ) → codes_of (with_kinds is_punctuation before after cs) ≡ cs
-kinds_codes is_punctuation before after [] = refl
-kinds_codes is_punctuation before after (c ∷ cs) = ap (λ x. c ∷ x) (kinds_codes is_punctuation (next_kind is_punctuation before (c ∷ cs)) after cs)
+kinds_codes : (is_punctuation : ℕ → Bool) (previous : Option ℕ) (before after : Kind) (cs : List ℕ) → codes_of (with_kinds is_punctuation previous before after cs) ≡ cs
+kinds_codes is_punctuation previous before after [] = refl
+kinds_codes is_punctuation previous before after (c ∷ cs) = ap (λ x. c ∷ x) (kinds_codes is_punctuation (Some c) (next_kind is_punctuation before (c ∷ cs)) after cs)
 
 same_bytes : (bs : List ℕ) → AreInLine bs → map code_byte bs ≡ bs
 same_bytes [] line = refl
@@ -388,7 +388,7 @@ content_codes is_punctuation after [] h = refl
 content_codes is_punctuation after (line ∷ others) h =
     map-append (λ (c : InlineCode). c.code) (line_content is_punctuation after line) (inline_content is_punctuation after others)
     ∙ ap (λ x. x ++ codes_of (inline_content is_punctuation after others))
-    (kinds_codes is_punctuation line.before after (map code_byte (line_codes line)) ∙ same_codes line (first_line line others h))
+    (kinds_codes is_punctuation None line.before after (map code_byte (line_codes line)) ∙ same_codes line (first_line line others h))
     ∙ ap (λ x. line_codes line ++ x) (content_codes is_punctuation after others (other_lines line others h))
 
 -- ---- the text

@@ -1,0 +1,60 @@
+-- What is found of literals, in bytes.
+use Rattle.std.specs.Prelude.{◌≡◌, ◌+◌, ◌-◌, ◌<◌, ℕ, zero, suc, Bool, false, not, ◌&&◌, ◌||◌, ◌==◌, if◌then◌else◌, List, [], ◌∷◌, Option, None, Some, codes, length, slice_index, take}
+use Rattle.std.specs.Str.{IsCharBoundary}
+use Rattle.definition_text.specs.declared.beside.Kind.TheVariants.{Whitespace}
+use Rattle.definition_text.specs.Content.{content_codes}
+use Rattle.definition_text.specs.InlineCode.{first_kind, is_continuation}
+use Rattle.definition_inline.specs.Attention.{is_other}
+use Rattle.definition_inline.specs.GfmAutolinkLiteral as literal
+use Rattle.definition_inline.specs.GfmAutolinkLiteral.{has_low_line, is_among, is_control, literal_name, literal_start}
+use Rattle.inline_content.specs.View.{line_left}
+use Rattle.inline_leaves.specs.Leaves.{kind_view, IsPlain}
+use Rattle.inline_literals.specs.declared.gfm_autolink_literal.LiteralStart.{LiteralStart}
+
+-- what begins a literal
+abbrev pub start_view : LiteralStart → literal.LiteralStart
+start_view start = literal_start (kind_view start.kind) start.size
+
+-- a byte comes first that a literal may begin with
+abbrev pub may_begin : List ℕ → Bool
+may_begin [] = false
+may_begin (b ∷ bs) = (b == 72) || ((b == 87) || ((b == 104) || (b == 119)))
+
+-- bytes that a literal begins with: none of them is CR, and the last is ASCII and no LF
+pub record StartsLiteral (bytes : List ℕ) (size : ℕ) : Type 0 where
+  pub some : 0 < size
+  pub plain : IsPlain bytes size
+  pub ascii : slice_index bytes (size - 1) < 128
+  pub inside : slice_index bytes (size - 1) ≡ 10 → ⊥
+
+module _ (p : ℕ → Bool) where
+  -- a character comes first that is neither whitespace nor punctuation
+  abbrev pub begins_other : List ℕ → Bool
+  begins_other bytes = is_other (first_kind p Whitespace (line_left (content_codes bytes)))
+
+  -- bytes after the start of a literal begin as they have to
+  abbrev pub begins_name : List ℕ → Bool
+  begins_name [] = false
+  begins_name (b ∷ bs) = begins_other (b ∷ bs) && not (is_control b)
+
+  -- a byte belongs to a domain, with those after it
+  abbrev pub begins_domain : ℕ → List ℕ → Bool
+  begins_domain b bs = is_continuation b || (begins_other (b ∷ bs) || is_among (codes "-._") b)
+
+  -- how many bytes the domain has among the first ones, so many
+  abbrev pub domain_size : ℕ → List ℕ → ℕ
+  domain_size zero bytes = 0
+  domain_size (suc n) [] = 0
+  domain_size (suc n) (b ∷ bs) = if begins_domain b bs then 1 + domain_size n bs else 0
+
+  -- how many bytes the name after the start of a literal has, where it may stand there
+  abbrev pub size_after : List ℕ → Option ℕ
+  size_after after =
+      let size = length (literal_name (content_codes after)) in
+      if begins_name after && not (has_low_line (take (domain_size size after) after)) then Some size else None
+
+-- a place after a name
+pub record IsNameEnd (after : List ℕ) (size : ℕ) : Type 0 where
+  pub name : take size after ≡ literal_name (content_codes after)
+  pub plain : IsPlain after size
+  pub boundary : IsCharBoundary after size

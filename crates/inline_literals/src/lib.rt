@@ -1,0 +1,9 @@
+//! Links with no brackets (GFM 6.9).
+#![tactic(auto)]
+
+pub mod address;
+pub mod gfm_autolink_literal;
+mod name;
+
+pub use address::{FoundAddress, first_address};
+pub use gfm_autolink_literal::literal_at;
