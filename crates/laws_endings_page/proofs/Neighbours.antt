@@ -1,5 +1,6 @@
 -- What stands beside the codes of a line with another ending: the same wherever a run may stand.
 use Rattle.std.proofs.Common.{◌≡◌, ℕ, zero, suc, ◌+◌, ◌-◌, ◌*◌, ◌<◌, Bool, true, false, cond, eqb, ltb, ◌||◌, ◌&&◌, List, [], ◌∷◌, Option, None, Some, ⊎_elim, refl, sym, ap, ◌∙◌, arith, map, drop, slice_index, slice_index_or}
+use Rattle.std.specs.Option.{option_map}
 use Rattle.std.specs.List.{prefix_len}
 use Rattle.std.proofs.Math.ListN.{get_or-map}
 use Rattle.std.proofs.lemmas.Bool.{cond-true, cond-false, both_ways, false_from_ne_true, eqb-true, eq-eqb, and_parts, or_cases, or_left, or_right, cases_Bool}
@@ -30,7 +31,7 @@ no_feed test c h k = false_from_ne_true (eqb c 10) (λ is. both_ways (test c) (a
 
 -- a code that no run has, between no kinds
 abbrev flattened : InlineCode → InlineCode
-flattened c = inline_code c.code Whitespace Whitespace
+flattened c = inline_code c.code c.previous Whitespace Whitespace
 
 abbrev flat_unless : Bool → InlineCode → InlineCode
 flat_unless marks c = cond marks c (flattened c)
@@ -205,33 +206,39 @@ module _ (e : LineEnding) where
         ∙ kind_before k c cs w (is_continuation c) refl
 
     -- a code, whether runs have it or not
-    one-with : (k after : Kind) (c : ℕ) (cs : List ℕ) → AreWhole cs → (marks : Bool) → (marks ≡ true → continues_one cs ≡ false)
-        → flat_unless marks (inline_code (code_with e c) k (first_kind p after (codes_with e cs)))
-        ≡ inline_code_with e (flat_unless marks (inline_code c k (first_kind p after cs)))
-    one-with k after c cs w true h = ap (inline_code (code_with e c) k) (kind_ahead after cs (h refl) w)
-    one-with k after c cs w false h = refl
+    one-with : (q : Option ℕ) (k after : Kind) (c : ℕ) (cs : List ℕ) → AreWhole cs → (marks : Bool) → (marks ≡ true → continues_one cs ≡ false)
+        → flat_unless marks (inline_code (code_with e c) (option_map (code_with e) q) k (first_kind p after (codes_with e cs)))
+        ≡ inline_code_with e (flat_unless marks (inline_code c q k (first_kind p after cs)))
+    one-with q k after c cs w true h = ap (inline_code (code_with e c) (option_map (code_with e) q) k) (kind_ahead after cs (h refl) w)
+    one-with q k after c cs w false h = refl
 
-    pub kinds-with : (k after : Kind) (cs : List ℕ) → AreWhole cs
-        → tamed (with_kinds p k after (codes_with e cs)) ≡ content_with e (tamed (with_kinds p k after cs))
-    kinds-with k after [] w = refl
-    kinds-with k after (c ∷ cs) w =
-        let others : Kind → List InlineCode = λ before. tamed (with_kinds p before after (codes_with e cs)) in
-        let first = inline_code (code_with e c) k (first_kind p after (codes_with e cs)) in
+    pub kinds-with : (q : Option ℕ) (k after : Kind) (cs : List ℕ) → AreWhole cs
+        → tamed (with_kinds p (option_map (code_with e) q) k after (codes_with e cs)) ≡ content_with e (tamed (with_kinds p q k after cs))
+    kinds-with q k after [] w = refl
+    kinds-with q k after (c ∷ cs) w =
+        let others : Kind → List InlineCode = λ before. tamed (with_kinds p (Some (code_with e c)) before after (codes_with e cs)) in
+        let first = inline_code (code_with e c) (option_map (code_with e) q) k (first_kind p after (codes_with e cs)) in
         ap (λ marks. flat_unless marks first ∷ others (next_kind p k (codes_with e (c ∷ cs)))) (same_code e may_mark c refl refl)
-        ∙ ap (λ x. x ∷ others (next_kind p k (codes_with e (c ∷ cs)))) (one-with k after c cs w.1 (may_mark c) w.0.1)
-        ∙ ap (λ before. inline_code_with e (tame (inline_code c k (first_kind p after cs))) ∷ others before) (next_kind-with k c cs w.0)
-        ∙ ap (λ more. inline_code_with e (tame (inline_code c k (first_kind p after cs))) ∷ more) (kinds-with (next_kind p k (c ∷ cs)) after cs w.1)
+        ∙ ap (λ x. x ∷ others (next_kind p k (codes_with e (c ∷ cs)))) (one-with q k after c cs w.1 (may_mark c) w.0.1)
+        ∙ ap (λ before. inline_code_with e (tame (inline_code c q k (first_kind p after cs))) ∷ others before) (next_kind-with k c cs w.0)
+        ∙ ap (λ more. inline_code_with e (tame (inline_code c q k (first_kind p after cs))) ∷ more)
+        (kinds-with (Some c) (next_kind p k (c ∷ cs)) after cs w.1)
 
     -- codes without LF stay as they are
-    kept_by : (c : InlineCode) (marks : Bool) → eqb c.code 10 ≡ false → flat_unless marks c ≡ inline_code_with e (flat_unless marks c)
-    kept_by c true h = ap (λ code. inline_code code c.before c.after) (sym (same_byte e c.code h))
-    kept_by c false h = ap (λ code. inline_code code Whitespace Whitespace) (sym (same_byte e c.code h))
+    kept_by : (c : InlineCode) (marks : Bool) → eqb c.code 10 ≡ false → option_map (code_with e) c.previous ≡ c.previous
+        → flat_unless marks c ≡ inline_code_with e (flat_unless marks c)
+    kept_by c true h q =
+        ap (λ code. inline_code code c.previous c.before c.after) (sym (same_byte e c.code h))
+        ∙ ap (λ previous. inline_code (code_with e c.code) previous c.before c.after) (sym q)
+    kept_by c false h q =
+        ap (λ code. inline_code code c.previous Whitespace Whitespace) (sym (same_byte e c.code h))
+        ∙ ap (λ previous. inline_code (code_with e c.code) previous Whitespace Whitespace) (sym q)
 
-    pub kinds-kept : (k after : Kind) (cs : List ℕ) → Each (λ c. eqb c 10 ≡ false) cs
-        → tamed (with_kinds p k after cs) ≡ content_with e (tamed (with_kinds p k after cs))
-    kinds-kept k after [] h = refl
-    kinds-kept k after (c ∷ cs) h =
-        let first = inline_code c k (first_kind p after cs) in
+    pub kinds-kept : (q : Option ℕ) (k after : Kind) (cs : List ℕ) → option_map (code_with e) q ≡ q → Each (λ c. eqb c 10 ≡ false) cs
+        → tamed (with_kinds p q k after cs) ≡ content_with e (tamed (with_kinds p q k after cs))
+    kinds-kept q k after [] same h = refl
+    kinds-kept q k after (c ∷ cs) same h =
+        let first = inline_code c q k (first_kind p after cs) in
         let next = next_kind p k (c ∷ cs) in
-        ap (λ x. x ∷ tamed (with_kinds p next after cs)) (kept_by first (may_mark c) h.0)
-        ∙ ap (λ more. inline_code_with e (tame first) ∷ more) (kinds-kept next after cs h.1)
+        ap (λ x. x ∷ tamed (with_kinds p (Some c) next after cs)) (kept_by first (may_mark c) h.0 same)
+        ∙ ap (λ more. inline_code_with e (tame first) ∷ more) (kinds-kept (Some c) next after cs (ap Some (same_byte e c h.0)) h.1)

@@ -278,7 +278,7 @@ module _ (e : LineEnding) where
   module _ (p : ℕ → Bool) where
     -- the content of a line with this ending
     abbrev content_here : Kind → List ℕ → List InlineCode
-    content_here before cs = tamed (with_kinds p before Whitespace cs)
+    content_here before cs = tamed (with_kinds p None before Whitespace cs)
 
     codes_content : (before : Kind) (cs : List ℕ) (ending : Option LineEnding) → Each Plain cs → IsFed ending
         → (WholeBefore ending cs)
@@ -287,9 +287,9 @@ module _ (e : LineEnding) where
         let all = map code_byte (cs ++ []) in
         let clear : Each IsNoFeed all =
         plains_no_feed all (each_map Plain Plain code_byte (cs ++ []) space_plain (each-append Plain cs [] h tt)) in
-        ap (content_here before) (codes-kept e all clear) ∙ kinds-kept e p before Whitespace all clear
+        ap (content_here before) (codes-kept e all clear) ∙ kinds-kept e p None before Whitespace all refl clear
     codes_content before cs (Some LineFeed) h f w =
-        kinds-with e p before Whitespace (map code_byte (cs ++ 10 ∷ []))
+        kinds-with e p None before Whitespace (map code_byte (cs ++ 10 ∷ []))
         (subst AreWhole (sym (map-append code_byte cs (10 ∷ []))) (whole_longer (map code_byte cs) w))
     codes_content before cs (Some CarriageReturn) h f w = absurd (true≢false f)
     codes_content before cs (Some CarriageReturnLineFeed) h f w = absurd (true≢false f)
@@ -321,9 +321,9 @@ module _ (e : LineEnding) where
         content-append xs ys = map-append _ xs ys
 
     -- its codes
-    kinds_codes : (before after : Kind) (cs : List ℕ) → codes_of (with_kinds p before after cs) ≡ cs
-    kinds_codes before after [] = refl
-    kinds_codes before after (c ∷ cs) = ap (λ more. c ∷ more) (kinds_codes (next_kind p before (c ∷ cs)) after cs)
+    kinds_codes : (previous : Option ℕ) (before after : Kind) (cs : List ℕ) → codes_of (with_kinds p previous before after cs) ≡ cs
+    kinds_codes previous before after [] = refl
+    kinds_codes previous before after (c ∷ cs) = ap (λ more. c ∷ more) (kinds_codes (Some c) (next_kind p before (c ∷ cs)) after cs)
 
     content_fits : (ls : List BlockLine) → LinesFit ls → Each Single (codes_of (inline_content p Whitespace ls))
     content_fits [] h = tt
@@ -332,7 +332,7 @@ module _ (e : LineEnding) where
         let more = inline_content p Whitespace ls in
         subst (Each Single) (sym (map-append _ first more))
         (each-append Single (codes_of first) (codes_of more)
-        (subst (Each Single) (sym (kinds_codes line.before Whitespace (map code_byte (line_codes line))))
+        (subst (Each Single) (sym (kinds_codes None line.before Whitespace (map code_byte (line_codes line))))
         (each_map Single Single code_byte (line_codes line) space_single (line_singles line h.0)))
         (content_fits ls h.1))
 

@@ -8,12 +8,12 @@ use Rattle.markdown_options.specs.declared.line_ending.LineEnding.{LineEnding}
 use Rattle.markdown_options.specs.declared.line_ending.LineEnding.TheVariants.{CarriageReturnLineFeed, CarriageReturn, LineFeed}
 use Rattle.markdown_options.specs.LineEndings.{ending_bytes}
 use Rattle.definition_text.specs.Encode.{plain}
-use Rattle.definition_inline.specs.Inline.{Target, Resource, Reference, Linked, linked, Inline, Data, Escape, Character, Code, Math, Autolink, Html, EscapedBreak, TrailingBreak, LineEnd, Emphasis, Strong, Strikethrough, Link, Image, Inlines, Nil, Cons}
+use Rattle.definition_inline.specs.Inline.{Target, Resource, Reference, Linked, linked, LiteralKind, Inline, Data, Escape, Character, Code, Math, Autolink, Literal, Html, EscapedBreak, TrailingBreak, LineEnd, Emphasis, Strong, Strikethrough, Link, Image, Inlines, Nil, Cons}
 use Rattle.definition_inline.specs.Strings.{string_text}
 use Rattle.definition_page.specs.Urls.{percent, permitted, sanitized, href_protocols, src_protocols}
 use Rattle.definition_page.specs.Tags.{Said, Words, EndOfLine, said_bytes, Attribute, attribute, attribute_bytes, tag, tag_bytes, start_tag, end_tag, void_tag}
 use Rattle.definition_page.specs.Pieces.{Piece, Open, Close, Void, Says, Eol, Fresh, is_fresh, print}
-use Rattle.definition_page.specs.InlinePieces.{Meaning, permitted_url, link_url, image_url, leads_to, url_of, titled, title_attribute, link_tag, image_tag, address, math_tag, html_says, description, element, part_pieces, inline_pieces}
+use Rattle.definition_page.specs.InlinePieces.{Meaning, permitted_url, link_url, image_url, leads_to, url_of, titled, title_attribute, link_tag, image_tag, address, literal_address, math_tag, html_says, description, element, part_pieces, inline_pieces}
 use Rattle.laws_endings.specs.Endings.{with_ending, code_with, codes_with}
 use Rattle.laws_endings.specs.Inlines.{target_with, inline_with, inlines_with}
 use Rattle.laws_endings_page.proofs.Each.{Each, WhereSome}
@@ -290,6 +290,13 @@ module _ (e : LineEnding) where
         element-with (codes "a") (href ∷ []) (href ∷ []) (Says (Words text) ∷ []) (Says (Words text) ∷ []) refl
         (more_attributes href href [] [] (link_url-with (address is_email text)) refl) (text_piece text p)
 
+    literal_piece : (kind : LiteralKind) (text : List ℕ) → Each Plain text
+        → PiecesWith (part_pieces meaning_with (Literal kind text)) (part_pieces m (Literal kind text))
+    literal_piece kind text p =
+        let href = attribute (codes "href") (link_url m.compile (literal_address kind text)) in
+        element-with (codes "a") (href ∷ []) (href ∷ []) (Says (Words text) ∷ []) (Says (Words text) ∷ []) refl
+        (more_attributes href href [] [] (link_url-with (literal_address kind text)) refl) (text_piece text p)
+
     mutual
       part-with : (i : Inline) → IsFit i → PiecesWith (part_pieces meaning_with (inline_with e i)) (part_pieces m i)
       part-with (Data b) p = byte_piece b p
@@ -301,6 +308,9 @@ module _ (e : LineEnding) where
       part-with (Autolink is_email text) p =
           subst (λ t. PiecesWith (part_pieces meaning_with (Autolink is_email t)) (part_pieces m (Autolink is_email text)))
           (sym (codes-kept e text (plains_no_feed text p))) (autolink_piece is_email text p)
+      part-with (Literal kind text) p =
+          subst (λ t. PiecesWith (part_pieces meaning_with (Literal kind t)) (part_pieces m (Literal kind text)))
+          (sym (codes-kept e text (plains_no_feed text p))) (literal_piece kind text p)
       part-with (Html html) p = saids-with (html_says m.compile (codes_with e html)) (html_says m.compile html) (html_says-with e m.compile html p)
       part-with EscapedBreak p = void_piece-with (codes "br") [] [] refl refl
       part-with TrailingBreak p = void_piece-with (codes "br") [] [] refl refl

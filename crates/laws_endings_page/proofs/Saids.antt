@@ -10,7 +10,7 @@ use Rattle.markdown_options.specs.declared.configuration.CompileOptions.{Compile
 use Rattle.definition_text.specs.Columns.{is_white, indent, bare, is_byte, bytes_of}
 use Rattle.definition_text.specs.Content.{is_eol}
 use Rattle.definition_text.specs.Encode.{plain, encode}
-use Rattle.definition_inline.specs.Inline.{Inline, Data, Escape, Character, Code, Math, Autolink, Html, EscapedBreak, TrailingBreak, LineEnd, Emphasis, Strong, Strikethrough, Link, Image, Inlines, Nil, Cons, Leaf, leaf, or_else}
+use Rattle.definition_inline.specs.Inline.{Inline, Data, Escape, Character, Code, Math, Autolink, Literal, Html, EscapedBreak, TrailingBreak, LineEnd, Emphasis, Strong, Strikethrough, Link, Image, Inlines, Nil, Cons, Leaf, leaf, or_else}
 use Rattle.definition_inline.specs.CharacterEscape.{escape_at}
 use Rattle.definition_inline.specs.CharacterReference.{reference_at}
 use Rattle.definition_inline.specs.HardBreak.{line_end_at}
@@ -252,6 +252,7 @@ module _ (e : LineEnding) where
       part_says-with (Code text) p = text_says text p
       part_says-with (Math text) p = text_says text p
       part_says-with (Autolink is_email text) p = says_one (Words (codes_with e text)) (Words text) (words-codes text (plains_no_feed text p))
+      part_says-with (Literal kind text) p = says_one (Words (codes_with e text)) (Words text) (words-codes text (plains_no_feed text p))
       part_says-with (Html html) p = html_says-with html p
       part_says-with EscapedBreak p = refl
       part_says-with TrailingBreak p = refl
