@@ -1,8 +1,8 @@
 -- What each tool prints for a byte, given those after it.
-use Rattle.std.specs.Prelude.{ℕ, Bool, if◌then◌else◌, ◌==◌, ◌&&◌, List, [], ◌∷◌, codes}
+use Rattle.std.specs.Prelude.{ℕ, Bool, not, if◌then◌else◌, ◌==◌, ◌&&◌, List, [], ◌∷◌, codes}
 use Rattle.definition_text.specs.Encode.{encode, encoded_byte, plain, plain_byte, replacement_character}
 use Rattle.definition_page.specs.GfmTagfilter.{is_filtered, tags_filtered}
-use Rattle.definition_page.specs.Urls.{percent_byte}
+use Rattle.definition_page.specs.Urls.{is_url_byte, percent_byte}
 
 -- a byte of a text, whose four bytes of HTML are references or not
 abbrev pub text_byte : Bool → ℕ → List ℕ → List ℕ
@@ -26,3 +26,7 @@ raw_byte filters b after =
 -- a byte of a URL
 abbrev pub url_byte : ℕ → List ℕ → List ℕ
 url_byte b after = encode (percent_byte b after)
+
+-- a byte of a URL that is printed as it is, whatever follows it
+abbrev pub is_plain_byte : ℕ → Bool
+is_plain_byte b = is_url_byte b && not (b == 38)

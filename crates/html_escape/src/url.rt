@@ -3,7 +3,7 @@
 //! A URL keeps letters, digits, `! # $ & ' ( ) * + , - . / : ; = ? @ _ ~` and escapes: `%` and two
 //! letters or digits. Each other byte becomes `%` and its two upper case hexadecimal digits. Then
 //! the URL is printed as text.
-ghost use Rattle.std.specs.Prelude.{◌≡◌, ◌++◌, [], ◌∷◌, ◌-◌, ◌<◌, ◌≤◌, IfNone, IfOk, IfErr, OnOk, MatchOption, drop, length, map, string_bytes, take};
+ghost use Rattle.std.specs.Prelude.{◌≡◌, ◌++◌, [], ◌∷◌, ◌+◌, ◌-◌, ◌<◌, ◌≤◌, IfNone, IfOk, IfErr, OnOk, MatchOption, drop, length, map, string_bytes, take};
 ghost use Rattle.std.specs.Char.{is_ascii_uppercase};
 ghost use Rattle.std.specs.List.{list_any, prefix_len};
 ghost use Rattle.std.specs.Option.{option_copied};
@@ -11,7 +11,7 @@ ghost use Rattle.std.specs.Str.{IsCharBoundary, bytes_eq};
 ghost use Rattle.markdown_options.specs.Messages.{IsOutOfMemory};
 ghost use Rattle.definition_text.specs.Bytes.{lower};
 ghost use Rattle.definition_page.specs.Urls.{is_kept, is_url_byte, ends_escape, sanitized, sanitized_with, in_protocol, ends_protocol, protocol, permitted};
-ghost use Rattle.html_escape.specs.Tools.{url_byte};
+ghost use Rattle.html_escape.specs.Tools.{is_plain_byte, url_byte};
 
 use markdown_options::Message;
 use percent_encoding::percent_encode_byte;
@@ -120,14 +120,39 @@ pub fn push_sanitized<A: Allocator>(out: &mut String<A>, url: &str) -> Result<()
 {
     let bytes = url.as_bytes();
     let mut start = 0;
-    for (i, b) in bytes.iter().enumerate() {
-        if let Some(printed) = replacement(*b, &bytes[i + 1..]) {
-            push_slice(out, url, start, i)?;
+    let mut at = after_plain(bytes, 0);
+    while at < bytes.len() {
+        if let Some(printed) = replacement(bytes[at], &bytes[at + 1..]) {
+            push_slice(out, url, start, at)?;
             out.push_str(printed)?;
-            start = i + 1;
+            start = at + 1;
         }
+        at = after_plain(bytes, at + 1);
     }
     push_slice(out, url, start, bytes.len())
+}
+
+/// The place after the bytes from a place on that are printed as they are, whatever follows them.
+fn after_plain(bytes: &[u8], at: usize) -> usize
+    requires { at ≤ length bytes.now }
+    ensures end { result ≡ at + prefix_len is_plain_byte (drop at bytes.now) }
+    ensures within { result ≤ length bytes.now }
+{
+    at + plain_size(&bytes[at..])
+}
+
+/// How many such bytes come first.
+fn plain_size(bytes: &[u8]) -> usize
+    ensures size { result ≡ prefix_len is_plain_byte bytes.now }
+    ensures within { result ≤ length bytes.now }
+{
+    bytes.iter().take_while(|b| is_plain_byte(**b)).count()
+}
+
+fn is_plain_byte(byte: u8) -> bool
+    ensures { result ≡ is_plain_byte byte }
+{
+    is_url_byte(byte) && byte != b'&'
 }
 
 /// Prints a part of a text, which may be cut at both ends unless the part is empty.

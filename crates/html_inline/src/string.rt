@@ -24,6 +24,15 @@ use inline_leaves::{Leaf, LeafPart};
 use inline_links::part::from;
 use markdown_options::{Constructs, Tables};
 use std::alloc::{AllocError, Allocator};
+use text_search::{ByteSet, next_of};
+
+/// The bytes at which something may begin in a string: `\\`, `&`, line endings, spaces and tabs.
+const STARTS: ByteSet = ByteSet {
+    first: [
+        b' ', 0, 0, 0, 0, 0, b'&', 0, 0, b'\t', b'\n', 0, b'\\', b'\r', 0, 0,
+    ],
+    second: [b' ', 0, 0, 0, 0, 0, 0, 0, 0, 0, 0, 0, 0, 0, 0, 0],
+};
 
 /// Prints the text that a string stands for (CommonMark 2.4 and 2.5).
 #[tactic(auto, using(crate::proofs::FormedText::formed_bytes))]
@@ -166,12 +175,5 @@ fn kept_size(bytes: &[u8]) -> usize
 fn ink_size(bytes: &[u8]) -> usize
     ensures { result ≡ prefix_len is_ink bytes.now }
 {
-    bytes.iter().take_while(|b| is_ink(**b)).count()
-}
-
-/// Whether a byte begins nothing.
-fn is_ink(byte: u8) -> bool
-    ensures { result ≡ is_ink byte }
-{
-    !matches!(byte, b'\\' | b'&' | b'\n' | b'\r' | b' ' | b'\t')
+    next_of(bytes, STARTS)
 }
