@@ -18,10 +18,10 @@ use Rattle.definition_page.specs.Page.{Block, Paragraph, Heading, Break, Indente
 use Rattle.definition_page.specs.BlockPieces.{Place, inside, code_line, html_line, says, heading_name, info_attributes, start_attributes, list_tag, is_silent, last_shown, ends_plainly, fresh_unless, fenced_pieces, block_pieces, children_pieces}
 use Rattle.laws_endings.specs.Endings.{with_ending, ending_with, if_ending_with, codes_with, line_with, lines_with}
 use Rattle.laws_endings.specs.Inlines.{inlines_with}
-use Rattle.laws_endings_page.proofs.Each.{WhereSome, each_filter, each_map}
-use Rattle.laws_endings_page.proofs.Fits.{Plain}
-use Rattle.laws_endings_page.proofs.InlineReads.{AreFit}
-use Rattle.laws_endings_page.proofs.BlockReads.{IsFed, LineFits, LinesFit}
+use Rattle.laws_endings_reads.proofs.Each.{WhereSome, each_filter, each_map}
+use Rattle.laws_endings_reads.proofs.Fits.{Plain}
+use Rattle.laws_endings_reads.proofs.InlineReads.{AreFit}
+use Rattle.laws_endings_reads.proofs.BlockReads.{IsFed, LineFits, LinesFit}
 use Rattle.laws_endings_page.proofs.Bytes.{IsNoFeed, decimal_no_feed, with-append, kept, encode-with}
 use Rattle.laws_endings_page.proofs.Saids.{plains_no_feed, codes-kept, SaidWith, SaidsWith, says_more, says_one, says_append, words-kept, raw-kept}
 use Rattle.laws_endings_page.proofs.Printed.{LinkedFits, BytesWith, AttributesWith, attribute-with, more_attributes, PiecesWith, no_pieces, append-with, more-with, said-with, void_piece-with, eol_piece-with, fresh_piece-with, element-with, saids-with, linked_with, inlines-with}

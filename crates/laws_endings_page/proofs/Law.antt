@@ -32,11 +32,11 @@ use Rattle.laws_endings.proofs.Lines.{ending_lines_law, lines_after-byte}
 use Rattle.laws_endings.proofs.Blocks.{blocks_law}
 use Rattle.laws_endings.proofs.Matching.{normal_label-with, normal_labels-with, labels_law, definitions_law}
 use Rattle.laws_endings_page.specs.Laws.{EndingPageLaw}
-use Rattle.laws_endings_page.proofs.Each.{Each, each-append, each-drop, each_map, WhereSome}
-use Rattle.laws_endings_page.proofs.Characters.{AreWhole, whole-drop, IsTextByte, utf8_spelled}
-use Rattle.laws_endings_page.proofs.Fits.{Single, Plain, TitleFits}
-use Rattle.laws_endings_page.proofs.BlockReads.{BlockFits, BlocksFit, blocks_fit}
-use Rattle.laws_endings_page.proofs.TextLines.{ByteFits, text_lines_fit}
+use Rattle.laws_endings_reads.proofs.Each.{Each, each-append, each-drop, each_map, WhereSome}
+use Rattle.laws_endings_reads.proofs.Characters.{AreWhole, whole-drop, IsTextByte, utf8_spelled}
+use Rattle.laws_endings_reads.proofs.Fits.{Single, Plain, TitleFits}
+use Rattle.laws_endings_reads.proofs.BlockReads.{BlockFits, BlocksFit, blocks_fit}
+use Rattle.laws_endings_reads.proofs.TextLines.{ByteFits, text_lines_fit}
 use Rattle.laws_endings_page.proofs.Marks.{without_mark-with, kind_before-with}
 use Rattle.laws_endings_page.proofs.Printed.{LinkedFits, append-with, linked_with}
 use Rattle.laws_endings_page.proofs.Pages.{grouped_fits, grouped-with, page_blocks_with, read_blocks-with, read_blocks_fit, ends_blank-with}

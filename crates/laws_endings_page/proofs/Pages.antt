@@ -25,12 +25,13 @@ use Rattle.laws_endings.proofs.Codes.{cond-under}
 use Rattle.laws_endings.proofs.Cuts.{own_lines-with, line_codes-with, join-with}
 use Rattle.laws_endings.proofs.Matching.{bytes-with}
 use Rattle.laws_endings.proofs.Contents.{inlines-with}
-use Rattle.laws_endings_page.proofs.Each.{Each, each-append, each_map}
-use Rattle.laws_endings_page.proofs.Characters.{Begins, continues_one, AreWhole}
-use Rattle.laws_endings_page.proofs.Neighbours.{tamed, tamed_inlines, kinds-with, kinds-kept}
-use Rattle.laws_endings_page.proofs.Fits.{Single, Plain}
-use Rattle.laws_endings_page.proofs.InlineReads.{AreFit, inlines_fit}
-use Rattle.laws_endings_page.proofs.BlockReads.{IsFed, WholeBefore, LineFits, LinesFit, BlockFits, BlocksFit, line_singles, join_fits, own_fit}
+use Rattle.laws_endings_reads.specs.Runs.{tamed}
+use Rattle.laws_endings_reads.proofs.Each.{Each, each-append, each_map}
+use Rattle.laws_endings_reads.proofs.Characters.{Begins, continues_one, AreWhole}
+use Rattle.laws_endings_reads.proofs.Neighbours.{tamed_inlines, kinds-with, kinds-kept}
+use Rattle.laws_endings_reads.proofs.Fits.{Single, Plain}
+use Rattle.laws_endings_reads.proofs.InlineReads.{AreFit, inlines_fit}
+use Rattle.laws_endings_reads.proofs.BlockReads.{IsFed, WholeBefore, LineFits, LinesFit, BlockFits, BlocksFit, line_singles, join_fits, own_fit}
 use Rattle.laws_endings_page.proofs.Bytes.{IsNoFeed}
 use Rattle.laws_endings_page.proofs.Saids.{plains_no_feed, codes-kept, string_text-with}
 

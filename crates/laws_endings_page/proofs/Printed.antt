@@ -16,9 +16,9 @@ use Rattle.definition_page.specs.Pieces.{Piece, Open, Close, Void, Says, Eol, Fr
 use Rattle.definition_page.specs.InlinePieces.{Meaning, permitted_url, link_url, image_url, leads_to, url_of, titled, title_attribute, link_tag, image_tag, address, math_tag, html_says, description, element, part_pieces, inline_pieces}
 use Rattle.laws_endings.specs.Endings.{with_ending, code_with, codes_with}
 use Rattle.laws_endings.specs.Inlines.{target_with, inline_with, inlines_with}
-use Rattle.laws_endings_page.proofs.Each.{Each, WhereSome}
-use Rattle.laws_endings_page.proofs.Fits.{Plain, TitleFits}
-use Rattle.laws_endings_page.proofs.InlineReads.{TargetFits, IsFit, AreFit}
+use Rattle.laws_endings_reads.proofs.Each.{Each, WhereSome}
+use Rattle.laws_endings_reads.proofs.Fits.{Plain, TitleFits}
+use Rattle.laws_endings_reads.proofs.InlineReads.{TargetFits, IsFit, AreFit}
 use Rattle.laws_endings_page.proofs.Bytes.{IsNoFeed, percent_no_feed, encode-with, eol-with, fresh-with}
 use Rattle.laws_endings_page.proofs.Saids.{plain_no_feed, plains_no_feed, codes-kept, string_text-with, SaidWith, SaidsWith, then-with, says_one, words-kept, html_says-with, description-with}
 

@@ -31,9 +31,9 @@ use Rattle.definition_block.specs.ThematicBreak.{is_break}
 use Rattle.definition_block.specs.Definitions.{lines_before, Cut, cut_into, defined, cut_after, cut_most, cut}
 use Rattle.definition_block.specs.Tree.{Block, Paragraph, Heading, Break, IndentedCode, FencedCode, Html, Definition, Holds, Items, Ending, Blank, Blocks, Nil, Cons, join, one, ended, OpenLeaf, Text, Indented, Fenced, OpenHtml, Opening, Leaf, Inside, Tree as BlockTree, tree, nothing, empty_tree, blanks, paragraph_of, close_leaf, is_ending, all_endings, front, trailing, without_last, last_of, holds, close, leaf_text, has_text, leaf_with_line, with_line, rest_line, html_with, takes, or_heading, or_fence, or_html, begins, after, break_or_text, text_line_of, text_here, heading_of, underlined, turns, begun, taken, leaf_line, beside_in, start, new, began_blank, goes_on, grow, beside_line, step, steps, children, children_after, blocks}
 use Rattle.laws_endings.proofs.Rests.{FineRest, FineStarted, starts-fine, continues-fine}
-use Rattle.laws_endings_page.proofs.Each.{Each, each-append, each-take, each-drop, each_filter, WhereSome, where_passed}
-use Rattle.laws_endings_page.proofs.Characters.{IsWhole, AreWhole}
-use Rattle.laws_endings_page.proofs.Fits.{Single, Plain, TitleFits, DefinitionFits, definition_fits}
+use Rattle.laws_endings_reads.proofs.Each.{Each, each-append, each-take, each-drop, each_filter, WhereSome, where_passed}
+use Rattle.laws_endings_reads.proofs.Characters.{IsWhole, AreWhole}
+use Rattle.laws_endings_reads.proofs.Fits.{Single, Plain, TitleFits, DefinitionFits, definition_fits}
 
 -- ---- what is fit
 

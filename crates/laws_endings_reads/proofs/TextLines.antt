@@ -6,11 +6,11 @@ use Rattle.definition_text.specs.Columns.{whole, codes_from, columns_after_tab, 
 use Rattle.definition_text.specs.InlineCode.{is_continuation}
 use Rattle.definition_text.specs.Lines.{TextLine, text_line, in_first_line, after_return, lines, first_of}
 use Rattle.laws_endings.proofs.Lines.{lines_after-byte}
-use Rattle.laws_endings_page.proofs.Each.{Each, each-append, each_same}
-use Rattle.laws_endings_page.proofs.Characters.{Begins, continues_one, need, IsWhole, AreWhole, IsTextByte}
-use Rattle.laws_endings_page.proofs.Neighbours.{no_feed}
-use Rattle.laws_endings_page.proofs.Fits.{Plain}
-use Rattle.laws_endings_page.proofs.BlockReads.{IsFed, RestFits, TextLineFits, TextLinesFit}
+use Rattle.laws_endings_reads.proofs.Each.{Each, each-append, each_same}
+use Rattle.laws_endings_reads.proofs.Characters.{Begins, continues_one, need, IsWhole, AreWhole, IsTextByte}
+use Rattle.laws_endings_reads.proofs.Neighbours.{no_feed}
+use Rattle.laws_endings_reads.proofs.Fits.{Plain}
+use Rattle.laws_endings_reads.proofs.BlockReads.{IsFed, RestFits, TextLineFits, TextLinesFit}
 
 -- a byte that is neither CR nor `&`, and no code besides
 abbrev pub ByteFits : ℕ → Type 0
