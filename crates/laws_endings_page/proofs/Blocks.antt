@@ -55,7 +55,8 @@ module _ (e : LineEnding) where
       says_append e (code_line (line_with e line)) (code_line line) (flat_map code_line (lines_with e ls)) (flat_map code_line ls) (code_line-with line p.0)
       (code_lines-with ls p.1)
 
-  module _ (m : Meaning) (other : List ℕ → Option Linked) (leads : (label : List ℕ) → other (codes_with e label) ≡ option_map (linked_with e) (m.definition label))
+  module _ (m : Meaning) (other : List ℕ → Option Linked)
+      (leads : (label : List ℕ) → other (codes_with e label) ≡ option_map (linked_with e) (m.definition label))
       (fits : (label : List ℕ) → WhereSome LinkedFits (m.definition label)) where
     abbrev m' : Meaning
     m' = record m { definition = other }
@@ -237,7 +238,8 @@ module _ (e : LineEnding) where
           append-with e (Fresh ∷ pre') (Fresh ∷ pre) (fresh_unless is_closed) (fresh_unless is_closed)
           (fresh-then pre' pre
           (bare-with (codes "pre") code' code refl
-          (element-with e (codes "code") (info_attributes info) (info_attributes info) all' all refl (info-with info p.0) (fenced-with place is_closed ls p.1))))
+          (element-with e (codes "code") (info_attributes info) (info_attributes info) all' all refl (info-with info p.0)
+          (fenced-with place is_closed ls p.1))))
           (fresh_unless-with is_closed)
       block-with place before (Html ls) p =
           fresh-then (says (flat_map (html_line m.compile) (lines_with e ls))) (says (flat_map (html_line m.compile) ls))
@@ -261,7 +263,8 @@ module _ (e : LineEnding) where
           let end = fresh_unless (ends_plainly place.tight (last_shown None kids)) in
           let same : ends_plainly place.tight (last_shown None (page_blocks_with e kids)) ≡ ends_plainly place.tight (last_shown None kids) =
           ap (ends_plainly place.tight) (last_shown-with None kids) ∙ ends_plainly-with place.tight (last_shown None kids) in
-          subst (λ plainly. PiecesWith e (Fresh ∷ element (bare_tag (codes "li")) (kids' ++ fresh_unless plainly)) (Fresh ∷ element (bare_tag (codes "li")) (ps ++ end)))
+          subst (λ plainly. PiecesWith e (Fresh ∷ element (bare_tag (codes "li")) (kids' ++ fresh_unless plainly))
+          (Fresh ∷ element (bare_tag (codes "li")) (ps ++ end)))
           (sym same)
           (fresh-then (element (bare_tag (codes "li")) (kids' ++ end)) (element (bare_tag (codes "li")) (ps ++ end))
           (bare-with (codes "li") (kids' ++ end) (ps ++ end) refl

@@ -201,7 +201,8 @@ ending_before b (line ∷ ls) = refl
 first_by : (b : ℕ) (bs : List ℕ) (feed : Bool) → eqb b 10 ≡ feed → eqb b 13 ≡ false → (feed || holds_feed bs) ≡ true
     → (holds_feed bs ≡ true → (first_line bs).ending ≡ Some LineFeed) → (first_line (b ∷ bs)).ending ≡ Some LineFeed
 first_by b bs true h k some more =
-    ap (λ feed. (first_of (cond feed (text_line [] (Some LineFeed) ∷ lines bs) (cond (eqb b 13) (after_return bs (lines bs)) (in_first_line b (lines bs))))).ending) h
+    let ls = lines bs in
+    ap (λ feed. (first_of (cond feed (text_line [] (Some LineFeed) ∷ ls) (cond (eqb b 13) (after_return bs ls) (in_first_line b ls)))).ending) h
 first_by b bs false h k some more = ap (λ ls. (first_of ls).ending) (lines_after-byte b bs h k) ∙ ending_before b (lines bs) ∙ more some
 
 first_feed : (bs : List ℕ) → Each ByteFits bs → holds_feed bs ≡ true → (first_line bs).ending ≡ Some LineFeed

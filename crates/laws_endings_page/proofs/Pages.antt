@@ -279,7 +279,8 @@ module _ (e : LineEnding) where
 
     codes_content : (before : Kind) (cs : List ℕ) (ending : Option LineEnding) → Each Plain cs → IsFed ending
         → (WholeBefore ending cs)
-        → content_here before (codes_with e (map code_byte (cs ++ ending_code ending))) ≡ content_with e (content_here before (map code_byte (cs ++ ending_code ending)))
+        → content_here before (codes_with e (map code_byte (cs ++ ending_code ending)))
+        ≡ content_with e (content_here before (map code_byte (cs ++ ending_code ending)))
     codes_content before cs None h f w =
         let all = map code_byte (cs ++ []) in
         let clear : Each IsNoFeed all =

@@ -172,7 +172,8 @@ last_fits ls p = last_or_fits None ls tt p
 ended_fits : (b : Block) (ending : Option LineEnding) → BlockFits b → IsFed ending → BlocksFit (ended b ending)
 ended_fits b ending p f = (p, (f, tt))
 
-more_fit : (ls : List BlockLine) (rest : Rest) (beside : Beside) → LinesFit ls → RestFits rest → IsFed beside.ending → LinesFit (ls ++ rest_line rest beside ∷ [])
+more_fit : (ls : List BlockLine) (rest : Rest) (beside : Beside) → LinesFit ls → RestFits rest → IsFed beside.ending
+    → LinesFit (ls ++ rest_line rest beside ∷ [])
 more_fit ls rest beside p q f = each-append LineFits ls (rest_line rest beside ∷ []) p (rest_line_fits rest beside q f, tt)
 
 singles : (cs : List ℕ) → Each Plain cs → Each Single cs
@@ -238,8 +239,11 @@ cut_after_fits : (o : Option LinkDefinition) (ls : List BlockLine) (more : List 
 cut_after_fits None ls more d p h = (tt, p)
 cut_after_fits (Some d) ls more q p h =
     let count = lines_before d.rest ls in
-    let others = h (drop count ls) (each-drop LineFits count ls p) in
-    (join_fits (defined d (take count ls)) (more (drop count ls)).definitions (q, (last_fits (take count ls) (each-take LineFits count ls p), tt)) others.0, others.1)
+    let others = h (drop count ls) (each-drop LineFits count ls p) in (
+      join_fits (defined d (take count ls)) (more (drop count ls)).definitions
+          (q, (last_fits (take count ls) (each-take LineFits count ls p), tt)) others.0,
+      others.1,
+    )
 
 cut_most_fits : (most : ℕ) (ls : List BlockLine) → LinesFit ls → CutFits (cut_most most ls)
 cut_most_fits zero ls p = (tt, p)

@@ -98,7 +98,8 @@ first_apart b (c ∷ cs) h is =
     apart_more c cs cs (ap is_eol (sym same) ∙ h) (apart_here cs)
 
 -- the same, with what follows the first byte
-pub after_byte_apart : (b : ℕ) (content rest : List ℕ) → is_eol b ≡ false → begins_with (b ∷ []) content ≡ true → Apart (drop 1 content) rest → Apart content rest
+pub after_byte_apart : (b : ℕ) (content rest : List ℕ) → is_eol b ≡ false → begins_with (b ∷ []) content ≡ true
+    → Apart (drop 1 content) rest → Apart content rest
 after_byte_apart b content rest h is a = apart_then content (drop 1 content) rest (first_apart b content h is) a
 
 pub apart_from : (content middle rest : List ℕ) → Apart content middle → Apart middle rest → Apart content rest

@@ -158,7 +158,8 @@ uri_clear content =
     let colon = begins_with (codes ":") rest in
     cond_both (begins_with_scheme content && colon) (Some (after_uri rest)) None (EndsClear content)
     (λ h. apart_from content rest (after_uri rest) (after_all_apart is_scheme_byte content refl refl refl)
-    (after_byte_apart 58 rest (after_uri rest) refl (and_parts (begins_with_scheme content) colon h).1 (after_all_apart is_uri_byte (drop 1 rest) refl refl refl)))
+    (after_byte_apart 58 rest (after_uri rest) refl (and_parts (begins_with_scheme content) colon h).1
+    (after_all_apart is_uri_byte (drop 1 rest) refl refl refl)))
     (λ _. tt)
 
 email_clear : (content : List ℕ) → EndsClear content (email_end content)
@@ -264,7 +265,8 @@ run_fits ps place r h =
     (each-append RowFits closing (replicate left (Holds (Data r.marker)))
     (each_map (λ p. Unit {0}) RowFits (λ (p : Pair). Closes) closed (λ p q. tt) (always (λ p. Unit {0}) closed (λ p. tt)))
     (each_same RowFits left (Holds (Data r.marker)) h))
-    (each_map (λ p. Unit {0}) RowFits (λ (p : Pair). Opens (span_of r.marker p)) (reverse started) (λ p q. tt) (always (λ p. Unit {0}) (reverse started) (λ p. tt)))
+    (each_map (λ p. Unit {0}) RowFits (λ (p : Pair). Opens (span_of r.marker p)) (reverse started) (λ p q. tt)
+    (always (λ p. Unit {0}) (reverse started) (λ p. tt)))
 
 rows_fit : (ps : List Pair) (place : ℕ) (tokens : List Token) → Each TokenFits tokens → Each RowFits (rows_from ps place tokens)
 rows_fit ps place [] h = tt

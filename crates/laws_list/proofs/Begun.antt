@@ -158,7 +158,8 @@ module _ (on : Constructs) where
   close_dark (Inside c kids inner) h = holds_dark c (join kids (close on inner))
 
   closed_nothing : NoneOrDark (close on nothing)
-  closed_nothing = cond_both on.definition (cut_most 0 []) (cut_into Nil []) (λ (parts : Cut). NoneOrDark (with_paragraph parts)) (λ _. inl refl) (λ _. inl refl)
+  closed_nothing =
+      cond_both on.definition (cut_most 0 []) (cut_into Nil []) (λ (parts : Cut). NoneOrDark (with_paragraph parts)) (λ _. inl refl) (λ _. inl refl)
 
   close_either : (now : Opening) → NoneOrDark (close on now)
   close_either (Leaf (Text [])) = closed_nothing
