@@ -119,47 +119,20 @@ module _ (e : LineEnding) where
     is_silent-with : (place : Place) (b : Option Block) → is_silent place (sibling_with b) ≡ is_silent place b
     is_silent-with place None = refl
     is_silent-with place (Some (Paragraph is)) = refl
-    is_silent-with place (Some (Heading rank is)) = refl
-    is_silent-with place (Some Break) = refl
-    is_silent-with place (Some (IndentedCode ls)) = refl
-    is_silent-with place (Some (FencedCode info is_closed ls)) = refl
-    is_silent-with place (Some (Html ls)) = refl
     is_silent-with place (Some Definition) = refl
-    is_silent-with place (Some (Quote kids)) = refl
-    is_silent-with place (Some (ItemList number loose items)) = refl
-    is_silent-with place (Some (Item kids)) = refl
-    is_silent-with place (Some (Ending ending)) = refl
-    is_silent-with place (Some (Blank ending)) = refl
+    is_silent-with place (Some b) = refl
 
     last_shown-with : (b : Option Block) (bs : Blocks) → last_shown (sibling_with b) (page_blocks_with e bs) ≡ sibling_with (last_shown b bs)
     last_shown-with b Nil = refl
-    last_shown-with b (Cons (Paragraph is) bs) = last_shown-with (Some (Paragraph is)) bs
-    last_shown-with b (Cons (Heading rank is) bs) = last_shown-with (Some (Heading rank is)) bs
-    last_shown-with b (Cons Break bs) = last_shown-with (Some Break) bs
-    last_shown-with b (Cons (IndentedCode ls) bs) = last_shown-with (Some (IndentedCode ls)) bs
-    last_shown-with b (Cons (FencedCode info is_closed ls) bs) = last_shown-with (Some (FencedCode info is_closed ls)) bs
-    last_shown-with b (Cons (Html ls) bs) = last_shown-with (Some (Html ls)) bs
     last_shown-with b (Cons Definition bs) = last_shown-with b bs
-    last_shown-with b (Cons (Quote kids) bs) = last_shown-with (Some (Quote kids)) bs
-    last_shown-with b (Cons (ItemList number loose items) bs) = last_shown-with (Some (ItemList number loose items)) bs
-    last_shown-with b (Cons (Item kids) bs) = last_shown-with (Some (Item kids)) bs
     last_shown-with b (Cons (Ending ending) bs) = last_shown-with b bs
     last_shown-with b (Cons (Blank ending) bs) = last_shown-with b bs
+    last_shown-with b (Cons c bs) = last_shown-with (Some c) bs
 
     ends_plainly-with : (tight : Bool) (b : Option Block) → ends_plainly tight (sibling_with b) ≡ ends_plainly tight b
     ends_plainly-with tight None = refl
     ends_plainly-with tight (Some (Paragraph is)) = refl
-    ends_plainly-with tight (Some (Heading rank is)) = refl
-    ends_plainly-with tight (Some Break) = refl
-    ends_plainly-with tight (Some (IndentedCode ls)) = refl
-    ends_plainly-with tight (Some (FencedCode info is_closed ls)) = refl
-    ends_plainly-with tight (Some (Html ls)) = refl
-    ends_plainly-with tight (Some Definition) = refl
-    ends_plainly-with tight (Some (Quote kids)) = refl
-    ends_plainly-with tight (Some (ItemList number loose items)) = refl
-    ends_plainly-with tight (Some (Item kids)) = refl
-    ends_plainly-with tight (Some (Ending ending)) = refl
-    ends_plainly-with tight (Some (Blank ending)) = refl
+    ends_plainly-with tight (Some b) = refl
 
     pub fresh_unless-with : (said : Bool) → PiecesWith e (fresh_unless said) (fresh_unless said)
     fresh_unless-with true = no_pieces e

@@ -49,17 +49,10 @@ DefinitionIs d = Each Plain d.destination × TitleFits d.title
 
 mutual
   block_definitions_fit : (b : tree.Block) → BlockFits b → Each DefinitionIs (block_definitions b)
-  block_definitions_fit (tree.Paragraph ls) p = tt
-  block_definitions_fit (tree.Heading rank ls) p = tt
-  block_definitions_fit tree.Break p = tt
-  block_definitions_fit (tree.IndentedCode ls) p = tt
-  block_definitions_fit (tree.FencedCode info is_closed ls) p = tt
-  block_definitions_fit (tree.Html ls) p = tt
   block_definitions_fit (tree.Definition label destination title) p = (p, tt)
   block_definitions_fit (tree.Holds c kids) p = definitions_fit kids p
   block_definitions_fit (tree.Items items) p = definitions_fit items p
-  block_definitions_fit (tree.Ending ending) p = tt
-  block_definitions_fit (tree.Blank ending) p = tt
+  block_definitions_fit b p = tt
 
   definitions_fit : (bs : tree.Blocks) → BlocksFit bs → Each DefinitionIs (definitions bs)
   definitions_fit tree.Nil p = tt
