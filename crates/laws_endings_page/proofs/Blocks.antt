@@ -18,10 +18,10 @@ use Rattle.definition_page.specs.Page.{Block, Paragraph, Heading, Break, Indente
 use Rattle.definition_page.specs.BlockPieces.{checkable_attributes, done_attributes, check_pieces, Place, inside, code_line, html_line, says, heading_name, info_attributes, start_attributes, list_tag, is_silent, last_shown, ends_plainly, fresh_unless, fenced_pieces, block_pieces, children_pieces}
 use Rattle.laws_endings.specs.Endings.{with_ending, ending_with, if_ending_with, codes_with, line_with, lines_with}
 use Rattle.laws_endings.specs.Inlines.{inlines_with}
-use Rattle.laws_endings_page.proofs.Each.{WhereSome, each_filter, each_map}
-use Rattle.laws_endings_page.proofs.Fits.{Plain}
-use Rattle.laws_endings_page.proofs.InlineReads.{AreFit}
-use Rattle.laws_endings_page.proofs.BlockReads.{IsFed, LineFits, LinesFit}
+use Rattle.laws_endings_reads.proofs.Each.{WhereSome, each_filter, each_map}
+use Rattle.laws_endings_reads.proofs.Fits.{Plain}
+use Rattle.laws_endings_reads.proofs.InlineReads.{AreFit}
+use Rattle.laws_endings_reads.proofs.BlockReads.{IsFed, LineFits, LinesFit}
 use Rattle.laws_endings_page.proofs.Bytes.{IsNoFeed, decimal_no_feed, with-append, kept, encode-with}
 use Rattle.laws_endings_page.proofs.Saids.{plains_no_feed, codes-kept, SaidWith, SaidsWith, says_more, says_one, says_append, words-kept, raw-kept}
 use Rattle.laws_endings_page.proofs.Printed.{LinkedFits, BytesWith, AttributesWith, attribute-with, more_attributes, PiecesWith, no_pieces, append-with, more-with, said-with, void_piece-with, eol_piece-with, fresh_piece-with, element-with, saids-with, linked_with, inlines-with}
@@ -55,7 +55,8 @@ module _ (e : LineEnding) where
       says_append e (code_line (line_with e line)) (code_line line) (flat_map code_line (lines_with e ls)) (flat_map code_line ls) (code_line-with line p.0)
       (code_lines-with ls p.1)
 
-  module _ (m : Meaning) (other : List ℕ → Option Linked) (leads : (label : List ℕ) → other (codes_with e label) ≡ option_map (linked_with e) (m.definition label))
+  module _ (m : Meaning) (other : List ℕ → Option Linked)
+      (leads : (label : List ℕ) → other (codes_with e label) ≡ option_map (linked_with e) (m.definition label))
       (fits : (label : List ℕ) → WhereSome LinkedFits (m.definition label)) where
     abbrev m' : Meaning
     m' = record m { definition = other }
@@ -118,47 +119,20 @@ module _ (e : LineEnding) where
     is_silent-with : (place : Place) (b : Option Block) → is_silent place (sibling_with b) ≡ is_silent place b
     is_silent-with place None = refl
     is_silent-with place (Some (Paragraph check is)) = refl
-    is_silent-with place (Some (Heading rank is)) = refl
-    is_silent-with place (Some Break) = refl
-    is_silent-with place (Some (IndentedCode ls)) = refl
-    is_silent-with place (Some (FencedCode info is_closed ls)) = refl
-    is_silent-with place (Some (Html ls)) = refl
     is_silent-with place (Some Definition) = refl
-    is_silent-with place (Some (Quote kids)) = refl
-    is_silent-with place (Some (ItemList number loose items)) = refl
-    is_silent-with place (Some (Item kids)) = refl
-    is_silent-with place (Some (Ending ending)) = refl
-    is_silent-with place (Some (Blank ending)) = refl
+    is_silent-with place (Some b) = refl
 
     last_shown-with : (b : Option Block) (bs : Blocks) → last_shown (sibling_with b) (page_blocks_with e bs) ≡ sibling_with (last_shown b bs)
     last_shown-with b Nil = refl
-    last_shown-with b (Cons (Paragraph check is) bs) = last_shown-with (Some (Paragraph check is)) bs
-    last_shown-with b (Cons (Heading rank is) bs) = last_shown-with (Some (Heading rank is)) bs
-    last_shown-with b (Cons Break bs) = last_shown-with (Some Break) bs
-    last_shown-with b (Cons (IndentedCode ls) bs) = last_shown-with (Some (IndentedCode ls)) bs
-    last_shown-with b (Cons (FencedCode info is_closed ls) bs) = last_shown-with (Some (FencedCode info is_closed ls)) bs
-    last_shown-with b (Cons (Html ls) bs) = last_shown-with (Some (Html ls)) bs
     last_shown-with b (Cons Definition bs) = last_shown-with b bs
-    last_shown-with b (Cons (Quote kids) bs) = last_shown-with (Some (Quote kids)) bs
-    last_shown-with b (Cons (ItemList number loose items) bs) = last_shown-with (Some (ItemList number loose items)) bs
-    last_shown-with b (Cons (Item kids) bs) = last_shown-with (Some (Item kids)) bs
     last_shown-with b (Cons (Ending ending) bs) = last_shown-with b bs
     last_shown-with b (Cons (Blank ending) bs) = last_shown-with b bs
+    last_shown-with b (Cons c bs) = last_shown-with (Some c) bs
 
     ends_plainly-with : (tight : Bool) (b : Option Block) → ends_plainly tight (sibling_with b) ≡ ends_plainly tight b
     ends_plainly-with tight None = refl
     ends_plainly-with tight (Some (Paragraph check is)) = refl
-    ends_plainly-with tight (Some (Heading rank is)) = refl
-    ends_plainly-with tight (Some Break) = refl
-    ends_plainly-with tight (Some (IndentedCode ls)) = refl
-    ends_plainly-with tight (Some (FencedCode info is_closed ls)) = refl
-    ends_plainly-with tight (Some (Html ls)) = refl
-    ends_plainly-with tight (Some Definition) = refl
-    ends_plainly-with tight (Some (Quote kids)) = refl
-    ends_plainly-with tight (Some (ItemList number loose items)) = refl
-    ends_plainly-with tight (Some (Item kids)) = refl
-    ends_plainly-with tight (Some (Ending ending)) = refl
-    ends_plainly-with tight (Some (Blank ending)) = refl
+    ends_plainly-with tight (Some b) = refl
 
     pub fresh_unless-with : (said : Bool) → PiecesWith e (fresh_unless said) (fresh_unless said)
     fresh_unless-with true = no_pieces e
@@ -256,7 +230,8 @@ module _ (e : LineEnding) where
           append-with e (Fresh ∷ pre') (Fresh ∷ pre) (fresh_unless is_closed) (fresh_unless is_closed)
           (fresh-then pre' pre
           (bare-with (codes "pre") code' code refl
-          (element-with e (codes "code") (info_attributes info) (info_attributes info) all' all refl (info-with info p.0) (fenced-with place is_closed ls p.1))))
+          (element-with e (codes "code") (info_attributes info) (info_attributes info) all' all refl (info-with info p.0)
+          (fenced-with place is_closed ls p.1))))
           (fresh_unless-with is_closed)
       block-with place before (Html ls) p =
           fresh-then (says (flat_map (html_line m.compile) (lines_with e ls))) (says (flat_map (html_line m.compile) ls))
@@ -280,7 +255,8 @@ module _ (e : LineEnding) where
           let end = fresh_unless (ends_plainly place.tight (last_shown None kids)) in
           let same : ends_plainly place.tight (last_shown None (page_blocks_with e kids)) ≡ ends_plainly place.tight (last_shown None kids) =
           ap (ends_plainly place.tight) (last_shown-with None kids) ∙ ends_plainly-with place.tight (last_shown None kids) in
-          subst (λ plainly. PiecesWith e (Fresh ∷ element (bare_tag (codes "li")) (kids' ++ fresh_unless plainly)) (Fresh ∷ element (bare_tag (codes "li")) (ps ++ end)))
+          subst (λ plainly. PiecesWith e (Fresh ∷ element (bare_tag (codes "li")) (kids' ++ fresh_unless plainly))
+          (Fresh ∷ element (bare_tag (codes "li")) (ps ++ end)))
           (sym same)
           (fresh-then (element (bare_tag (codes "li")) (kids' ++ end)) (element (bare_tag (codes "li")) (ps ++ end))
           (bare-with (codes "li") (kids' ++ end) (ps ++ end) refl

@@ -15,7 +15,7 @@ use Rattle.definition_page.specs.GfmTagfilter.{is_filtered, tags_filtered, filte
 use Rattle.definition_page.specs.Urls.{is_kept, escape, percent_byte, percent}
 use Rattle.definition_page.specs.Pieces.{ends_a_line, is_fresh}
 use Rattle.laws_endings.specs.Endings.{byte_with, with_ending, code_with}
-use Rattle.laws_endings_page.proofs.Each.{Each, each-append}
+use Rattle.laws_endings_reads.proofs.Each.{Each, each-append}
 
 abbrev pub IsNoFeed : ℕ → Type 0
 IsNoFeed b = eqb b 10 ≡ false

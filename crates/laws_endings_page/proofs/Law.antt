@@ -32,11 +32,11 @@ use Rattle.laws_endings.proofs.Lines.{ending_lines_law, lines_after-byte}
 use Rattle.laws_endings.proofs.Blocks.{blocks_law}
 use Rattle.laws_endings.proofs.Matching.{normal_label-with, normal_labels-with, labels_law, definitions_law}
 use Rattle.laws_endings_page.specs.Laws.{EndingPageLaw}
-use Rattle.laws_endings_page.proofs.Each.{Each, each-append, each-drop, each_map, WhereSome}
-use Rattle.laws_endings_page.proofs.Characters.{AreWhole, whole-drop, IsTextByte, utf8_spelled}
-use Rattle.laws_endings_page.proofs.Fits.{Single, Plain, TitleFits}
-use Rattle.laws_endings_page.proofs.BlockReads.{BlockFits, BlocksFit, blocks_fit}
-use Rattle.laws_endings_page.proofs.TextLines.{ByteFits, text_lines_fit}
+use Rattle.laws_endings_reads.proofs.Each.{Each, each-append, each-drop, each_map, WhereSome}
+use Rattle.laws_endings_reads.proofs.Characters.{AreWhole, whole-drop, IsTextByte, utf8_spelled}
+use Rattle.laws_endings_reads.proofs.Fits.{Single, Plain, TitleFits}
+use Rattle.laws_endings_reads.proofs.BlockReads.{BlockFits, BlocksFit, blocks_fit}
+use Rattle.laws_endings_reads.proofs.TextLines.{ByteFits, text_lines_fit}
 use Rattle.laws_endings_page.proofs.Marks.{without_mark-with, kind_before-with}
 use Rattle.laws_endings_page.proofs.Printed.{LinkedFits, append-with, linked_with}
 use Rattle.laws_endings_page.proofs.Pages.{grouped_fits, grouped-with, page_blocks_with, read_blocks-with, read_blocks_fit, ends_blank-with}
@@ -49,17 +49,10 @@ DefinitionIs d = Each Plain d.destination × TitleFits d.title
 
 mutual
   block_definitions_fit : (b : tree.Block) → BlockFits b → Each DefinitionIs (block_definitions b)
-  block_definitions_fit (tree.Paragraph ls) p = tt
-  block_definitions_fit (tree.Heading rank ls) p = tt
-  block_definitions_fit tree.Break p = tt
-  block_definitions_fit (tree.IndentedCode ls) p = tt
-  block_definitions_fit (tree.FencedCode info is_closed ls) p = tt
-  block_definitions_fit (tree.Html ls) p = tt
   block_definitions_fit (tree.Definition label destination title) p = (p, tt)
   block_definitions_fit (tree.Holds c kids) p = definitions_fit kids p
   block_definitions_fit (tree.Items items) p = definitions_fit items p
-  block_definitions_fit (tree.Ending ending) p = tt
-  block_definitions_fit (tree.Blank ending) p = tt
+  block_definitions_fit b p = tt
 
   definitions_fit : (bs : tree.Blocks) → BlocksFit bs → Each DefinitionIs (definitions bs)
   definitions_fit tree.Nil p = tt
@@ -201,7 +194,8 @@ ending_before b (line ∷ ls) = refl
 first_by : (b : ℕ) (bs : List ℕ) (feed : Bool) → eqb b 10 ≡ feed → eqb b 13 ≡ false → (feed || holds_feed bs) ≡ true
     → (holds_feed bs ≡ true → (first_line bs).ending ≡ Some LineFeed) → (first_line (b ∷ bs)).ending ≡ Some LineFeed
 first_by b bs true h k some more =
-    ap (λ feed. (first_of (cond feed (text_line [] (Some LineFeed) ∷ lines bs) (cond (eqb b 13) (after_return bs (lines bs)) (in_first_line b (lines bs))))).ending) h
+    let ls = lines bs in
+    ap (λ feed. (first_of (cond feed (text_line [] (Some LineFeed) ∷ ls) (cond (eqb b 13) (after_return bs ls) (in_first_line b ls)))).ending) h
 first_by b bs false h k some more = ap (λ ls. (first_of ls).ending) (lines_after-byte b bs h k) ∙ ending_before b (lines bs) ∙ more some
 
 first_feed : (bs : List ℕ) → Each ByteFits bs → holds_feed bs ≡ true → (first_line bs).ending ≡ Some LineFeed

@@ -7,7 +7,7 @@ use Rattle.markdown_options.specs.LineEndings.{ending_bytes}
 use Rattle.definition_text.specs.declared.beside.Kind.TheVariants.{Whitespace, Other}
 use Rattle.definition_text.specs.Lines.{has_mark, without_mark, kind_before_text}
 use Rattle.laws_endings.specs.Endings.{with_ending}
-use Rattle.laws_endings_page.proofs.Neighbours.{no_feed}
+use Rattle.laws_endings_reads.proofs.Neighbours.{no_feed}
 use Rattle.laws_endings_page.proofs.Bytes.{byte-kept}
 
 -- where one of its bytes is another there is no mark

@@ -29,12 +29,13 @@ use Rattle.laws_endings.proofs.Cuts.{own_lines-with, line_codes-with, join-with}
 use Rattle.laws_endings.proofs.Matching.{bytes-with}
 use Rattle.laws_endings.proofs.Contents.{codes_of-with, unindented-with, from-with, inlines-with}
 use Rattle.laws_endings.proofs.GfmTaskListItem.{check_at-with}
-use Rattle.laws_endings_page.proofs.Each.{Each, each-append, each_map}
-use Rattle.laws_endings_page.proofs.Characters.{Begins, continues_one, AreWhole}
-use Rattle.laws_endings_page.proofs.Neighbours.{tame, tamed, tamed_codes, tamed_unindented, tamed_from, tamed_inlines, kinds-with, kinds-kept}
-use Rattle.laws_endings_page.proofs.Fits.{Single, Plain}
-use Rattle.laws_endings_page.proofs.InlineReads.{AreFit, dropped_codes, from_fits, inlines_fit}
-use Rattle.laws_endings_page.proofs.BlockReads.{IsFed, WholeBefore, LineFits, LinesFit, BlockFits, BlocksFit, line_singles, join_fits, own_fit}
+use Rattle.laws_endings_reads.specs.Runs.{tame, tamed}
+use Rattle.laws_endings_reads.proofs.Each.{Each, each-append, each_map}
+use Rattle.laws_endings_reads.proofs.Characters.{Begins, continues_one, AreWhole}
+use Rattle.laws_endings_reads.proofs.Neighbours.{tamed_codes, tamed_unindented, tamed_from, tamed_inlines, kinds-with, kinds-kept}
+use Rattle.laws_endings_reads.proofs.Fits.{Single, Plain}
+use Rattle.laws_endings_reads.proofs.InlineReads.{AreFit, dropped_codes, from_fits, inlines_fit}
+use Rattle.laws_endings_reads.proofs.BlockReads.{IsFed, WholeBefore, LineFits, LinesFit, BlockFits, BlocksFit, line_singles, join_fits, own_fit}
 use Rattle.laws_endings_page.proofs.Bytes.{IsNoFeed}
 use Rattle.laws_endings_page.proofs.Saids.{plains_no_feed, codes-kept, string_text-with}
 
@@ -78,30 +79,13 @@ mutual
 
 module _ (e : LineEnding) where
   is_ending-with : (b : tree.Block) → is_ending (block_with e b) ≡ is_ending b
-  is_ending-with (tree.Paragraph ls) = refl
-  is_ending-with (tree.Heading rank ls) = refl
-  is_ending-with tree.Break = refl
-  is_ending-with (tree.IndentedCode ls) = refl
-  is_ending-with (tree.FencedCode info is_closed ls) = refl
-  is_ending-with (tree.Html ls) = refl
-  is_ending-with (tree.Definition label destination title) = refl
-  is_ending-with (tree.Holds c kids) = refl
-  is_ending-with (tree.Items items) = refl
   is_ending-with (tree.Ending ending) = refl
   is_ending-with (tree.Blank ending) = refl
+  is_ending-with b = refl
 
   item_marker-with : (b : tree.Block) → item_marker (block_with e b) ≡ item_marker b
-  item_marker-with (tree.Paragraph ls) = refl
-  item_marker-with (tree.Heading rank ls) = refl
-  item_marker-with tree.Break = refl
-  item_marker-with (tree.IndentedCode ls) = refl
-  item_marker-with (tree.FencedCode info is_closed ls) = refl
-  item_marker-with (tree.Html ls) = refl
-  item_marker-with (tree.Definition label destination title) = refl
   item_marker-with (tree.Holds c kids) = refl
-  item_marker-with (tree.Items items) = refl
-  item_marker-with (tree.Ending ending) = refl
-  item_marker-with (tree.Blank ending) = refl
+  item_marker-with b = refl
 
   endings_of-with : (bs : tree.Blocks) → endings_of (blocks_with e bs) ≡ blocks_with e (endings_of bs)
   endings_of-with tree.Nil = refl
@@ -116,33 +100,13 @@ module _ (e : LineEnding) where
       ∙ cond-under (blocks_with e) (is_ending b) (after_endings-with bs) refl
 
   list_marker-with : (bs : tree.Blocks) → list_marker (blocks_with e bs) ≡ list_marker bs
-  list_marker-with tree.Nil = refl
-  list_marker-with (tree.Cons (tree.Paragraph ls) bs) = refl
-  list_marker-with (tree.Cons (tree.Heading rank ls) bs) = refl
-  list_marker-with (tree.Cons tree.Break bs) = refl
-  list_marker-with (tree.Cons (tree.IndentedCode ls) bs) = refl
-  list_marker-with (tree.Cons (tree.FencedCode info is_closed ls) bs) = refl
-  list_marker-with (tree.Cons (tree.Html ls) bs) = refl
-  list_marker-with (tree.Cons (tree.Definition label destination title) bs) = refl
-  list_marker-with (tree.Cons (tree.Holds c kids) bs) = refl
   list_marker-with (tree.Cons (tree.Items tree.Nil) bs) = refl
   list_marker-with (tree.Cons (tree.Items (tree.Cons item items)) bs) = item_marker-with item
-  list_marker-with (tree.Cons (tree.Ending ending) bs) = refl
-  list_marker-with (tree.Cons (tree.Blank ending) bs) = refl
+  list_marker-with bs = refl
 
   list_items-with : (bs : tree.Blocks) → list_items (blocks_with e bs) ≡ blocks_with e (list_items bs)
-  list_items-with tree.Nil = refl
-  list_items-with (tree.Cons (tree.Paragraph ls) bs) = refl
-  list_items-with (tree.Cons (tree.Heading rank ls) bs) = refl
-  list_items-with (tree.Cons tree.Break bs) = refl
-  list_items-with (tree.Cons (tree.IndentedCode ls) bs) = refl
-  list_items-with (tree.Cons (tree.FencedCode info is_closed ls) bs) = refl
-  list_items-with (tree.Cons (tree.Html ls) bs) = refl
-  list_items-with (tree.Cons (tree.Definition label destination title) bs) = refl
-  list_items-with (tree.Cons (tree.Holds c kids) bs) = refl
   list_items-with (tree.Cons (tree.Items items) bs) = refl
-  list_items-with (tree.Cons (tree.Ending ending) bs) = refl
-  list_items-with (tree.Cons (tree.Blank ending) bs) = refl
+  list_items-with bs = refl
 
   rest_of-with : (bs : tree.Blocks) → rest_of (blocks_with e bs) ≡ blocks_with e (rest_of bs)
   rest_of-with tree.Nil = refl
@@ -176,17 +140,8 @@ module _ (e : LineEnding) where
 
   mutual
     grouped_block-with : (b : tree.Block) → grouped_block (block_with e b) ≡ block_with e (grouped_block b)
-    grouped_block-with (tree.Paragraph ls) = refl
-    grouped_block-with (tree.Heading rank ls) = refl
-    grouped_block-with tree.Break = refl
-    grouped_block-with (tree.IndentedCode ls) = refl
-    grouped_block-with (tree.FencedCode info is_closed ls) = refl
-    grouped_block-with (tree.Html ls) = refl
-    grouped_block-with (tree.Definition label destination title) = refl
     grouped_block-with (tree.Holds c kids) = ap (tree.Holds c) (grouped-with kids)
-    grouped_block-with (tree.Items items) = refl
-    grouped_block-with (tree.Ending ending) = refl
-    grouped_block-with (tree.Blank ending) = refl
+    grouped_block-with b = refl
 
     pub grouped-with : (bs : tree.Blocks) → grouped (blocks_with e bs) ≡ blocks_with e (grouped bs)
     grouped-with tree.Nil = refl
@@ -218,36 +173,17 @@ module _ (e : LineEnding) where
 
   has_gap_inside-with : (bs : tree.Blocks) → has_gap_inside (blocks_with e bs) ≡ has_gap_inside bs
   has_gap_inside-with tree.Nil = refl
-  has_gap_inside-with (tree.Cons (tree.Paragraph ls) bs) = has_gap_inside-with bs
-  has_gap_inside-with (tree.Cons (tree.Heading rank ls) bs) = has_gap_inside-with bs
-  has_gap_inside-with (tree.Cons tree.Break bs) = has_gap_inside-with bs
-  has_gap_inside-with (tree.Cons (tree.IndentedCode ls) bs) = has_gap_inside-with bs
-  has_gap_inside-with (tree.Cons (tree.FencedCode info is_closed ls) bs) = has_gap_inside-with bs
-  has_gap_inside-with (tree.Cons (tree.Html ls) bs) = has_gap_inside-with bs
-  has_gap_inside-with (tree.Cons (tree.Definition label destination title) bs) = has_gap_inside-with bs
   has_gap_inside-with (tree.Cons (tree.Holds c kids) bs) =
       ap (λ gap. gap || has_gap_inside (blocks_with e bs)) (has_gap-with kids) ∙ ap (λ inside. has_gap kids || inside) (has_gap_inside-with bs)
-  has_gap_inside-with (tree.Cons (tree.Items items) bs) = has_gap_inside-with bs
-  has_gap_inside-with (tree.Cons (tree.Ending ending) bs) = has_gap_inside-with bs
-  has_gap_inside-with (tree.Cons (tree.Blank ending) bs) = has_gap_inside-with bs
+  has_gap_inside-with (tree.Cons b bs) = has_gap_inside-with bs
 
   is_loose-with : (items : tree.Blocks) → is_loose (blocks_with e items) ≡ is_loose items
   is_loose-with items =
       ap (λ gap. gap || has_gap_inside (blocks_with e items)) (has_gap-with items) ∙ ap (λ inside. has_gap items || inside) (has_gap_inside-with items)
 
   list_number-with : (items : tree.Blocks) → list_number (blocks_with e items) ≡ list_number items
-  list_number-with tree.Nil = refl
-  list_number-with (tree.Cons (tree.Paragraph ls) bs) = refl
-  list_number-with (tree.Cons (tree.Heading rank ls) bs) = refl
-  list_number-with (tree.Cons tree.Break bs) = refl
-  list_number-with (tree.Cons (tree.IndentedCode ls) bs) = refl
-  list_number-with (tree.Cons (tree.FencedCode info is_closed ls) bs) = refl
-  list_number-with (tree.Cons (tree.Html ls) bs) = refl
-  list_number-with (tree.Cons (tree.Definition label destination title) bs) = refl
   list_number-with (tree.Cons (tree.Holds c kids) bs) = refl
-  list_number-with (tree.Cons (tree.Items items) bs) = refl
-  list_number-with (tree.Cons (tree.Ending ending) bs) = refl
-  list_number-with (tree.Cons (tree.Blank ending) bs) = refl
+  list_number-with bs = refl
 
   -- ---- the content of lines
 
@@ -282,7 +218,8 @@ module _ (e : LineEnding) where
 
     codes_content : (before : Kind) (cs : List ℕ) (ending : Option LineEnding) → Each Plain cs → IsFed ending
         → (WholeBefore ending cs)
-        → content_here before (codes_with e (map code_byte (cs ++ ending_code ending))) ≡ content_with e (content_here before (map code_byte (cs ++ ending_code ending)))
+        → content_here before (codes_with e (map code_byte (cs ++ ending_code ending)))
+        ≡ content_with e (content_here before (map code_byte (cs ++ ending_code ending)))
     codes_content before cs None h f w =
         let all = map code_byte (cs ++ []) in
         let clear : Each IsNoFeed all =
@@ -400,19 +337,8 @@ module _ (e : LineEnding) where
   cons_blank_fits (Some ending) bs f p = (f, p)
 
   without_ending-with : (bs : page.Blocks) → without_ending (page_blocks_with bs) ≡ page_blocks_with (without_ending bs)
-  without_ending-with page.Nil = refl
-  without_ending-with (page.Cons (page.Paragraph check is) bs) = refl
-  without_ending-with (page.Cons (page.Heading rank is) bs) = refl
-  without_ending-with (page.Cons page.Break bs) = refl
-  without_ending-with (page.Cons (page.IndentedCode ls) bs) = refl
-  without_ending-with (page.Cons (page.FencedCode info is_closed ls) bs) = refl
-  without_ending-with (page.Cons (page.Html ls) bs) = refl
-  without_ending-with (page.Cons page.Definition bs) = refl
-  without_ending-with (page.Cons (page.Quote kids) bs) = refl
-  without_ending-with (page.Cons (page.ItemList number loose items) bs) = refl
-  without_ending-with (page.Cons (page.Item kids) bs) = refl
   without_ending-with (page.Cons (page.Ending ending) bs) = refl
-  without_ending-with (page.Cons (page.Blank ending) bs) = refl
+  without_ending-with bs = refl
 
   without_ending_fits : (bs : page.Blocks) → PageFits bs → PageFits (without_ending bs)
   without_ending_fits (page.Cons (page.Ending ending) bs) p = p.1
@@ -565,18 +491,9 @@ module _ (e : LineEnding) where
   -- ---- whether the end is blank
 
   is_blank_ending-with : (b : tree.Block) → is_blank_ending (block_with e b) ≡ is_blank_ending b
-  is_blank_ending-with (tree.Paragraph ls) = refl
-  is_blank_ending-with (tree.Heading rank ls) = refl
-  is_blank_ending-with tree.Break = refl
-  is_blank_ending-with (tree.IndentedCode ls) = refl
-  is_blank_ending-with (tree.FencedCode info is_closed ls) = refl
-  is_blank_ending-with (tree.Html ls) = refl
-  is_blank_ending-with (tree.Definition label destination title) = refl
-  is_blank_ending-with (tree.Holds c kids) = refl
-  is_blank_ending-with (tree.Items items) = refl
-  is_blank_ending-with (tree.Ending ending) = refl
   is_blank_ending-with (tree.Blank None) = refl
   is_blank_ending-with (tree.Blank (Some ending)) = refl
+  is_blank_ending-with b = refl
 
   pub ends_blank-with : (before : Bool) (bs : tree.Blocks) → ends_blank before (blocks_with e bs) ≡ ends_blank before bs
   ends_blank-with before tree.Nil = refl

@@ -16,9 +16,9 @@ use Rattle.definition_page.specs.Pieces.{Piece, Open, Close, Void, Says, Eol, Fr
 use Rattle.definition_page.specs.InlinePieces.{Meaning, permitted_url, link_url, image_url, leads_to, url_of, titled, title_attribute, link_tag, image_tag, address, literal_address, math_tag, html_says, description, element, part_pieces, inline_pieces}
 use Rattle.laws_endings.specs.Endings.{with_ending, code_with, codes_with}
 use Rattle.laws_endings.specs.Inlines.{target_with, inline_with, inlines_with}
-use Rattle.laws_endings_page.proofs.Each.{Each, WhereSome}
-use Rattle.laws_endings_page.proofs.Fits.{Plain, TitleFits}
-use Rattle.laws_endings_page.proofs.InlineReads.{TargetFits, IsFit, AreFit}
+use Rattle.laws_endings_reads.proofs.Each.{Each, WhereSome}
+use Rattle.laws_endings_reads.proofs.Fits.{Plain, TitleFits}
+use Rattle.laws_endings_reads.proofs.InlineReads.{TargetFits, IsFit, AreFit}
 use Rattle.laws_endings_page.proofs.Bytes.{IsNoFeed, percent_no_feed, encode-with, eol-with, fresh-with}
 use Rattle.laws_endings_page.proofs.Saids.{plain_no_feed, plains_no_feed, codes-kept, string_text-with, SaidWith, SaidsWith, then-with, says_one, words-kept, html_says-with, description-with}
 
@@ -94,7 +94,8 @@ module _ (e : LineEnding) where
   pub no_pieces : PiecesWith [] []
   no_pieces out = refl
 
-  pub append-with : (others ones others' ones' : List Piece) → PiecesWith others ones → PiecesWith others' ones' → PiecesWith (others ++ others') (ones ++ ones')
+  pub append-with : (others ones others' ones' : List Piece) → PiecesWith others ones → PiecesWith others' ones'
+      → PiecesWith (others ++ others') (ones ++ ones')
   append-with others ones others' ones' p q out =
       fold-append (print (ending_bytes e)) (with_ending e out) others others'
       ∙ ap (λ t. printed_with t others') (p out)
@@ -128,7 +129,8 @@ module _ (e : LineEnding) where
   pub eol_piece-with : PiecesWith (Eol ∷ []) (Eol ∷ [])
   eol_piece-with out = bytes_printed out (ending_bytes e) default default-with
 
-  fresh_by : (out : List ℕ) (fresh : Bool) → cond fresh (with_ending e out) (with_ending e out ++ ending_bytes e) ≡ with_ending e (cond fresh out (out ++ default))
+  fresh_by : (out : List ℕ) (fresh : Bool)
+      → cond fresh (with_ending e out) (with_ending e out ++ ending_bytes e) ≡ with_ending e (cond fresh out (out ++ default))
   fresh_by out true = refl
   fresh_by out false = bytes_printed out (ending_bytes e) default default-with
 
@@ -304,7 +306,8 @@ module _ (e : LineEnding) where
       part-with (Character bytes) p = absurd (true≢false p)
       part-with (Code text) p = element-with (codes "code") [] [] (Says (Words text) ∷ []) (Says (Words text) ∷ []) refl refl (text_piece text p)
       part-with (Math text) p =
-          element-with (codes "code") math_tag.attributes math_tag.attributes (Says (Words text) ∷ []) (Says (Words text) ∷ []) refl same_attributes (text_piece text p)
+          element-with (codes "code") math_tag.attributes math_tag.attributes (Says (Words text) ∷ []) (Says (Words text) ∷ []) refl same_attributes
+          (text_piece text p)
       part-with (Autolink is_email text) p =
           subst (λ t. PiecesWith (part_pieces meaning_with (Autolink is_email t)) (part_pieces m (Autolink is_email text)))
           (sym (codes-kept e text (plains_no_feed text p))) (autolink_piece is_email text p)
@@ -315,7 +318,8 @@ module _ (e : LineEnding) where
       part-with EscapedBreak p = void_piece-with (codes "br") [] [] refl refl
       part-with TrailingBreak p = void_piece-with (codes "br") [] [] refl refl
       part-with (LineEnd code) p = said-with (EndOfLine (code_with e code)) (EndOfLine code) (eol-with e code p.1)
-      part-with (Emphasis kids) p = element-with (codes "em") [] [] (inline_pieces meaning_with (inlines_with e kids)) (inline_pieces m kids) refl refl (inlines-with kids p)
+      part-with (Emphasis kids) p =
+          element-with (codes "em") [] [] (inline_pieces meaning_with (inlines_with e kids)) (inline_pieces m kids) refl refl (inlines-with kids p)
       part-with (Strong kids) p =
           element-with (codes "strong") [] [] (inline_pieces meaning_with (inlines_with e kids)) (inline_pieces m kids) refl refl (inlines-with kids p)
       part-with (Strikethrough kids) p =

@@ -23,9 +23,9 @@ use Rattle.laws_endings.specs.Inlines.{inline_with, inlines_with}
 use Rattle.laws_endings.proofs.Codes.{cond-under, same_code, prefix_len-with}
 use Rattle.laws_endings.proofs.Leaves.{found_with, if_found, or_else-with, same_byte, escape_at-with, line_end_at-with, bare-with, reference_at-with}
 use Rattle.laws_endings.proofs.Contents.{or_none, end_none}
-use Rattle.laws_endings_page.proofs.Each.{Each, each-append, each-drop, each_filter}
-use Rattle.laws_endings_page.proofs.Fits.{Single, Plain}
-use Rattle.laws_endings_page.proofs.InlineReads.{IsFit, AreFit, LeafFits, BeginsFit, begin_or, escape_fits, reference_fits, line_end_fits}
+use Rattle.laws_endings_reads.proofs.Each.{Each, each-append, each-drop, each_filter}
+use Rattle.laws_endings_reads.proofs.Fits.{Single, Plain}
+use Rattle.laws_endings_reads.proofs.InlineReads.{IsFit, AreFit, LeafFits, BeginsFit, begin_or, escape_fits, reference_fits, line_end_fits}
 use Rattle.laws_endings_page.proofs.Bytes.{IsNoFeed, filtered_no_feed, with-append, kept, plain-with, encode-with, eol-with}
 
 pub plain_no_feed : (c : ℕ) → Plain c → IsNoFeed c

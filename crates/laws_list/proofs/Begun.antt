@@ -19,7 +19,7 @@ use Rattle.definition_block.specs.HeadingAtx.{Atx, heading_atx}
 use Rattle.definition_block.specs.HeadingSetext.{underline}
 use Rattle.definition_block.specs.ThematicBreak.{is_break}
 use Rattle.definition_block.specs.Definitions.{Cut, cut_into, cut_after, cut_most, cut}
-use Rattle.definition_block.specs.Tree.{BlockLine, own_lines, Paragraph, Heading, Break, IndentedCode, FencedCode, Html, Definition, Holds, Items, Ending, Blank, Blocks, Nil, Cons, join, one, ended, OpenLeaf, Text, Indented, Fenced, OpenHtml, Opening, Leaf, Inside, Tree, tree, nothing, with_paragraph, holds, close, has_text, leaf_with_line, with_line, rest_line, html_with, takes, or_heading, or_fence, or_html, begins, after, break_or_text, text_line_of, text_here, heading_of, underlined, turns, begun, taken, leaf_line, beside_in, start, new, is_nothing, is_one_blank, began_blank, goes_on, grow}
+use Rattle.definition_block.specs.Tree.{BlockLine, own_lines, Break, Blank, Blocks, Nil, Cons, join, one, ended, OpenLeaf, Text, Indented, Fenced, OpenHtml, Opening, Leaf, Inside, Tree, tree, nothing, with_paragraph, holds, close, has_text, leaf_with_line, with_line, rest_line, html_with, takes, or_heading, or_fence, or_html, begins, after, break_or_text, text_line_of, text_here, heading_of, underlined, turns, begun, taken, leaf_line, beside_in, start, new, is_nothing, is_one_blank, began_blank, goes_on, grow}
 
 -- the first of these blocks is there, and is no blank line
 abbrev IsDark : Blocks → Type 0
@@ -43,30 +43,12 @@ SomeBegun (Some t) = IsBegun t
 dark_join : (bs others : Blocks) → IsDark bs → IsDark (join bs others)
 dark_join Nil others d = absurd (true≢false d)
 dark_join (Cons (Blank ending) bs) others d = absurd (true≢false d)
-dark_join (Cons (Paragraph ls) bs) others d = tt
-dark_join (Cons (Heading rank ls) bs) others d = tt
-dark_join (Cons Break bs) others d = tt
-dark_join (Cons (IndentedCode ls) bs) others d = tt
-dark_join (Cons (FencedCode info is_closed ls) bs) others d = tt
-dark_join (Cons (Html ls) bs) others d = tt
-dark_join (Cons (Definition label destination title) bs) others d = tt
-dark_join (Cons (Holds c kids) bs) others d = tt
-dark_join (Cons (Items items) bs) others d = tt
-dark_join (Cons (Ending ending) bs) others d = tt
+dark_join (Cons b bs) others d = tt
 
 dark_one : (bs : Blocks) → IsDark bs → is_one_blank bs ≡ false
 dark_one Nil d = refl
 dark_one (Cons (Blank ending) bs) d = absurd (true≢false d)
-dark_one (Cons (Paragraph ls) bs) d = refl
-dark_one (Cons (Heading rank ls) bs) d = refl
-dark_one (Cons Break bs) d = refl
-dark_one (Cons (IndentedCode ls) bs) d = refl
-dark_one (Cons (FencedCode info is_closed ls) bs) d = refl
-dark_one (Cons (Html ls) bs) d = refl
-dark_one (Cons (Definition label destination title) bs) d = refl
-dark_one (Cons (Holds c kids) bs) d = refl
-dark_one (Cons (Items items) bs) d = refl
-dark_one (Cons (Ending ending) bs) d = refl
+dark_one (Cons b bs) d = refl
 
 -- so nothing was read that is a blank line alone
 pub begun_blank : (t : Tree) → IsBegun t → began_blank t.done t.now ≡ false
@@ -158,7 +140,8 @@ module _ (on : Constructs) where
   close_dark (Inside c kids inner) h = holds_dark c (join kids (close on inner))
 
   closed_nothing : NoneOrDark (close on nothing)
-  closed_nothing = cond_both on.definition (cut_most 0 []) (cut_into Nil []) (λ (parts : Cut). NoneOrDark (with_paragraph parts)) (λ _. inl refl) (λ _. inl refl)
+  closed_nothing =
+      cond_both on.definition (cut_most 0 []) (cut_into Nil []) (λ (parts : Cut). NoneOrDark (with_paragraph parts)) (λ _. inl refl) (λ _. inl refl)
 
   close_either : (now : Opening) → NoneOrDark (close on now)
   close_either (Leaf (Text [])) = closed_nothing

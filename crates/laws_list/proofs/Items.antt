@@ -72,7 +72,8 @@ module _ (on : Constructs) (items : on.list_item ≡ true) where
   new-listed before most c cs line h =
       let rest = 43 ∷ 32 ∷ c ∷ cs in
       let beside = beside_line before line in
-      ap (λ o. start on o nothing (leaf_line on nothing rest beside) (λ s. new most on true nothing (beside_in s.container rest beside) s.rest)) (starts_item c cs h)
+      ap (λ o. start on o nothing (leaf_line on nothing rest beside) (λ s. new most on true nothing (beside_in s.container rest beside) s.rest))
+      (starts_item c cs h)
       ∙ after-nothing on (in_item (new most on true nothing (beside_line Whitespace line) (c ∷ cs)))
 
   step_codes : (before : Kind) (line : TextLine) (codes : Rest) → begins_dark codes ≡ true

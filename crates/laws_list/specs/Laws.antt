@@ -42,11 +42,13 @@ item_of kids = one (Holds plus_item kids)
 -- spaces before every other; the endings at their end stand after it
 abbrev pub ListLaw : Type 0
 ListLaw =
-    (on : Constructs) (before : Kind) (text : List ℕ) → on.list_item ≡ true → on.frontmatter ≡ false → begins_dark (first_line text).content ≡ true → HasNoTab text
+    (on : Constructs) (before : Kind) (text : List ℕ) → on.list_item ≡ true → on.frontmatter ≡ false
+    → begins_dark (first_line text).content ≡ true → HasNoTab text
     → let kids = blocks on Whitespace text in blocks on before (listed text) ≡ join (item_of (front kids)) (trailing kids)
 
 -- the link reference definitions are the same in an item
 abbrev pub ListDefinitionsLaw : Type 0
 ListDefinitionsLaw =
-    (on : Constructs) (before : Kind) (text : List ℕ) → on.list_item ≡ true → on.frontmatter ≡ false → begins_dark (first_line text).content ≡ true → HasNoTab text
+    (on : Constructs) (before : Kind) (text : List ℕ) → on.list_item ≡ true → on.frontmatter ≡ false
+    → begins_dark (first_line text).content ≡ true → HasNoTab text
     → definitions (blocks on before (listed text)) ≡ definitions (blocks on Whitespace text)

@@ -1,4 +1,5 @@
-//! What a text with `+ ` before its first line and two spaces before every other prints: a list of one item around the text's page, but for line endings beside tags.
+//! The page of a text with `+ ` before its first line and two spaces before every other: a list of one item around the text's page,
+//! but for line endings beside tags.
 #![tactic(auto)]
 
 pub mod laws;

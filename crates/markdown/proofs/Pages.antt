@@ -12,10 +12,11 @@ use Rattle.laws_safe_page.proofs.SafeHtml.{safe_page_law}
 use Rattle.laws_quote.specs.Quoted.{quoted}
 use Rattle.laws_quote_page.specs.Squeeze.{squeeze}
 use Rattle.laws_quote_page.proofs.Law.{quote_page_law}
+use Rattle.laws_list_page.proofs.Law.{list_page_law}
 use Rattle.laws_endings_page.proofs.Law.{ending_page_law}
 use Rattle.laws_escape.proofs.EscapedPage.{escaped_page_law}
 use Rattle.laws_inline.specs.Escaped.{escaped}
-use Rattle.markdown.specs.PageLaws.{QuotesPage, SaysEscapedLine, EndsPage}
+use Rattle.markdown.specs.PageLaws.{QuotesPage, SaysEscapedLine, EndsPage, ListsPage}
 
 pub marked_page : (tables : TextTables) (options : Options) (text : List ℕ) (before : Kind) (rest page : List ℕ)
     → before ≡ kind_before_text text → rest ≡ without_mark text → page ≡ marked_html tables before rest options → page ≡ html tables text options
@@ -40,3 +41,7 @@ says_escaped_line tables options value page is line same escapes some trimmed no
 
 pub ends_page : (tables : TextTables) (options : Options) (value page : List ℕ) → page ≡ html tables value options → EndsPage tables options value page
 ends_page tables options value page is e text same feeds = is ∙ ap (λ t. html tables t options) same ∙ ending_page_law e tables text options feeds
+
+pub lists_page : (tables : TextTables) (options : Options) (value page : List ℕ) → page ≡ html tables value options → ListsPage tables options value page
+lists_page tables options value page is text same listable =
+    ap squeeze (is ∙ ap (λ t. html tables t options) same) ∙ list_page_law tables text options listable

@@ -6,6 +6,8 @@ use Rattle.definition_text.specs.Encode.{encode}
 use Rattle.definition_text.specs.Lines.{has_mark}
 use Rattle.markdown_definition.specs.Html.{html}
 use Rattle.markdown_definition.specs.TextTables.{TextTables}
+use Rattle.laws_list.specs.Listed.{listed}
+use Rattle.laws_list_page.specs.Laws.{IsListable, list_around}
 use Rattle.laws_endings.specs.Endings.{with_ending}
 use Rattle.laws_endings_page.specs.Laws.{EndsInFeeds}
 use Rattle.laws_inline.specs.Escaped.{escaped, IsTrimmedLine}
@@ -29,3 +31,10 @@ SaysEscapedLine options value page =
 abbrev pub EndsPage : TextTables → Options → List ℕ → List ℕ → Type 0
 EndsPage tables options value page =
     (e : LineEnding) (text : List ℕ) → value ≡ with_ending e text → EndsInFeeds text → page ≡ with_ending e (html tables text options)
+
+-- the page of a text with `+ ` before its first line and two spaces before every other is a list of one item around the page of that text, but for
+-- line endings beside tags
+abbrev pub ListsPage : TextTables → Options → List ℕ → List ℕ → Type 0
+ListsPage tables options value page =
+    (text : List ℕ) → value ≡ listed text → IsListable text options.parse.constructs
+    → squeeze page ≡ squeeze (list_around (html tables text options))

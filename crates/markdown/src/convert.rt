@@ -6,7 +6,7 @@ ghost use Rattle.markdown_options.specs.Defaults.{default_options};
 ghost use Rattle.markdown_definition.specs.Html.{html};
 ghost use Rattle.html_bytes.specs.Html.{marked_html, default_ending};
 ghost use Rattle.laws_safe_page.specs.SafeHtml.{AreSafe, HasOneReading};
-ghost use Rattle.markdown.specs.PageLaws.{QuotesPage, SaysEscapedLine, EndsPage};
+ghost use Rattle.markdown.specs.PageLaws.{QuotesPage, SaysEscapedLine, EndsPage, ListsPage};
 ghost use Rattle.markdown_tables.specs.Builtin.{builtin_tables};
 ghost use Rattle.markdown_definition.specs.TextTables.{text_tables};
 
@@ -33,8 +33,9 @@ pub fn fits(value: &str) -> bool
 /// The HTML of a text, with the default options and the tables that are built in.
 ///
 /// The text fits. The only error is want of memory. The HTML is a safe page, and has one reading
-/// as such. A text with `> ` before every line gives the quote of that text's HTML, an escaped line
-/// a paragraph that says it, and a text with another line ending that text's HTML with that ending.
+/// as such. A text with `> ` before every line gives the quote of that text's HTML, one with `+ `
+/// before its first line and two spaces before every other a list around it, an escaped line a
+/// paragraph that says it, and a text with another line ending that text's HTML with that ending.
 pub fn to_html<A: Allocator + Clone>(alloc: A, value: &str) -> Result<String<A>, Message>
     requires size { length value.now ≤ SIZE_MAX }
     ensures page { IfOk result (λ page. string_bytes page ≡ html builtin_tables value.now default_options) }
@@ -42,6 +43,7 @@ pub fn to_html<A: Allocator + Clone>(alloc: A, value: &str) -> Result<String<A>,
     ensures quotes { IfOk result (λ page. QuotesPage builtin_tables default_options value.now (string_bytes page)) }
     ensures escaped { IfOk result (λ page. SaysEscapedLine default_options value.now (string_bytes page)) }
     ensures endings { IfOk result (λ page. EndsPage builtin_tables default_options value.now (string_bytes page)) }
+    ensures lists { IfOk result (λ page. ListsPage builtin_tables default_options value.now (string_bytes page)) }
     ensures memory { IfErr result (λ message. IsOutOfMemory message) }
 {
     to_html_with_options(alloc, value, &Options::default())
@@ -52,8 +54,9 @@ pub fn to_html<A: Allocator + Clone>(alloc: A, value: &str) -> Result<String<A>,
 /// The text fits, and the options turn on only constructs that are built, which
 /// `ParseOptions::built` tests. The only error is want of memory. Under safe options the HTML is
 /// a safe page, and has one reading as such. A text with `> ` before every line gives the quote of
-/// that text's HTML, an escaped line a paragraph that says it, and a text with another line ending
-/// that text's HTML with that ending.
+/// that text's HTML, one with `+ ` before its first line and two spaces before every other a list
+/// around it, an escaped line a paragraph that says it, and a text with another line ending that
+/// text's HTML with that ending.
 pub fn to_html_with_options<A: Allocator + Clone>(
     alloc: A,
     value: &str,
@@ -66,6 +69,7 @@ pub fn to_html_with_options<A: Allocator + Clone>(
     ensures quotes { IfOk result (λ page. QuotesPage builtin_tables options.now value.now (string_bytes page)) }
     ensures escaped { IfOk result (λ page. SaysEscapedLine options.now value.now (string_bytes page)) }
     ensures endings { IfOk result (λ page. EndsPage builtin_tables options.now value.now (string_bytes page)) }
+    ensures lists { IfOk result (λ page. ListsPage builtin_tables options.now value.now (string_bytes page)) }
     ensures memory { IfErr result (λ message. IsOutOfMemory message) }
 {
     to_html_with_tables(alloc, value, options, &Builtin)
@@ -76,8 +80,9 @@ pub fn to_html_with_options<A: Allocator + Clone>(
 /// The text fits, and the options turn on only constructs that are built, which
 /// `ParseOptions::built` tests. The only error is want of memory. Under safe options the HTML is
 /// a safe page, and has one reading as such. A text with `> ` before every line gives the quote of
-/// that text's HTML, an escaped line a paragraph that says it, and a text with another line ending
-/// that text's HTML with that ending.
+/// that text's HTML, one with `+ ` before its first line and two spaces before every other a list
+/// around it, an escaped line a paragraph that says it, and a text with another line ending that
+/// text's HTML with that ending.
 pub fn to_html_with_tables<T: Tables, A: Allocator + Clone>(
     alloc: A,
     value: &str,
@@ -94,6 +99,8 @@ pub fn to_html_with_tables<T: Tables, A: Allocator + Clone>(
     ensures escaped { IfOk result (λ page. SaysEscapedLine options.now value.now (string_bytes page)) }
     ensures endings { IfOk result (λ page.
         EndsPage (text_tables (T.reference_of tables.now) (T.punctuation_of tables.now)) options.now value.now (string_bytes page)) }
+    ensures lists { IfOk result (λ page.
+        ListsPage (text_tables (T.reference_of tables.now) (T.punctuation_of tables.now)) options.now value.now (string_bytes page)) }
     ensures memory { IfErr result (λ message. IsOutOfMemory message) }
 {
     let (before, text) = without_mark(value);

@@ -1,6 +1,6 @@
 use Rattle.std.specs.Prelude.{string_bytes}
 use Rattle.markdown_definition.specs.TextTables.{text_tables}
-use Rattle.markdown.proofs.Pages.{marked_page, safe_page, quotes_page, says_escaped_line, ends_page}
+use Rattle.markdown.proofs.Pages.{marked_page, safe_page, quotes_page, says_escaped_line, ends_page, lists_page}
 use Rattle.markdown.proofs.convert.to_html_with_tables.Goals as goal
 
 pub returns-clause-page : goal.returns-clause-page
@@ -28,3 +28,8 @@ pub returns-clause-endings : goal.returns-clause-endings
 returns-clause-endings g c =
     let tables = text_tables (g.T.Tables.reference_of c.args.tables.now) (g.T.Tables.punctuation_of c.args.tables.now) in
     ends_page tables c.args.options.now c.args.value.now (string_bytes c.in_ok-page.page) (returns-clause-page g c)
+
+pub returns-clause-lists : goal.returns-clause-lists
+returns-clause-lists g c =
+    let tables = text_tables (g.T.Tables.reference_of c.args.tables.now) (g.T.Tables.punctuation_of c.args.tables.now) in
+    lists_page tables c.args.options.now c.args.value.now (string_bytes c.in_ok-page.page) (returns-clause-page g c)

@@ -5,7 +5,8 @@ use Rattle.std.specs.Str.{encode_utf8_all, all_scalars}
 use lib.Utf8.{scalar_cases}
 use Rattle.std.proofs.lemmas.Bool.{cases_lt, cond-true, cond-false, lt-ltb, le-ltb, le-leb, and_left, and_from, and_right, lt-leb, ne_eqb, and_parts, both_ways}
 use Rattle.definition_text.specs.InlineCode.{is_continuation}
-use Rattle.laws_endings_page.proofs.Each.{Each}
+use Rattle.laws_endings_reads.specs.Runs.{may_mark}
+use Rattle.laws_endings_reads.proofs.Each.{Each}
 
 -- how many bytes of a character follow its first
 abbrev pub need : ℕ → ℕ
@@ -21,10 +22,6 @@ Begins (suc n) (c ∷ cs) = (is_continuation c ≡ true) × Begins n cs
 abbrev pub continues_one : List ℕ → Bool
 continues_one [] = false
 continues_one (c ∷ cs) = is_continuation c
-
--- a byte whose runs may form spans
-abbrev pub may_mark : ℕ → Bool
-may_mark c = eqb c 42 || (eqb c 95 || eqb c 126)
 
 -- the bytes of a character that begins here follow it, and after such a byte a character begins
 abbrev pub IsWhole : ℕ → List ℕ → Type 0

@@ -31,9 +31,9 @@ use Rattle.definition_block.specs.ThematicBreak.{is_break}
 use Rattle.definition_block.specs.Definitions.{lines_before, Cut, cut_into, defined, cut_after, cut_most, cut}
 use Rattle.definition_block.specs.Tree.{Block, Paragraph, Heading, Break, IndentedCode, FencedCode, Html, Definition, Holds, Items, Ending, Blank, Blocks, Nil, Cons, join, one, ended, OpenLeaf, Text, Indented, Fenced, OpenHtml, Opening, Leaf, Inside, Tree as BlockTree, tree, nothing, empty_tree, blanks, paragraph_of, close_leaf, is_ending, all_endings, front, trailing, without_last, last_of, holds, close, leaf_text, has_text, leaf_with_line, with_line, rest_line, html_with, takes, or_heading, or_fence, or_html, begins, after, break_or_text, text_line_of, text_here, heading_of, underlined, turns, begun, taken, leaf_line, beside_in, start, new, began_blank, goes_on, grow, beside_line, step, steps, children, children_after, blocks}
 use Rattle.laws_endings.proofs.Rests.{FineRest, FineStarted, starts-fine, continues-fine}
-use Rattle.laws_endings_page.proofs.Each.{Each, each-append, each-take, each-drop, each_filter, WhereSome, where_passed}
-use Rattle.laws_endings_page.proofs.Characters.{IsWhole, AreWhole}
-use Rattle.laws_endings_page.proofs.Fits.{Single, Plain, TitleFits, DefinitionFits, definition_fits}
+use Rattle.laws_endings_reads.proofs.Each.{Each, each-append, each-take, each-drop, each_filter, WhereSome, where_passed}
+use Rattle.laws_endings_reads.proofs.Characters.{IsWhole, AreWhole}
+use Rattle.laws_endings_reads.proofs.Fits.{Single, Plain, TitleFits, DefinitionFits, definition_fits}
 
 -- ---- what is fit
 
@@ -172,7 +172,8 @@ last_fits ls p = last_or_fits None ls tt p
 ended_fits : (b : Block) (ending : Option LineEnding) → BlockFits b → IsFed ending → BlocksFit (ended b ending)
 ended_fits b ending p f = (p, (f, tt))
 
-more_fit : (ls : List BlockLine) (rest : Rest) (beside : Beside) → LinesFit ls → RestFits rest → IsFed beside.ending → LinesFit (ls ++ rest_line rest beside ∷ [])
+more_fit : (ls : List BlockLine) (rest : Rest) (beside : Beside) → LinesFit ls → RestFits rest → IsFed beside.ending
+    → LinesFit (ls ++ rest_line rest beside ∷ [])
 more_fit ls rest beside p q f = each-append LineFits ls (rest_line rest beside ∷ []) p (rest_line_fits rest beside q f, tt)
 
 singles : (cs : List ℕ) → Each Plain cs → Each Single cs
@@ -238,8 +239,11 @@ cut_after_fits : (o : Option LinkDefinition) (ls : List BlockLine) (more : List 
 cut_after_fits None ls more d p h = (tt, p)
 cut_after_fits (Some d) ls more q p h =
     let count = lines_before d.rest ls in
-    let others = h (drop count ls) (each-drop LineFits count ls p) in
-    (join_fits (defined d (take count ls)) (more (drop count ls)).definitions (q, (last_fits (take count ls) (each-take LineFits count ls p), tt)) others.0, others.1)
+    let others = h (drop count ls) (each-drop LineFits count ls p) in (
+      join_fits (defined d (take count ls)) (more (drop count ls)).definitions
+          (q, (last_fits (take count ls) (each-take LineFits count ls p), tt)) others.0,
+      others.1,
+    )
 
 cut_most_fits : (most : ℕ) (ls : List BlockLine) → LinesFit ls → CutFits (cut_most most ls)
 cut_most_fits zero ls p = (tt, p)

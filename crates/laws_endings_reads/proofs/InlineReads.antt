@@ -29,10 +29,10 @@ use Rattle.definition_inline.specs.Pairing.{Pair, pairs}
 use Rattle.definition_inline.specs.Spans.{Token, Item, Delimiters, runs_of, Span, IsEmphasis, IsStrong, IsStrikethrough, span_of, SpanRow, Holds, Opens, Closes, bytes_taken, run_rows, rows_from, OpenSpan, Nest, nest, spanned, leave, nest_row, emphasized}
 use Rattle.definition_inline.specs.Scan.{InlineContext, leaf_at, LabelStart, LinkStart, ImageStart, label_start_at, start_tokens, may_form, label_part, Text, text, OpenLabel, Reading, reading, read_tokens, unformed, formed, Step, Next, data_step, ended_step, ended_by, label_end_step, last_step, label_step, run_step, leaf_step, step, and_then, scan, whole_text, inlines, inlines_from, unindented}
 use Rattle.laws_endings.proofs.Contents.{no_ending}
-use Rattle.laws_endings_page.proofs.Each.{Each, each-append, each-take, each-drop, each_map, each_same, WhereSome, where_passed}
-use Rattle.laws_endings_page.proofs.Characters.{may_mark}
-use Rattle.laws_endings_page.proofs.Neighbours.{marker_marks}
-use Rattle.laws_endings_page.proofs.Fits.{Single, Plain, each_plain, no_ending_by, plain_byte, all_passed, Apart, before_apart, after_all_apart, after_byte_apart, apart_from, white_fits, PartFits, title_fits, DestinationFits, destination_fits, TitleFits, code_text_fits}
+use Rattle.laws_endings_reads.specs.Runs.{may_mark}
+use Rattle.laws_endings_reads.proofs.Each.{Each, each-append, each-take, each-drop, each_map, each_same, WhereSome, where_passed}
+use Rattle.laws_endings_reads.proofs.Neighbours.{marker_marks}
+use Rattle.laws_endings_reads.proofs.Fits.{Single, Plain, each_plain, no_ending_by, plain_byte, all_passed, Apart, before_apart, after_all_apart, after_byte_apart, apart_from, white_fits, PartFits, title_fits, DestinationFits, destination_fits, TitleFits, code_text_fits}
 
 -- where something leads: a destination without line endings, and a title
 abbrev pub TargetFits : Target → Type 0
@@ -159,7 +159,8 @@ uri_clear content =
     let colon = begins_with (codes ":") rest in
     cond_both (begins_with_scheme content && colon) (Some (after_uri rest)) None (EndsClear content)
     (λ h. apart_from content rest (after_uri rest) (after_all_apart is_scheme_byte content refl refl refl)
-    (after_byte_apart 58 rest (after_uri rest) refl (and_parts (begins_with_scheme content) colon h).1 (after_all_apart is_uri_byte (drop 1 rest) refl refl refl)))
+    (after_byte_apart 58 rest (after_uri rest) refl (and_parts (begins_with_scheme content) colon h).1
+    (after_all_apart is_uri_byte (drop 1 rest) refl refl refl)))
     (λ _. tt)
 
 email_clear : (content : List ℕ) → EndsClear content (email_end content)
@@ -265,7 +266,8 @@ run_fits ps place r h =
     (each-append RowFits closing (replicate left (Holds (Data r.marker)))
     (each_map (λ p. Unit {0}) RowFits (λ (p : Pair). Closes) closed (λ p q. tt) (always (λ p. Unit {0}) closed (λ p. tt)))
     (each_same RowFits left (Holds (Data r.marker)) h))
-    (each_map (λ p. Unit {0}) RowFits (λ (p : Pair). Opens (span_of r.marker p)) (reverse started) (λ p q. tt) (always (λ p. Unit {0}) (reverse started) (λ p. tt)))
+    (each_map (λ p. Unit {0}) RowFits (λ (p : Pair). Opens (span_of r.marker p)) (reverse started) (λ p q. tt)
+    (always (λ p. Unit {0}) (reverse started) (λ p. tt)))
 
 rows_fit : (ps : List Pair) (place : ℕ) (tokens : List Token) → Each TokenFits tokens → Each RowFits (rows_from ps place tokens)
 rows_fit ps place [] h = tt

@@ -6,11 +6,11 @@ use Rattle.definition_text.specs.Columns.{whole, codes_from, columns_after_tab, 
 use Rattle.definition_text.specs.InlineCode.{is_continuation}
 use Rattle.definition_text.specs.Lines.{TextLine, text_line, in_first_line, after_return, lines, first_of}
 use Rattle.laws_endings.proofs.Lines.{lines_after-byte}
-use Rattle.laws_endings_page.proofs.Each.{Each, each-append, each_same}
-use Rattle.laws_endings_page.proofs.Characters.{Begins, continues_one, need, IsWhole, AreWhole, IsTextByte}
-use Rattle.laws_endings_page.proofs.Neighbours.{no_feed}
-use Rattle.laws_endings_page.proofs.Fits.{Plain}
-use Rattle.laws_endings_page.proofs.BlockReads.{IsFed, RestFits, TextLineFits, TextLinesFit}
+use Rattle.laws_endings_reads.proofs.Each.{Each, each-append, each_same}
+use Rattle.laws_endings_reads.proofs.Characters.{Begins, continues_one, need, IsWhole, AreWhole, IsTextByte}
+use Rattle.laws_endings_reads.proofs.Neighbours.{no_feed}
+use Rattle.laws_endings_reads.proofs.Fits.{Plain}
+use Rattle.laws_endings_reads.proofs.BlockReads.{IsFed, RestFits, TextLineFits, TextLinesFit}
 
 -- a byte that is neither CR nor `&`, and no code besides
 abbrev pub ByteFits : ℕ → Type 0
@@ -34,7 +34,8 @@ bytes_from column (b ∷ bs) p =
     let next = codes_from (column + 1) bs in
     cond_both (eqb b 9) (9 ∷ (replicate n tab_column ++ others)) (b ∷ next) (λ cs. bytes_of cs ≡ b ∷ bs)
     (λ h. ap (λ more. 9 ∷ more) (columns_gone n others ∙ bytes_from (column + 1 + n) bs p.1) ∙ ap (λ x. x ∷ bs) (sym (eqb-true b 9 h)))
-    (λ _. cond-true (is_byte b) (b ∷ bytes_of next) (bytes_of next) (not_from_false (eqb b 256) p.0.0.1.1.0) ∙ ap (λ more. b ∷ more) (bytes_from (column + 1) bs p.1))
+    (λ _. cond-true (is_byte b) (b ∷ bytes_of next) (bytes_of next) (not_from_false (eqb b 256) p.0.0.1.1.0)
+    ∙ ap (λ more. b ∷ more) (bytes_from (column + 1) bs p.1))
 
 byte_plain : (b : ℕ) → LineByteFits b → Plain b
 byte_plain b p = ((p.0.1.0, p.0.1.1.1), or_from _ (eqb b 257) (or_from (eqb b 10) (eqb b 13) p.1 p.0.0) p.0.1.1.1)
@@ -71,7 +72,8 @@ begins_line (suc n) (b ∷ bs) p h =
 continues_by : (b : ℕ) (bs : List ℕ) → Each ByteFits (b ∷ bs) → is_continuation b ≡ false → (feed : Bool) → eqb b 10 ≡ feed
     → continues_one (first_of (lines (b ∷ bs))).content ≡ false
 continues_by b bs p h true k =
-    ap (λ feed. continues_one (first_of (cond feed (text_line [] (Some LineFeed) ∷ lines bs) (cond (eqb b 13) (after_return bs (lines bs)) (in_first_line b (lines bs))))).content) k
+    let ls = lines bs in
+    ap (λ feed. continues_one (first_of (cond feed (text_line [] (Some LineFeed) ∷ ls) (cond (eqb b 13) (after_return bs ls) (in_first_line b ls)))).content) k
 continues_by b bs p h false k =
     ap (λ ls. continues_one (first_of ls).content) (lines_after-byte b bs k p.0.0) ∙ ap continues_one (first_content b (lines bs)) ∙ h
 

@@ -11,7 +11,7 @@ use Rattle.definition_inline.specs.Label.{ends_label, label_end, is_label, if_la
 use Rattle.definition_inline.specs.Destination.{ends_angle, angle_end, open_after, is_too_deep, ends_bare, bare_end, unless_empty, if_any, destination_at}
 use Rattle.definition_inline.specs.Title.{ends_title, ends_blank_line, title_end, title_close, title_until, title_at}
 use Rattle.definition_inline.specs.CodeText.{code_space, is_padded, code_text}
-use Rattle.laws_endings_page.proofs.Each.{Each, each-append, each-take, each-drop, WhereSome}
+use Rattle.laws_endings_reads.proofs.Each.{Each, each-append, each-take, each-drop, WhereSome}
 
 -- a code that begins no character reference and isn't that of CR LF
 abbrev pub Single : ℕ → Type 0
@@ -98,7 +98,8 @@ first_apart b (c ∷ cs) h is =
     apart_more c cs cs (ap is_eol (sym same) ∙ h) (apart_here cs)
 
 -- the same, with what follows the first byte
-pub after_byte_apart : (b : ℕ) (content rest : List ℕ) → is_eol b ≡ false → begins_with (b ∷ []) content ≡ true → Apart (drop 1 content) rest → Apart content rest
+pub after_byte_apart : (b : ℕ) (content rest : List ℕ) → is_eol b ≡ false → begins_with (b ∷ []) content ≡ true
+    → Apart (drop 1 content) rest → Apart content rest
 after_byte_apart b content rest h is a = apart_then content (drop 1 content) rest (first_apart b content h is) a
 
 pub apart_from : (content middle rest : List ℕ) → Apart content middle → Apart middle rest → Apart content rest

@@ -1,5 +1,5 @@
 -- What stands beside the codes of a line with another ending: the same wherever a run may stand.
-use Rattle.std.proofs.Common.{◌≡◌, ℕ, zero, suc, ◌+◌, ◌-◌, ◌*◌, ◌<◌, Bool, true, false, cond, eqb, ltb, ◌||◌, ◌&&◌, List, [], ◌∷◌, Option, None, Some, ⊎_elim, refl, sym, ap, ◌∙◌, arith, map, drop, slice_index, slice_index_or}
+use Rattle.std.proofs.Common.{◌≡◌, ℕ, zero, suc, ◌+◌, ◌-◌, ◌*◌, ◌<◌, Bool, true, false, cond, eqb, ltb, ◌||◌, ◌&&◌, List, [], ◌∷◌, Option, None, Some, ⊎_elim, refl, sym, ap, ◌∙◌, arith, drop, map, slice_index, slice_index_or}
 use Rattle.std.specs.Option.{option_map}
 use Rattle.std.specs.List.{prefix_len}
 use Rattle.std.proofs.Math.ListN.{get_or-map}
@@ -20,27 +20,15 @@ use Rattle.laws_endings.specs.Endings.{code_with, codes_with}
 use Rattle.laws_endings.specs.Inlines.{inline_code_with, content_with}
 use Rattle.laws_endings.proofs.Codes.{same_code}
 use Rattle.laws_endings.proofs.Leaves.{same_byte}
-use Rattle.laws_endings_page.proofs.Each.{Each}
-use Rattle.laws_endings_page.proofs.Characters.{need, Begins, continues_one, may_mark, IsWhole, AreWhole}
+use Rattle.laws_endings_reads.specs.Runs.{may_mark, flat_unless, tame, tamed, RunsLaw}
+use Rattle.laws_endings_reads.proofs.Each.{Each}
+use Rattle.laws_endings_reads.proofs.Characters.{need, Begins, continues_one, IsWhole, AreWhole}
 
 -- what passes a test that LF doesn't is no LF
 pub no_feed : (test : ℕ → Bool) (c : ℕ) → test 10 ≡ false → test c ≡ true → eqb c 10 ≡ false
 no_feed test c h k = false_from_ne_true (eqb c 10) (λ is. both_ways (test c) (ap test (eqb-true c 10 is) ∙ h) k)
 
 -- ---- kinds count where a run may stand alone
-
--- a code that no run has, between no kinds
-abbrev flattened : InlineCode → InlineCode
-flattened c = inline_code c.code c.previous Whitespace Whitespace
-
-abbrev flat_unless : Bool → InlineCode → InlineCode
-flat_unless marks c = cond marks c (flattened c)
-
-abbrev pub tame : InlineCode → InlineCode
-tame c = flat_unless (may_mark c.code) c
-
-abbrev pub tamed : List InlineCode → List InlineCode
-tamed content = map tame content
 
 code_by : (marks : Bool) (c : InlineCode) → (flat_unless marks c).code ≡ c.code
 code_by true c = refl
@@ -242,3 +230,6 @@ module _ (e : LineEnding) where
         let next = next_kind p k (c ∷ cs) in
         ap (λ x. x ∷ tamed (with_kinds p (Some c) next after cs)) (kept_by first (may_mark c) h.0 same)
         ∙ ap (λ more. inline_code_with e (tame first) ∷ more) (kinds-kept (Some c) next after cs (ap Some (same_byte e c h.0)) h.1)
+
+pub runs_law : RunsLaw
+runs_law context content = tamed_inlines context content
