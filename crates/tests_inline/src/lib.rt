@@ -8,6 +8,8 @@ mod labels;
 #[cfg(test)]
 mod leaves;
 #[cfg(test)]
+mod literals;
+#[cfg(test)]
 mod references;
 #[cfg(test)]
 mod runs;

@@ -1,0 +1,75 @@
+//! Links with no brackets (GFM 6.9).
+use inline_content::whole_content;
+use inline_leaves::{LeafPart, LiteralKind};
+use inline_literals::{FoundAddress, first_address, literal_at};
+use markdown_options::Constructs;
+use std::test::Fail;
+use tests_helpers::Names;
+
+/// The kind and the text of the literal that a line begins with, and what follows it.
+fn first(line: &str) -> Option<(LiteralKind, &str, &str)> {
+    let content = whole_content(1, line);
+    let found = literal_at(&Constructs::gfm(), &Names, content, content.text())?;
+    match found.part {
+        LeafPart::Literal { kind, text } => Some((kind, text, found.after)),
+        _ => None,
+    }
+}
+
+#[test]
+fn literals(rt: HostRuntime) -> Result<(), Fail> {
+    let www = LiteralKind::Www;
+    let protocol = LiteralKind::Protocol;
+    let cases = [
+        ("www.a.b", Some((www, "www.a.b", ""))),
+        ("WwW.a👍b%c d", Some((www, "WwW.a👍b%c", " d"))),
+        ("www.a.b.,!?", Some((www, "www.a.b", ".,!?"))),
+        ("www.a.b&amp;&x1;", Some((www, "www.a.b", "&amp;&x1;"))),
+        ("www.a.b&;", Some((www, "www.a.b&", ";"))),
+        ("www.a(b))).", Some((www, "www.a(b)", "))."))),
+        ("www.a<b", Some((www, "www.a", "<b"))),
+        ("www.a]b](c", Some((www, "www.a]b", "](c"))),
+        ("www.a_b.c.d", Some((www, "www.a_b.c.d", ""))),
+        ("www.a_b.c", None),
+        ("www.a.b_c", None),
+        ("www.a.b/_c", Some((www, "www.a.b/_c", ""))),
+        ("www..a", None),
+        ("www.", None),
+        ("www.\u{1}", None),
+        ("http://a", Some((protocol, "http://a", ""))),
+        ("HTTPS://a:1.", Some((protocol, "HTTPS://a:1", "."))),
+        ("http://a_b", None),
+        ("https://", None),
+        ("ftp://a.b", None),
+    ];
+    for (line, expected) in cases {
+        assert!(rt; first(line) == expected);
+    }
+    Ok(())
+}
+
+#[test]
+fn addresses(rt: HostRuntime) -> Result<(), Fail> {
+    let email = LiteralKind::Email;
+    let protocol = LiteralKind::Protocol;
+    let cases = [
+        ("a@b.c", Some((email, 0, 5))),
+        ("x a+_@b.c-d. ", Some((email, 2, 11))),
+        ("x a+_@b-1.c. ", Some((email, 2, 11))),
+        ("a@b", None),
+        ("/a@b.c", None),
+        ("@b.c", None),
+        ("a@b.1", None),
+        ("a@b@c.d", Some((email, 2, 7))),
+        ("mailto:a@b.c", Some((protocol, 0, 12))),
+        ("xmailto:a@b.c", Some((email, 8, 13))),
+        ("xmpp:a@b.c/d", Some((protocol, 0, 12))),
+        ("a@b.c/d", Some((email, 0, 5))),
+        ("é@a.b.c", None),
+    ];
+    for (text, expected) in cases {
+        let expected = expected.map(|(kind, start, end)| FoundAddress { kind, start, end });
+        assert!(rt; first_address(text.as_bytes()) == expected);
+    }
+    Ok(())
+}
