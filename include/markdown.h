@@ -25,7 +25,9 @@ enum {
     /* $a$ and $$a$$ are math, and so is a block between lines of $$. */
     MARKDOWN_MATH = 8,
     /* Metadata at the front of a text, between lines of --- or of +++, is skipped. */
-    MARKDOWN_FRONTMATTER = 16
+    MARKDOWN_FRONTMATTER = 16,
+    /* An item that begins with [ ] or [x] has a check box. */
+    MARKDOWN_TASK_LIST_ITEMS = 32
 };
 
 /* What a call answers. */

@@ -1,7 +1,7 @@
 #!/usr/bin/env python3
 """Reads Markdown from standard input, and writes its HTML to standard output.
 
-    convert.py LIBRARY [--dangerous] [--plain] [--strikethrough] [--math] [--frontmatter]
+    convert.py LIBRARY [--dangerous] [--plain] [--strikethrough] [--math] [--frontmatter] [--task-list-items]
 """
 import sys
 
@@ -13,6 +13,7 @@ FLAGS = {
     "--strikethrough": markdown_c.STRIKETHROUGH,
     "--math": markdown_c.MATH,
     "--frontmatter": markdown_c.FRONTMATTER,
+    "--task-list-items": markdown_c.TASK_LIST_ITEMS,
 }
 
 library = markdown_c.load(sys.argv[1])

@@ -15,6 +15,7 @@ fn main() -> Result<(), Box<dyn Error>> {
             "--strikethrough" => flags.strikethrough = true,
             "--math" => flags.math = true,
             "--frontmatter" => flags.frontmatter = true,
+            "--task-list-items" => flags.task_list_items = true,
             _ => return Err(format!("an unknown word: {word}").into()),
         }
     }

@@ -14,6 +14,7 @@ mod calls {
     pub const STRIKETHROUGH: u32 = 4;
     pub const MATH: u32 = 8;
     pub const FRONTMATTER: u32 = 16;
+    pub const TASK_LIST_ITEMS: u32 = 32;
 
     #[link(name = "markdown", kind = "static")]
     extern "C" {
@@ -41,6 +42,8 @@ pub struct Flags {
     pub math: bool,
     /// Metadata at the front of a text is skipped.
     pub frontmatter: bool,
+    /// An item that begins with `[ ]` or `[x]` has a check box.
+    pub task_list_items: bool,
 }
 
 impl Flags {
@@ -51,6 +54,7 @@ impl Flags {
             (self.strikethrough, calls::STRIKETHROUGH),
             (self.math, calls::MATH),
             (self.frontmatter, calls::FRONTMATTER),
+            (self.task_list_items, calls::TASK_LIST_ITEMS),
         ]
         .into_iter()
         .filter_map(|(asked, flag)| asked.then_some(flag))

@@ -20,8 +20,11 @@ const MATH: u32 = 8;
 /// Metadata at the front of a text, between lines of `---` or `+++`, is skipped.
 const FRONTMATTER: u32 = 16;
 
+/// `- [x] a` has a check box (GFM 5.3).
+const TASK_LIST_ITEMS: u32 = 32;
+
 /// All flags together.
-const ALL: u32 = DANGEROUS + PLAIN + STRIKETHROUGH + MATH + FRONTMATTER;
+const ALL: u32 = DANGEROUS + PLAIN + STRIKETHROUGH + MATH + FRONTMATTER + TASK_LIST_ITEMS;
 
 /// The options that a sum of flags asks for, if it has no others.
 pub(crate) fn options_of(flags: u32) -> Option<Options>
@@ -52,6 +55,7 @@ fn flagged_constructs(flags: u32) -> Constructs
     }
     Constructs {
         gfm_strikethrough: has_flag(STRIKETHROUGH, flags),
+        gfm_task_list_item: has_flag(TASK_LIST_ITEMS, flags),
         math_text: has_flag(MATH, flags),
         math_flow: has_flag(MATH, flags),
         frontmatter: has_flag(FRONTMATTER, flags),
