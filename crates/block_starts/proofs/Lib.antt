@@ -2,3 +2,4 @@ pub mod White
 pub mod Views
 pub mod ThematicBreakLemmas
 pub mod MarkLemmas
+pub mod ContainerLemmas

@@ -38,6 +38,9 @@ pub fn starts<'a>(
 ) -> Option<(Container, Cursor<'a>)>
     ensures { started_if result ≡ starts_here on.now interrupts (rest_of rest.entry) }
 {
+    if !rest.may_start() {
+        return None;
+    }
     match quote_prefix(on, rest) {
         Some(after) => Some((Container::Quote, after)),
         None => item_start(on, interrupts, rest),

@@ -7,7 +7,7 @@ ghost use Rattle.definition_text.specs.Columns.{whole, codes_from, indent, bare,
 ghost use Rattle.definition_text.specs.Indents.{outdented};
 ghost use Rattle.definition_block.specs.ListItem.{is_digit};
 ghost use Rattle.definition_block.specs.ThematicBreak.{is_break_text};
-ghost use Rattle.block_starts.specs.Marks.{NoMark, is_mark};
+ghost use Rattle.block_starts.specs.Marks.{NoMark, begins_container, is_mark, may_start};
 ghost use Rattle.block_starts.specs.Widths.{width};
 ghost use Rattle.block_starts.specs.ThematicBreak.{BreaksWithin};
 
@@ -154,6 +154,14 @@ impl<'a> Cursor<'a> {
         }
     }
 
+    /// Whether a container's marker may stand after the spaces and tabs ahead.
+    pub(crate) fn may_start(self) -> bool
+        ensures { result ≡ may_start (bare (rest_of self.entry)) }
+    {
+        let bytes = self.text.as_bytes();
+        self.white < bytes.len() && begins_container(bytes[self.white])
+    }
+
     /// The next byte and the rest after it, where it is one of a container's marker, and no digit.
     pub(crate) fn split_first(self) -> Option<(u8, Cursor<'a>)>
         ensures { MatchOption result (NoMark (rest_of self.entry)) (λ s. rest_of self.entry ≡ s.0 ∷ rest_of s.1) }
@@ -210,6 +218,13 @@ fn digits(bytes: &[u8]) -> usize
         }
     }
     bytes.len()
+}
+
+/// Whether a container's marker may begin with a byte.
+fn begins_container(byte: u8) -> bool
+    ensures { result ≡ begins_container byte }
+{
+    matches!(byte, b'>' | b'-' | b'+' | b'*') || byte.is_ascii_digit()
 }
 
 /// Whether a byte is one of a container's marker, and no digit.
