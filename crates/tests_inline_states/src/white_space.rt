@@ -1,10 +1,11 @@
 //! White space at the ends of lines, once the resolvers ran.
 use crate::display::resolved_events;
+use markdown_engine::ParseOptions;
 use std::test::Fail;
 
 /// Whether these are the events of a text once its resolvers ran.
 fn is_trimmed(rt: &HostRuntime, bytes: &[u8], wanted: &str) -> Result<bool, Fail> {
-    let out = resolved_events(rt, "a", "a", bytes)?;
+    let out = resolved_events(rt, &ParseOptions::gfm(), "a", "a", bytes)?;
     Ok(out.as_str() == wanted)
 }
 
