@@ -4,5 +4,6 @@ pub mod Edited
 pub mod Each
 pub mod Data
 pub mod LabelEnd
+pub mod Whitespace
 pub mod Resolving
 pub mod ResolvingLaws

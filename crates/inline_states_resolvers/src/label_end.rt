@@ -17,14 +17,14 @@ use markdown_engine::tokenize_state::TokenizeState;
 use std::alloc::Allocator;
 
 /// So many more, up to the most that a number holds.
-fn later(more: usize, index: usize) -> usize
+pub(crate) fn later(more: usize, index: usize) -> usize
     ensures { result ≡ later more index }
 {
     index.saturating_add(more)
 }
 
 /// Where an event of a list is.
-fn place_at(events: &[Event], index: usize) -> Point
+pub(crate) fn place_at(events: &[Event], index: usize) -> Point
     ensures { result ≡ place_at events.now index }
 {
     match events.get(index) {

@@ -4,5 +4,6 @@
 pub mod edited;
 pub mod label_end;
 pub mod partial_data;
+pub mod partial_whitespace;
 pub mod resolving;
 pub mod whole;

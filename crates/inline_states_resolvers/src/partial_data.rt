@@ -20,7 +20,7 @@ fn is_data(kind: Kind, event: Option<Event>) -> bool
 }
 
 /// Whether data begins, or ends, at an index.
-fn is_data_at(kind: Kind, events: &[Event], index: usize) -> bool
+pub(crate) fn is_data_at(kind: Kind, events: &[Event], index: usize) -> bool
     ensures { result ≡ is_data kind (slice_get events.now index) }
 {
     is_data(kind, events.get(index).copied())

@@ -1,12 +1,14 @@
 //! The resolvers of texts and strings.
 ghost use Rattle.std.specs.Prelude.{◌≡◌, OnOk, IfErr};
 ghost use Rattle.markdown_options.specs.Messages.{IsOutOfMemory};
-ghost use Rattle.markdown_engine.specs.Machine.{Became, config};
+ghost use Rattle.markdown_engine.specs.Machine.{config, read_with};
 ghost use Rattle.inline_states_resolvers.specs.Resolving.{data_resolved, inline_resolved, label_resolved, resolved_config};
+ghost use Rattle.inline_states_resolvers.specs.Resolving.{string_resolved, text_resolved};
 
 use crate::edited::make;
 use crate::label_end::label_edits;
 use crate::partial_data::data_edits;
+use crate::partial_whitespace::{Trimming, white_edits};
 use markdown_engine::Message;
 use markdown_engine::resolve::Name;
 use markdown_engine::tokenizer::Tokenizer;
@@ -37,19 +39,57 @@ pub fn resolve_label<M, T, A: Allocator + Clone>(
     make(tokenizer, edits)
 }
 
+/// Cuts white space off the ends of a text, and of its lines.
+pub fn resolve_text<M, T, A: Allocator + Clone>(
+    tokenizer: &mut Tokenizer<'_, M, T, A>,
+) -> Result<(), Message>
+    ensures became { OnOk result (config tokenizer.new ≡ text_resolved (read_with tokenizer.old) (config tokenizer.old)) }
+    ensures parse_state { tokenizer.new.parse_state ≡ tokenizer.old.parse_state }
+    ensures memory { IfErr result (λ message. IsOutOfMemory message) }
+{
+    let trimming = Trimming {
+        in_text: true,
+        hard: tokenizer.parse_state.options.constructs.hard_break_trailing,
+        bytes: tokenizer.parse_state.bytes,
+    };
+    let alloc = tokenizer.events.allocator().clone()?;
+    let edits = white_edits(alloc, &trimming, &tokenizer.events)?;
+    make(tokenizer, edits)
+}
+
+/// Cuts white space off the ends of the lines of a string.
+pub fn resolve_string<M, T, A: Allocator + Clone>(
+    tokenizer: &mut Tokenizer<'_, M, T, A>,
+) -> Result<(), Message>
+    ensures became { OnOk result (config tokenizer.new ≡ string_resolved (read_with tokenizer.old) (config tokenizer.old)) }
+    ensures parse_state { tokenizer.new.parse_state ≡ tokenizer.old.parse_state }
+    ensures memory { IfErr result (λ message. IsOutOfMemory message) }
+{
+    let trimming = Trimming {
+        in_text: false,
+        hard: false,
+        bytes: tokenizer.parse_state.bytes,
+    };
+    let alloc = tokenizer.events.allocator().clone()?;
+    let edits = white_edits(alloc, &trimming, &tokenizer.events)?;
+    make(tokenizer, edits)
+}
+
 /// Runs a resolver.
 #[tactic(auto, unfolding(crate::specs::Resolving::inline_resolved))]
 pub fn resolve<M, T, A: Allocator + Clone>(
     tokenizer: &mut Tokenizer<'_, M, T, A>,
     name: Name,
 ) -> Result<(), Message>
-    ensures config { OnOk result (config tokenizer.new ≡ (inline_resolved (config tokenizer.old) name).config) }
+    ensures config { OnOk result (config tokenizer.new ≡ (inline_resolved (read_with tokenizer.old) (config tokenizer.old) name).config) }
     ensures parse_state { tokenizer.new.parse_state ≡ tokenizer.old.parse_state }
     ensures memory { IfErr result (λ message. IsOutOfMemory message) }
 {
     match name {
         Name::Data => resolve_data(tokenizer),
         Name::Label => resolve_label(tokenizer),
+        Name::Text => resolve_text(tokenizer),
+        Name::String => resolve_string(tokenizer),
         _ => Ok(()),
     }
 }

@@ -70,12 +70,12 @@ pub fn is_gfm(
 /// The events of a text as a text, once its resolvers ran, where a label and one of a footnote are defined.
 pub fn resolved_events<'t>(
     rt: &HostRuntime,
+    options: &'t ParseOptions,
     label: &str,
     footnote: &str,
     bytes: &'t [u8],
 ) -> Result<String, Fail> {
-    let options = ParseOptions::gfm();
-    let mut text = ParseState::new(rt.alloc(), bytes, &options, &Builtin)?;
+    let mut text = ParseState::new(rt.alloc(), bytes, options, &Builtin)?;
     text.definitions.push(String::from_str(rt.alloc(), label)?)?;
     text.gfm_footnote_definitions
         .push(String::from_str(rt.alloc(), footnote)?)?;

@@ -11,3 +11,5 @@ mod gfm;
 mod links;
 #[cfg(test)]
 mod reading;
+#[cfg(test)]
+mod white_space;

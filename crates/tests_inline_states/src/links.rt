@@ -137,7 +137,7 @@ fn calls(rt: HostRuntime) -> Result<(), Fail> {
 
 /// Whether these are the events of a text once its resolvers ran, where `a` is defined and a footnote.
 fn is_resolved(rt: &HostRuntime, bytes: &[u8], wanted: &str) -> Result<bool, Fail> {
-    let out = resolved_events(rt, "a", "a", bytes)?;
+    let out = resolved_events(rt, &ParseOptions::gfm(), "a", "a", bytes)?;
     Ok(out.as_str() == wanted)
 }
 
