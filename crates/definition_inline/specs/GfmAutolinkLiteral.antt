@@ -6,7 +6,7 @@ use Rattle.markdown_options.specs.declared.configuration.Constructs.{Constructs}
 use Rattle.definition_text.specs.declared.beside.Kind.{Kind}
 use Rattle.definition_text.specs.Bytes.{is_letter, is_letter_or_digit, same_caselessly, begins_with}
 use Rattle.definition_text.specs.Columns.{is_white}
-use Rattle.definition_text.specs.Content.{is_space}
+use Rattle.definition_text.specs.Content.{is_eol, is_space}
 use Rattle.definition_text.specs.InlineCode.{InlineCode, codes_of, is_continuation}
 use Rattle.definition_inline.specs.Attention.{is_other}
 use Rattle.definition_inline.specs.Inline.{LiteralKind, Www, Protocol, Email, Inline, Data, Literal, Emphasis, Strong, Strikethrough, Link, Image, Inlines, Nil, Cons, Leaf, leaf}
@@ -59,9 +59,9 @@ or_start (Some start) other = Some start
 abbrev pub literal_start_at : Option ℕ → List ℕ → Option LiteralStart
 literal_start_at previous content = or_start (www_start previous content) (protocol_start previous content)
 
--- a control character of ASCII
+-- a control character of ASCII, or a line ending
 abbrev pub is_control : ℕ → Bool
-is_control code = nat_lt code 32 || (code == 127)
+is_control code = nat_lt code 32 || ((code == 127) || is_eol code)
 
 -- a character of this kind comes first, which is no whitespace, punctuation or control character
 abbrev pub begins_name : Kind → List InlineCode → Bool

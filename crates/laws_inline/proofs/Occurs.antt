@@ -23,8 +23,8 @@ use Rattle.definition_inline.specs.Attention.{Run, run_at, is_marker}
 use Rattle.definition_inline.specs.Pairing.{Pair, pairs}
 use Rattle.definition_inline.specs.Spans.{Token, Item, Delimiters, runs_of, Span, IsEmphasis, IsStrong, IsStrikethrough, span_of, SpanRow, Holds, Opens, Closes, bytes_taken, run_rows, rows_from, OpenSpan, Nest, nest, spanned, leave, nest_row, emphasized}
 use Rattle.definition_inline.specs.Scan.{InlineContext, leaf_at, LabelStart, LinkStart, ImageStart, label_start_at, start_bytes, start_tokens, label_part, Text, text, OpenLabel, Reading, reading, read_tokens, unformed, formed, Step, Next, data_step, ended_step, ended_by, label_end_step, last_step, label_step, run_step, leaf_step, step, and_then, scan, whole_text, inlines}
-use Rattle.laws_inline.specs.Occurs.{part_has, has, is_escape, is_character, is_code, is_math, is_autolink, is_html, is_escaped_break, is_trailing_break as is_trailing, is_span, is_strikethrough, is_link, is_image, is_labelled}
-use Rattle.laws_inline.specs.Occurs.{NoEscapes, NoCharacters, NoCode, NoMath, NoAutolinks, NoHtml, NoEscapedBreaks, NoTrailingBreaks, NoSpans, NoStrikethrough, NoLinks, NoImages, NoLabelEnds}
+use Rattle.laws_inline.specs.Occurs.{part_has, has, is_escape, is_character, is_code, is_math, is_autolink, is_literal, is_html, is_escaped_break, is_trailing_break as is_trailing, is_span, is_strikethrough, is_link, is_image, is_labelled}
+use Rattle.laws_inline.specs.Occurs.{NoEscapes, NoCharacters, NoCode, NoMath, NoAutolinks, NoLiterals, NoHtml, NoEscapedBreaks, NoTrailingBreaks, NoSpans, NoStrikethrough, NoLinks, NoImages, NoLabelEnds}
 use Rattle.laws_inline.proofs.Each.{Each, each-append, each_map, each_same}
 
 -- ---- what may stand in a content
@@ -430,6 +430,10 @@ no_autolink : (on : Constructs) → on.autolink ≡ false → (i : Inline) → P
 no_autolink on off (Autolink is_email bytes) h = absurd (both_ways on.autolink off h)
 no_autolink on off i h = refl
 
+no_literal : (on : Constructs) → on.gfm_autolink_literal ≡ false → (i : Inline) → PartMayStand on i → is_literal i ≡ false
+no_literal on off (Literal kind bytes) h = absurd (both_ways on.gfm_autolink_literal off h)
+no_literal on off i h = refl
+
 not_html : (on : Constructs) → on.html_text ≡ false → (i : Inline) → PartMayStand on i → is_html i ≡ false
 not_html on off (Html text) h = absurd (both_ways on.html_text off h)
 not_html on off i h = refl
@@ -484,6 +488,9 @@ no_math context content off = never_in context is_math (not_math context.options
 
 pub no_autolinks : NoAutolinks
 no_autolinks context content off = never_in context is_autolink (no_autolink context.options.constructs off) content
+
+pub no_literals : NoLiterals
+no_literals context content off = never_in context is_literal (no_literal context.options.constructs off) content
 
 pub no_html : NoHtml
 no_html context content off = never_in context is_html (not_html context.options.constructs off) content

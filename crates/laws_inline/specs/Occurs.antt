@@ -2,7 +2,7 @@
 use Rattle.std.specs.Prelude.{◌≡◌, Bool, true, false, ◌||◌, List}
 use Rattle.markdown_options.specs.declared.configuration.Constructs.{Constructs}
 use Rattle.definition_text.specs.InlineCode.{InlineCode}
-use Rattle.definition_inline.specs.Inline.{Inline, Escape, Character, Code, Math, Autolink, Html, EscapedBreak, TrailingBreak, Emphasis, Strong, Strikethrough, Link, Image, Inlines, Nil, Cons}
+use Rattle.definition_inline.specs.Inline.{Inline, Escape, Character, Code, Math, Autolink, Literal, Html, EscapedBreak, TrailingBreak, Emphasis, Strong, Strikethrough, Link, Image, Inlines, Nil, Cons}
 use Rattle.definition_inline.specs.Scan.{InlineContext, inlines}
 
 -- whether one of these parts passes a test, at any depth
@@ -50,6 +50,11 @@ is_math i = false
 abbrev pub is_autolink : Inline → Bool
 is_autolink (Autolink is_email bytes) = true
 is_autolink i = false
+
+-- a link with no brackets (GFM 6.9)
+abbrev pub is_literal : Inline → Bool
+is_literal (Literal kind bytes) = true
+is_literal i = false
 
 -- raw HTML (CommonMark 6.6)
 abbrev pub is_html : Inline → Bool
@@ -114,6 +119,10 @@ NoMath = Never (λ on. on.math_text) is_math
 -- without autolinks none (CommonMark 6.5)
 abbrev pub NoAutolinks : Type 0
 NoAutolinks = Never (λ on. on.autolink) is_autolink
+
+-- without literals none (GFM 6.9)
+abbrev pub NoLiterals : Type 0
+NoLiterals = Never (λ on. on.gfm_autolink_literal) is_literal
 
 -- without raw HTML none (CommonMark 6.6)
 abbrev pub NoHtml : Type 0

@@ -1,5 +1,5 @@
 //! A construct that is off never occurs, at any depth.
-ghost use Rattle.laws_inline.specs.Occurs.{NoEscapes, NoCharacters, NoCode, NoMath, NoAutolinks, NoHtml, NoEscapedBreaks};
+ghost use Rattle.laws_inline.specs.Occurs.{NoEscapes, NoCharacters, NoCode, NoMath, NoAutolinks, NoLiterals, NoHtml, NoEscapedBreaks};
 ghost use Rattle.laws_inline.specs.Occurs.{NoTrailingBreaks, NoSpans, NoStrikethrough, NoLinks, NoImages, NoLabelEnds};
 
 /// Where backslash escapes are off, no content has one.
@@ -30,6 +30,12 @@ pub fn math_text_law()
 #[tactic(auto, using(crate::proofs::Occurs::no_autolinks))]
 pub fn autolink_law()
     ensures { NoAutolinks }
+{}
+
+/// Where links with no brackets are off, no content has one.
+#[tactic(auto, using(crate::proofs::Occurs::no_literals))]
+pub fn gfm_autolink_literal_law()
+    ensures { NoLiterals }
 {}
 
 /// Where raw HTML is off, no content has it.

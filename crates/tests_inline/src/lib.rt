@@ -2,13 +2,13 @@
 #![tactic(auto)]
 
 #[cfg(test)]
+mod gfm_autolink_literal;
+#[cfg(test)]
 mod label_ends;
 #[cfg(test)]
 mod labels;
 #[cfg(test)]
 mod leaves;
-#[cfg(test)]
-mod literals;
 #[cfg(test)]
 mod references;
 #[cfg(test)]
