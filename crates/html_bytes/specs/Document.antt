@@ -1,10 +1,13 @@
 -- What a document gives to its texts, and what they print.
-use Rattle.std.specs.Prelude.{ℕ, List}
+use Rattle.std.specs.Prelude.{ℕ, List, map}
 use Rattle.markdown_options.specs.declared.configuration.Options.{Options}
 use Rattle.definition_text.specs.declared.beside.Kind.TheVariants.{Whitespace}
 use Rattle.definition_text.specs.BlockLines.{BlockLine}
 use Rattle.definition_inline.specs.Definition.{Definition}
-use Rattle.definition_text.specs.InlineCode.{inline_content}
+use Rattle.definition_text.specs.Columns.{code_byte}
+use Rattle.definition_text.specs.InlineCode.{inline_content, with_kinds}
+use Rattle.definition_block.specs.GfmTable.{Cell}
+use Rattle.definition_page.specs.GfmTable.{in_cell}
 use Rattle.definition_inline.specs.Scan.{InlineContext, inlines}
 use Rattle.definition_inline.specs.Strings.{string_text}
 use Rattle.html_bytes.specs.InlineHtml.{InlineMeaning, inline_html}
@@ -32,6 +35,11 @@ meaning_of d = inline_meaning d.options.parse.constructs d.options.compile d.tab
 -- the text of a paragraph or a heading, which ends where a line does (CommonMark 4.8)
 abbrev pub text_of : Document → List BlockLine → List ℕ
 text_of d ls = inline_html (meaning_of d) (inlines (context_of d) (inline_content d.tables.is_punctuation Whitespace ls))
+
+-- the text of a cell of a table (GFM 4.10)
+abbrev pub cell_of : Document → Cell → List ℕ
+cell_of d c =
+    inline_html (meaning_of d) (in_cell (inlines (context_of d) (with_kinds d.tables.is_punctuation c.before c.after (map code_byte c.codes))))
 
 -- the text of an info string (CommonMark 4.5)
 abbrev pub info_of : Document → List ℕ → List ℕ

@@ -2,6 +2,7 @@
 #![tactic(auto)]
 
 pub mod buffers;
+pub mod gfm_table;
 pub mod texts;
 
 pub use buffers::TextBuffers;

@@ -9,9 +9,11 @@ ghost use Rattle.block_rows.specs.Rows.{piece_line, piece_lines, whole_lines};
 ghost use Rattle.definition_inline.specs.Scan.{inlines};
 ghost use Rattle.definition_text.specs.BlockLines.{own_lines};
 ghost use Rattle.inline_content.specs.View.{content_view};
+ghost use Rattle.html_inline.specs.GfmTable.{shown};
 
 use crate::buffers::TextBuffers;
 use block_rows::Piece;
+use definition_text::Kind;
 use html_inline::{Printing, Scratch, push_encoded_string, push_rows};
 use inline_content::{Content, whole_content};
 use inline_labels::LabelTable;
@@ -47,7 +49,8 @@ impl<'a, T: Tables, A: Allocator + Clone> Texts<'a, T, A> {
     {
         let alloc = buffers.alloc.clone()?;
         buffers.content.join(lines)?;
-        self.push_content(out, &mut buffers.scratch, alloc, buffers.content.content())
+        let content = buffers.content.content(Kind::Whitespace);
+        self.push_content(out, &mut buffers.scratch, alloc, false, content)
     }
 
     /// Prints the text of one line, which may be empty, without its ending (CommonMark 4.2).
@@ -63,7 +66,8 @@ impl<'a, T: Tables, A: Allocator + Clone> Texts<'a, T, A> {
         let alloc = buffers.alloc.clone()?;
         let lines = [*line];
         buffers.content.join(&lines)?;
-        self.push_content(out, &mut buffers.scratch, alloc, buffers.content.content())
+        let content = buffers.content.content(Kind::Whitespace);
+        self.push_content(out, &mut buffers.scratch, alloc, false, content)
     }
 
     /// Prints the first lines of a text, so many, without the last ending (CommonMark 4.8).
@@ -78,7 +82,8 @@ impl<'a, T: Tables, A: Allocator + Clone> Texts<'a, T, A> {
             OnOk result (string_bytes out.new ≡ string_bytes out.old ++ text_of (document_by T.Tables self.now ds) (own_lines (whole_lines count text.now))) }
     {
         let alloc = buffers.alloc.clone()?;
-        self.push_content(out, &mut buffers.scratch, alloc, whole_content(count, text))
+        let content = whole_content(count, text);
+        self.push_content(out, &mut buffers.scratch, alloc, false, content)
     }
 
     /// Prints what an info string, which has no line ending, stands for (CommonMark 4.5).
@@ -89,18 +94,19 @@ impl<'a, T: Tables, A: Allocator + Clone> Texts<'a, T, A> {
         push_encoded_string(out, &self.options.parse.constructs, self.tables, info)
     }
 
-    /// Prints the inline structure of a content (CommonMark 6).
-    fn push_content(
+    /// Prints the inline structure of a content, in a cell of a table or not (CommonMark 6).
+    pub(crate) fn push_content(
         &self,
         out: &mut String<A>,
         scratch: &mut Scratch<A>,
         alloc: A,
+        cell: bool,
         content: Content<'_>,
     ) -> Result<(), AllocError>
         ensures { (ds : List Definition) → HasDefinitions self.now.labels.now self.now.links.now ds →
             let d = document_by T.Tables self.now ds in
             let structure = inlines (context_of d) (content_view (T.punctuation_of self.now.tables.now) content.entry) in
-            OnOk result (string_bytes out.new ≡ string_bytes out.old ++ inline_html (meaning_of d) structure) }
+            OnOk result (string_bytes out.new ≡ string_bytes out.old ++ inline_html (meaning_of d) (shown cell structure)) }
     {
         let parse = &self.options.parse;
         let rows = inline_rows(alloc, parse, self.tables, self.labels, content)?;
@@ -109,6 +115,7 @@ impl<'a, T: Tables, A: Allocator + Clone> Texts<'a, T, A> {
             compile: &self.options.compile,
             tables: self.tables,
             definitions: self.links,
+            cell,
         };
         push_rows(out, scratch, &printing, rows.as_slice())
     }

@@ -5,6 +5,7 @@ pub mod autolink;
 pub mod character_reference;
 pub mod code_text;
 pub mod form;
+pub mod gfm_table;
 pub mod html_text;
 pub mod label_end;
 pub mod leaf;

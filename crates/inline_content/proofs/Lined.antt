@@ -112,42 +112,43 @@ module _ (p : ℕ → Bool) (marks : List Mark) where
   Agree place [] = Unit {0}
   Agree place (line ∷ others) = (kind_at marks place ≡ line.before) × Agree (place + length (line_text line)) others
 
-  last_view : (place : ℕ) (before : Kind) (cs : List ℕ) → HaveNoEnding cs → view_from p marks place before cs ≡ with_kinds p before Whitespace cs
+module _ (p : ℕ → Bool) (end : Kind) (marks : List Mark) where
+  last_view : (place : ℕ) (before : Kind) (cs : List ℕ) → HaveNoEnding cs → view_from p end marks place before cs ≡ with_kinds p before end cs
   last_view place before [] h = refl
   last_view place before (c ∷ cs) h =
       let next = place + width c in
-      ap (λ l. inline_code c before (kind_after p c l) ∷ view_from p marks next (kind_before p marks next before c l) cs) (left_all cs h.1)
-      ∙ ap (λ k. inline_code c before k ∷ view_from p marks next (kind_before p marks next before c cs) cs) (cond-false (is_eol c) _ _ h.0)
-      ∙ ap (λ k. inline_code c before (first_kind p Whitespace cs) ∷ view_from p marks next k cs) (cond-false (is_eol c) _ _ h.0)
-      ∙ ap (λ l. inline_code c before (first_kind p Whitespace cs) ∷ l) (last_view next (next_kind p before (c ∷ cs)) cs h.1)
+      ap (λ l. inline_code c before (kind_after p end c l) ∷ view_from p end marks next (kind_before p marks next before c l) cs) (left_all cs h.1)
+      ∙ ap (λ k. inline_code c before k ∷ view_from p end marks next (kind_before p marks next before c cs) cs) (cond-false (is_eol c) _ _ h.0)
+      ∙ ap (λ k. inline_code c before (first_kind p end cs) ∷ view_from p end marks next k cs) (cond-false (is_eol c) _ _ h.0)
+      ∙ ap (λ l. inline_code c before (first_kind p end cs) ∷ l) (last_view next (next_kind p before (c ∷ cs)) cs h.1)
 
   line_view : (place : ℕ) (before : Kind) (cs : List ℕ) (e : ℕ) (rest : List ℕ) → HaveNoEnding cs → is_eol e ≡ true
-      → view_from p marks place before (cs ++ e ∷ rest)
-      ≡ with_kinds p before Whitespace (cs ++ e ∷ []) ++ view_from p marks (place + (length cs + width e)) (kind_at marks (place + (length cs + width e))) rest
+      → view_from p end marks place before (cs ++ e ∷ rest)
+      ≡ with_kinds p before end (cs ++ e ∷ []) ++ view_from p end marks (place + (length cs + width e)) (kind_at marks (place + (length cs + width e))) rest
   line_view place before [] e rest h is =
       let n : place + width e ≡ place + (0 + width e) = omega arith in
-      ap (λ k. inline_code e before k ∷ view_from p marks (place + width e) (kind_before p marks (place + width e) before e (line_left rest)) rest) (cond-true (is_eol e) _ _ is)
-      ∙ ap (λ k. inline_code e before Whitespace ∷ view_from p marks (place + width e) k rest) (cond-true (is_eol e) _ _ is)
-      ∙ ap (λ m. inline_code e before Whitespace ∷ view_from p marks m (kind_at marks m) rest) n
+      ap (λ k. inline_code e before k ∷ view_from p end marks (place + width e) (kind_before p marks (place + width e) before e (line_left rest)) rest) (cond-true (is_eol e) _ _ is)
+      ∙ ap (λ k. inline_code e before end ∷ view_from p end marks (place + width e) k rest) (cond-true (is_eol e) _ _ is)
+      ∙ ap (λ m. inline_code e before end ∷ view_from p end marks m (kind_at marks m) rest) n
   line_view place before (c ∷ cs) e rest h is =
       let next = place + width c in
       let line = cs ++ e ∷ [] in
       let n : next + (length cs + width e) ≡ place + (length (c ∷ cs) + width e) = let one = one_byte c h.0 in omega (arith, one) in
-      ap (λ l. inline_code c before (kind_after p c l) ∷ view_from p marks next (kind_before p marks next before c l) (cs ++ e ∷ rest)) (left_line cs e rest h.1 is)
-      ∙ ap (λ k. inline_code c before k ∷ view_from p marks next (kind_before p marks next before c line) (cs ++ e ∷ rest)) (cond-false (is_eol c) _ _ h.0)
-      ∙ ap (λ k. inline_code c before (first_kind p Whitespace line) ∷ view_from p marks next k (cs ++ e ∷ rest)) (cond-false (is_eol c) _ _ h.0)
-      ∙ ap (λ l. inline_code c before (first_kind p Whitespace line) ∷ l) (line_view next (next_kind p before (c ∷ line)) cs e rest h.1 is)
-      ∙ ap (λ m. inline_code c before (first_kind p Whitespace line) ∷ (with_kinds p (next_kind p before (c ∷ line)) Whitespace line ++ view_from p marks m (kind_at marks m) rest)) n
+      ap (λ l. inline_code c before (kind_after p end c l) ∷ view_from p end marks next (kind_before p marks next before c l) (cs ++ e ∷ rest)) (left_line cs e rest h.1 is)
+      ∙ ap (λ k. inline_code c before k ∷ view_from p end marks next (kind_before p marks next before c line) (cs ++ e ∷ rest)) (cond-false (is_eol c) _ _ h.0)
+      ∙ ap (λ k. inline_code c before (first_kind p end line) ∷ view_from p end marks next k (cs ++ e ∷ rest)) (cond-false (is_eol c) _ _ h.0)
+      ∙ ap (λ l. inline_code c before (first_kind p end line) ∷ l) (line_view next (next_kind p before (c ∷ line)) cs e rest h.1 is)
+      ∙ ap (λ m. inline_code c before (first_kind p end line) ∷ (with_kinds p (next_kind p before (c ∷ line)) end line ++ view_from p end marks m (kind_at marks m) rest)) n
 
-  lines_view : (place : ℕ) (ls : List BlockLine) → AreApart ls → Agree place ls
-      → view_from p marks place (kind_at marks place) (map code_byte (content_of (own_lines ls))) ≡ inline_content p Whitespace (own_lines ls)
+  lines_view : (place : ℕ) (ls : List BlockLine) → AreApart ls → Agree p marks place ls
+      → view_from p end marks place (kind_at marks place) (map code_byte (content_of (own_lines ls))) ≡ inline_content p end (own_lines ls)
   lines_view place [] h k = refl
   lines_view place (line ∷ []) h k =
-      ap (view_from p marks place (kind_at marks place)) (last_of line.codes)
-      ∙ ap (λ b. view_from p marks place b (map code_byte line.codes)) k.0
+      ap (view_from p end marks place (kind_at marks place)) (last_of line.codes)
+      ∙ ap (λ b. view_from p end marks place b (map code_byte line.codes)) k.0
       ∙ last_view place line.before (map code_byte line.codes) (clear_bytes line.codes h)
-      ∙ ap (λ cs. with_kinds p line.before Whitespace (map code_byte cs)) (sym (append-nil line.codes))
-      ∙ sym (append-nil (with_kinds p line.before Whitespace (map code_byte (line.codes ++ []))))
+      ∙ ap (λ cs. with_kinds p line.before end (map code_byte cs)) (sym (append-nil line.codes))
+      ∙ sym (append-nil (with_kinds p line.before end (map code_byte (line.codes ++ []))))
   lines_view place (line ∷ next ∷ others) h k =
       let e = h.1.0 in
       let bytes = map code_byte line.codes in
@@ -156,16 +157,16 @@ module _ (p : ℕ → Bool) (marks : List Mark) where
       let w = ending_width e in let l = length-append bytes (ending_text line.ending) in let t = ap (λ o. length (ending_text o)) h.1.1 in omega (arith, w, l, t) in
       let own : map code_byte (line.codes ++ ending_code line.ending) ≡ bytes ++ line_ending_code e ∷ [] =
       ap (λ o. map code_byte (line.codes ++ ending_code o)) h.1.1 ∙ map-append code_byte line.codes (ending_code (Some e)) ∙ ap (λ l. bytes ++ l) (ending_byte e) in
-      ap (view_from p marks place (kind_at marks place)) (line_before line.codes (content_of (own_lines (next ∷ others))) line.ending e h.1.1)
-      ∙ ap (λ b. view_from p marks place b (bytes ++ line_ending_code e ∷ rest)) k.0
+      ap (view_from p end marks place (kind_at marks place)) (line_before line.codes (content_of (own_lines (next ∷ others))) line.ending e h.1.1)
+      ∙ ap (λ b. view_from p end marks place b (bytes ++ line_ending_code e ∷ rest)) k.0
       ∙ line_view place line.before bytes (line_ending_code e) rest (clear_bytes line.codes h.0) (ending_is e)
-      ∙ ap (λ m. with_kinds p line.before Whitespace (bytes ++ line_ending_code e ∷ []) ++ view_from p marks m (kind_at marks m) rest) size
-      ∙ ap (λ l. with_kinds p line.before Whitespace (bytes ++ line_ending_code e ∷ []) ++ l) (lines_view (place + length (line_text line)) (next ∷ others) h.2 k.1)
-      ∙ ap (λ l. with_kinds p line.before Whitespace l ++ inline_content p Whitespace (own_lines (next ∷ others))) (sym own)
+      ∙ ap (λ m. with_kinds p line.before end (bytes ++ line_ending_code e ∷ []) ++ view_from p end marks m (kind_at marks m) rest) size
+      ∙ ap (λ l. with_kinds p line.before end (bytes ++ line_ending_code e ∷ []) ++ l) (lines_view (place + length (line_text line)) (next ∷ others) h.2 k.1)
+      ∙ ap (λ l. with_kinds p line.before end l ++ inline_content p end (own_lines (next ∷ others))) (sym own)
 
   -- the content of lines
-  pub content_is : (ls : List BlockLine) → AreApart ls → Agree 0 ls → marked p marks (content_text ls) ≡ inline_content p Whitespace (own_lines ls)
-  content_is ls h k = ap (view_from p marks 0 (kind_at marks 0)) (apart_codes ls h) ∙ lines_view 0 ls h k
+  pub content_is : (ls : List BlockLine) → AreApart ls → Agree p marks 0 ls → marked p end marks (content_text ls) ≡ inline_content p end (own_lines ls)
+  content_is ls h k = ap (view_from p end marks 0 (kind_at marks 0)) (apart_codes ls h) ∙ lines_view 0 ls h k
 
 -- ---- lines that are apart
 
