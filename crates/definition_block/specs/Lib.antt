@@ -10,6 +10,7 @@ pub mod Frontmatter
 pub mod HeadingAtx
 pub mod HeadingSetext
 pub mod Blocks
+pub mod GfmTable
 pub mod Definitions
 pub mod Tree
 pub mod Lists

@@ -5,6 +5,7 @@ pub mod TextTables
 pub mod Tags
 pub mod Pieces
 pub mod InlinePieces
+pub mod GfmTable
 pub mod Page
 pub mod Read
 pub mod BlockPieces

@@ -1,10 +1,11 @@
 -- From the lines of a text to a page (CommonMark appendix).
-use Rattle.std.specs.Prelude.{ℕ, Bool, true, false, if◌then◌else◌, not, ◌&&◌, ◌||◌, List, [], ◌∷◌, Option, None, Some, drop}
+use Rattle.std.specs.Prelude.{ℕ, Bool, true, false, if◌then◌else◌, not, ◌&&◌, ◌||◌, List, [], ◌∷◌, Option, None, Some, drop, map}
 use Rattle.markdown_options.specs.declared.configuration.ParseOptions.{ParseOptions}
 use Rattle.definition_text.specs.declared.beside.Kind.{Kind}
 use Rattle.definition_text.specs.declared.beside.Kind.TheVariants.{Whitespace}
 use Rattle.definition_text.specs.BlockLines.{BlockLine, own_lines}
-use Rattle.definition_text.specs.InlineCode.{InlineCode, codes_of, inline_content}
+use Rattle.definition_text.specs.Columns.{code_byte}
+use Rattle.definition_text.specs.InlineCode.{InlineCode, codes_of, inline_content, with_kinds}
 use Rattle.definition_text.specs.Lines.{without_mark, kind_before_text}
 use Rattle.definition_inline.specs.Inline.{Inlines}
 use Rattle.definition_inline.specs.GfmTaskListItem.{check_at, check_size}
@@ -15,6 +16,8 @@ use Rattle.definition_block.specs.declared.container.Container.TheVariants.{Quot
 use Rattle.definition_block.specs.Blocks as tree
 use Rattle.definition_block.specs.Tree.{is_ending, blocks}
 use Rattle.definition_block.specs.Lists.{grouped, is_loose}
+use Rattle.definition_block.specs.GfmTable.{Cell}
+use Rattle.definition_page.specs.GfmTable.{Table, TableRow, head_line, delimiter_line, body_lines, line_cells, line_aligns, in_cell}
 use Rattle.definition_page.specs.Targets.{document_definitions, is_label_of}
 use Rattle.definition_page.specs.TextTables.{TextTables}
 use Rattle.definition_page.specs.Page as page
@@ -66,6 +69,25 @@ checked_paragraph r content (Some done) = page.Paragraph (Some done) (inlines_fr
 abbrev pub read_paragraph : Reading → Bool → List BlockLine → page.Block
 read_paragraph r first ls =
     let content = unindented (text_content r ls) in checked_paragraph r content (check_at r.options.constructs first (codes_of content))
+
+-- that of a cell of a table, which ends where its bar stands (GFM 4.10)
+abbrev pub read_cell : Reading → Cell → Inlines
+read_cell r c =
+    in_cell (inlines (context_of r) (with_kinds r.tables.is_punctuation None c.before c.after (map code_byte c.codes)))
+
+-- a row of a table (GFM 4.10)
+abbrev pub read_row : Reading → BlockLine → TableRow
+read_row r line = record { cells = map (read_cell r) (line_cells line); ending = line.ending }
+
+-- a table of its lines (GFM 4.10)
+abbrev pub read_table : Reading → List BlockLine → Table
+read_table r ls =
+    record {
+      aligns = line_aligns (delimiter_line ls);
+      head = read_row r (head_line ls);
+      ending = (delimiter_line ls).ending;
+      rows = map (read_row r) (body_lines ls);
+    }
 
 -- the text of an info string, if there is one (CommonMark 4.5)
 abbrev pub info_text : Reading → List ℕ → Option (List ℕ)

@@ -2,4 +2,5 @@ mod SmallTables
 mod Containers
 mod Leaves
 mod MathFlow
+mod GfmTable
 mod Frontmatter

@@ -1,3 +1,4 @@
 pub mod SameText
+pub mod SameTable
 pub mod SameBlocks
 pub mod SamePage

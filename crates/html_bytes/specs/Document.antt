@@ -1,12 +1,15 @@
 -- What a document gives to its texts, and what they print.
-use Rattle.std.specs.Prelude.{ℕ, Bool, List, ◌++◌, Option, None, Some, drop}
+use Rattle.std.specs.Prelude.{ℕ, Bool, List, ◌++◌, Option, None, Some, drop, map}
 use Rattle.markdown_options.specs.declared.configuration.Options.{Options}
 use Rattle.definition_text.specs.declared.beside.Kind.TheVariants.{Whitespace}
 use Rattle.definition_text.specs.BlockLines.{BlockLine}
 use Rattle.definition_inline.specs.Definition.{Definition}
-use Rattle.definition_text.specs.InlineCode.{InlineCode, codes_of, inline_content}
+use Rattle.definition_text.specs.InlineCode.{InlineCode, codes_of, inline_content, with_kinds}
 use Rattle.definition_inline.specs.GfmTaskListItem.{check_at, check_size}
 use Rattle.definition_inline.specs.Scan.{InlineContext, inlines, inlines_from, unindented}
+use Rattle.definition_text.specs.Columns.{code_byte}
+use Rattle.definition_block.specs.GfmTable.{Cell}
+use Rattle.definition_page.specs.GfmTable.{in_cell}
 use Rattle.definition_inline.specs.Strings.{string_text}
 use Rattle.html_bytes.specs.InlineHtml.{InlineMeaning, inline_html, check_html}
 use Rattle.html_bytes.specs.Meaning.{inline_meaning}
@@ -44,6 +47,11 @@ abbrev pub paragraph_of : Document → Bool → List BlockLine → List ℕ
 paragraph_of d first ls =
     let content = unindented (inline_content d.tables.is_punctuation Whitespace ls) in
     checked_text d content (check_at d.options.parse.constructs first (codes_of content))
+
+-- the text of a cell of a table (GFM 4.10)
+abbrev pub cell_of : Document → Cell → List ℕ
+cell_of d c =
+    inline_html (meaning_of d) (in_cell (inlines (context_of d) (with_kinds d.tables.is_punctuation None c.before c.after (map code_byte c.codes))))
 
 -- the text of an info string (CommonMark 4.5)
 abbrev pub info_of : Document → List ℕ → List ℕ

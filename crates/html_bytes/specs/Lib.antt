@@ -3,4 +3,5 @@ pub mod RawHtml
 pub mod InlineHtml
 pub mod Meaning
 pub mod Document
+pub mod GfmTable
 pub mod Html

@@ -18,9 +18,10 @@ pub struct TextBuffers<A: Allocator + Clone> {
 }
 
 impl<A: Allocator + Clone> TextBuffers<A> {
+    ghost use Rattle.definition_text.specs.declared.beside.Kind.{Kind};
     /// Buffers that hold nothing yet.
     pub fn new(alloc: A) -> Result<TextBuffers<A>, AllocError>
-        ensures content { (is_punctuation : ℕ → Bool) → IfOk result (λ buffers. buffer_view is_punctuation buffers.content ≡ []) }
+        ensures content { (is_punctuation : ℕ → Bool) (after : Kind) → IfOk result (λ buffers. buffer_view is_punctuation after buffers.content ≡ []) }
         ensures stack { IfOk result (λ buffers. buffers.scratch.stack.items ≡ []) }
         ensures text { IfOk result (λ buffers. string_bytes buffers.scratch.text ≡ []) }
     {

@@ -36,10 +36,10 @@ impl<'a, T: Tables, A: Allocator + Clone> Texts<'a, T, A> {
     {
         let start = content_start(content);
         match check_at(&self.options.parse.constructs, first, start) {
-            None => self.push_from(out, scratch, alloc, content, start),
+            None => self.push_from(out, scratch, alloc, false, content, start),
             Some(check) => {
                 push_check(out, &self.options.compile, check.done)?;
-                self.push_from(out, scratch, alloc, content, check.after)
+                self.push_from(out, scratch, alloc, false, content, check.after)
             }
         }
     }

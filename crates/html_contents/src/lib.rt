@@ -2,6 +2,7 @@
 #![tactic(auto)]
 
 pub mod buffers;
+pub mod gfm_table;
 mod gfm_task_list_item;
 pub mod texts;
 

@@ -10,9 +10,11 @@ ghost use Rattle.definition_inline.specs.Scan.{inlines, inlines_from};
 ghost use Rattle.definition_text.specs.BlockLines.{own_lines};
 ghost use Rattle.inline_content.specs.View.{content_view, view_at};
 ghost use Rattle.inline_parser.specs.Scanned.{IsPlace};
+ghost use Rattle.html_inline.specs.GfmTable.{shown};
 
 use crate::buffers::TextBuffers;
 use block_rows::Piece;
+use definition_text::Kind;
 use html_inline::{Printing, Scratch, push_encoded_string, push_rows};
 use inline_content::{Content, whole_content};
 use inline_labels::LabelTable;
@@ -47,7 +49,8 @@ impl<'a, T: Tables, A: Allocator + Clone> Texts<'a, T, A> {
     {
         let alloc = buffers.alloc.clone()?;
         buffers.content.join(lines)?;
-        self.push_content(out, &mut buffers.scratch, alloc, buffers.content.content())
+        let content = buffers.content.content(Kind::Whitespace);
+        self.push_content(out, &mut buffers.scratch, alloc, false, content)
     }
 
     /// Prints the text of a paragraph's lines, without the last ending. It has a check where it is
@@ -65,7 +68,7 @@ impl<'a, T: Tables, A: Allocator + Clone> Texts<'a, T, A> {
     {
         let alloc = buffers.alloc.clone()?;
         buffers.content.join(lines)?;
-        let content = buffers.content.content();
+        let content = buffers.content.content(Kind::Whitespace);
         self.push_checked(out, &mut buffers.scratch, alloc, first, content)
     }
 
@@ -82,7 +85,8 @@ impl<'a, T: Tables, A: Allocator + Clone> Texts<'a, T, A> {
         let alloc = buffers.alloc.clone()?;
         let lines = [*line];
         buffers.content.join(&lines)?;
-        self.push_content(out, &mut buffers.scratch, alloc, buffers.content.content())
+        let content = buffers.content.content(Kind::Whitespace);
+        self.push_content(out, &mut buffers.scratch, alloc, false, content)
     }
 
     /// Prints a paragraph of the first lines of a text, so many, without the last ending (CommonMark
@@ -112,20 +116,21 @@ impl<'a, T: Tables, A: Allocator + Clone> Texts<'a, T, A> {
         push_encoded_string(out, &self.options.parse.constructs, self.tables, info)
     }
 
-    /// Prints the inline structure of a content (CommonMark 6).
-    fn push_content(
+    /// Prints the inline structure of a content, in a cell of a table or not (CommonMark 6).
+    pub(crate) fn push_content(
         &self,
         out: &mut String<A>,
         scratch: &mut Scratch<A>,
         alloc: A,
+        cell: bool,
         content: Content<'_>,
     ) -> Result<(), AllocError>
         ensures { (ds : List Definition) → HasDefinitions self.now.labels.now self.now.links.now ds →
             let d = document_by T.Tables self.now ds in
             let structure = inlines (context_of d) (content_view (T.punctuation_of self.now.tables.now) content.entry) in
-            OnOk result (string_bytes out.new ≡ string_bytes out.old ++ inline_html (meaning_of d) structure) }
+            OnOk result (string_bytes out.new ≡ string_bytes out.old ++ inline_html (meaning_of d) (shown cell structure)) }
     {
-        self.push_from(out, scratch, alloc, content, content_start(content))
+        self.push_from(out, scratch, alloc, cell, content, content_start(content))
     }
 
     /// Prints the inline structure of a content from a place on.
@@ -134,6 +139,7 @@ impl<'a, T: Tables, A: Allocator + Clone> Texts<'a, T, A> {
         out: &mut String<A>,
         scratch: &mut Scratch<A>,
         alloc: A,
+        cell: bool,
         content: Content<'c>,
         start: &'c str,
     ) -> Result<(), AllocError>
@@ -141,7 +147,7 @@ impl<'a, T: Tables, A: Allocator + Clone> Texts<'a, T, A> {
         ensures { (ds : List Definition) → HasDefinitions self.now.labels.now self.now.links.now ds →
             let d = document_by T.Tables self.now ds in
             let structure = inlines_from (context_of d) (view_at (T.punctuation_of self.now.tables.now) content.entry start.now) in
-            OnOk result (string_bytes out.new ≡ string_bytes out.old ++ inline_html (meaning_of d) structure) }
+            OnOk result (string_bytes out.new ≡ string_bytes out.old ++ inline_html (meaning_of d) (shown cell structure)) }
     {
         let parse = &self.options.parse;
         let rows = inline_rows(alloc, parse, self.tables, self.labels, content, start)?;
@@ -150,6 +156,7 @@ impl<'a, T: Tables, A: Allocator + Clone> Texts<'a, T, A> {
             compile: &self.options.compile,
             tables: self.tables,
             definitions: self.links,
+            cell,
         };
         push_rows(out, scratch, &printing, rows.as_slice())
     }

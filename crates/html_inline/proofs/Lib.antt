@@ -7,3 +7,5 @@ pub mod Numbers
 pub mod OpenStack
 pub mod PartTexts
 pub mod RowsPrinted
+pub mod BarEscapes
+pub mod CellRows

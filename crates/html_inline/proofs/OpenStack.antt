@@ -14,7 +14,8 @@ use Rattle.inline_rows.specs.declared.row.InlineRow.{InlineRow}
 use Rattle.inline_rows.specs.View.{data_rows, row_view, rows_view}
 use Rattle.html_inline.specs.declared.stack.OpenPart.{OpenPart}
 use Rattle.html_inline.specs.declared.stack.OpenPart.TheVariants.{Silent}
-use Rattle.html_inline.specs.Printed.{Opened, opened, Printed, printed_at, is_described, part_printed, parts_printed, enter, leave, row_printed}
+use Rattle.html_inline.specs.GfmTable.{part_shown, row_printed_in}
+use Rattle.html_inline.specs.Printed.{Opened, opened, Printed, printed_at, is_described, part_printed, parts_printed, enter, leave}
 
 -- one more stands on the stack
 pub stack_more : (view : OpenPart → Opened) (items : List OpenPart) (part : OpenPart) → map view (reverse (items ++ part ∷ [])) ≡ view part ∷ map view (reverse items)
@@ -50,32 +51,33 @@ data_either : (meaning : InlineMeaning) (described : Bool) (b : ℕ) → part_pr
 data_either meaning true b = refl
 data_either meaning false b = refl
 
-pub text_printed : (meaning : InlineMeaning) (out : List ℕ) (stack : List Opened) (text : List ℕ)
-    → fold (row_printed meaning) (printed_at out stack) (data_rows text) ≡ printed_at (out ++ encode text) stack
-text_printed meaning out stack [] = ap (λ x. printed_at x stack) (sym (append-nil out))
-text_printed meaning out stack (b ∷ bs) =
-    ap (λ s. fold (row_printed meaning) (printed_at (out ++ s) stack) (data_rows bs)) (data_either meaning (is_described stack) b)
-    ∙ text_printed meaning (out ++ encoded_byte b) stack bs
+pub text_printed : (cell : Bool) (meaning : InlineMeaning) (out : List ℕ) (stack : List Opened) (text : List ℕ)
+    → fold (row_printed_in cell meaning) (printed_at out stack) (data_rows text) ≡ printed_at (out ++ encode text) stack
+text_printed cell meaning out stack [] = ap (λ x. printed_at x stack) (sym (append-nil out))
+text_printed cell meaning out stack (b ∷ bs) =
+    ap (λ s. fold (row_printed_in cell meaning) (printed_at (out ++ s) stack) (data_rows bs)) (data_either meaning (is_described stack) b)
+    ∙ text_printed cell meaning (out ++ encoded_byte b) stack bs
     ∙ ap (λ x. printed_at x stack) (append_assoc out (encoded_byte b) (encode bs))
 
-pub leaf_printed : (meaning : InlineMeaning) (out : List ℕ) (stack : List Opened) (parts : List inline.Inline)
-    → fold (row_printed meaning) (printed_at out stack) (map rows_of.Part parts) ≡ printed_at (out ++ parts_printed meaning (is_described stack) parts) stack
-leaf_printed meaning out stack [] = ap (λ x. printed_at x stack) (sym (append-nil out))
-leaf_printed meaning out stack (i ∷ is) =
-    leaf_printed meaning (out ++ part_printed meaning (is_described stack) i) stack is
-    ∙ ap (λ x. printed_at x stack) (append_assoc out (part_printed meaning (is_described stack) i) (parts_printed meaning (is_described stack) is))
+pub leaf_printed : (cell : Bool) (meaning : InlineMeaning) (out : List ℕ) (stack : List Opened) (parts : List inline.Inline)
+    → fold (row_printed_in cell meaning) (printed_at out stack) (map rows_of.Part parts) ≡ printed_at (out ++ parts_printed meaning (is_described stack) (map (part_shown cell) parts)) stack
+leaf_printed cell meaning out stack [] = ap (λ x. printed_at x stack) (sym (append-nil out))
+leaf_printed cell meaning out stack (i ∷ is) =
+    let first = part_printed meaning (is_described stack) (part_shown cell i) in
+    leaf_printed cell meaning (out ++ first) stack is
+    ∙ ap (λ x. printed_at x stack) (append_assoc out first (parts_printed meaning (is_described stack) (map (part_shown cell) is)))
 
 -- one more row
-pub rows_more : (meaning : InlineMeaning) (at : ℕ → inline.Linked) (start : Printed) (rows : List InlineRow) (i : ℕ) (d : InlineRow) → i < length rows
-    → fold (row_printed meaning) start (rows_view at (take (i + 1) rows))
-    ≡ fold (row_printed meaning) (fold (row_printed meaning) start (rows_view at (take i rows))) (row_view at (get_or rows i d))
-rows_more meaning at start rows i d lt =
-    ap (λ s. fold (row_printed meaning) start (rows_view at s)) (take_more rows i d lt)
-    ∙ ap (fold (row_printed meaning) start) (flat_map-append (row_view at) (take i rows) (get_or rows i d ∷ []) ∙ ap (λ s. rows_view at (take i rows) ++ s) (append-nil (row_view at (get_or rows i d))))
-    ∙ fold-append (row_printed meaning) start (rows_view at (take i rows)) (row_view at (get_or rows i d))
+pub rows_more : (cell : Bool) (meaning : InlineMeaning) (at : ℕ → inline.Linked) (start : Printed) (rows : List InlineRow) (i : ℕ) (d : InlineRow) → i < length rows
+    → fold (row_printed_in cell meaning) start (rows_view at (take (i + 1) rows))
+    ≡ fold (row_printed_in cell meaning) (fold (row_printed_in cell meaning) start (rows_view at (take i rows))) (row_view at (get_or rows i d))
+rows_more cell meaning at start rows i d lt =
+    ap (λ s. fold (row_printed_in cell meaning) start (rows_view at s)) (take_more rows i d lt)
+    ∙ ap (fold (row_printed_in cell meaning) start) (flat_map-append (row_view at) (take i rows) (get_or rows i d ∷ []) ∙ ap (λ s. rows_view at (take i rows) ++ s) (append-nil (row_view at (get_or rows i d))))
+    ∙ fold-append (row_printed_in cell meaning) start (rows_view at (take i rows)) (row_view at (get_or rows i d))
 
-pub rows_step : (meaning : InlineMeaning) (at : ℕ → inline.Linked) (start before after : Printed) (rows : List InlineRow) (i : ℕ) (d : InlineRow) → i < length rows
-    → before ≡ fold (row_printed meaning) start (rows_view at (take i rows)) → after ≡ fold (row_printed meaning) before (row_view at (get_or rows i d))
-    → after ≡ fold (row_printed meaning) start (rows_view at (take (i + 1) rows))
-rows_step meaning at start before after rows i d lt e f =
-    f ∙ ap (λ (q : Printed). fold (row_printed meaning) q (row_view at (get_or rows i d))) e ∙ sym (rows_more meaning at start rows i d lt)
+pub rows_step : (cell : Bool) (meaning : InlineMeaning) (at : ℕ → inline.Linked) (start before after : Printed) (rows : List InlineRow) (i : ℕ) (d : InlineRow) → i < length rows
+    → before ≡ fold (row_printed_in cell meaning) start (rows_view at (take i rows)) → after ≡ fold (row_printed_in cell meaning) before (row_view at (get_or rows i d))
+    → after ≡ fold (row_printed_in cell meaning) start (rows_view at (take (i + 1) rows))
+rows_step cell meaning at start before after rows i d lt e f =
+    f ∙ ap (λ (q : Printed). fold (row_printed_in cell meaning) q (row_view at (get_or rows i d))) e ∙ sym (rows_more cell meaning at start rows i d lt)

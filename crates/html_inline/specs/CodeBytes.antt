@@ -2,6 +2,7 @@
 use Rattle.std.specs.Prelude.{ℕ, Bool, not, ◌==◌, ◌&&◌, List, ◌++◌, codes, map}
 use Rattle.definition_inline.specs.CodeText.{code_space, code_text}
 use Rattle.definition_text.specs.Content.{content_codes}
+use Rattle.html_inline.specs.GfmTable.{code_shown}
 use Rattle.definition_text.specs.Encode.{encode}
 
 -- a byte that begins no line ending
@@ -12,6 +13,6 @@ is_in_line b = not (b == 10) && not (b == 13)
 abbrev pub spaced : List ℕ → List ℕ
 spaced bytes = map code_space (content_codes bytes)
 
--- math in a text, as it is printed
-abbrev pub math_html : List ℕ → List ℕ
-math_html bytes = codes "<code class=\"language-math math-inline\">" ++ encode (code_text (content_codes bytes)) ++ codes "</code>"
+-- math in a text, as it is printed in a cell or elsewhere
+abbrev pub math_html : Bool → List ℕ → List ℕ
+math_html cell bytes = codes "<code class=\"language-math math-inline\">" ++ encode (code_shown cell (code_text (content_codes bytes))) ++ codes "</code>"

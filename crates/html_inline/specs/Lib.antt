@@ -5,3 +5,4 @@ pub mod Kept
 pub mod Opens
 pub mod Printed
 pub mod Prints
+pub mod GfmTable

@@ -8,37 +8,46 @@ ghost use Rattle.definition_inline.specs.CodeText.{code_text, is_padded, unpadde
 ghost use Rattle.definition_text.specs.Content.{content_codes};
 ghost use Rattle.definition_text.specs.Encode.{encode};
 ghost use Rattle.html_inline.specs.CodeBytes.{is_in_line, spaced};
+ghost use Rattle.html_inline.specs.GfmTable.{code_shown};
 ghost use Rattle.html_inline.specs.Prints.{Prints};
 
+use crate::gfm_table::push_cell_code;
 use html_escape::push_encoded;
 use inline_leaves::cut::{cut_after, text_before};
 use inline_leaves::line_ending::ending_at;
 use std::alloc::{AllocError, Allocator};
 
-/// Prints a code span (CommonMark 6.1).
+/// Prints a code span, in a cell or not (CommonMark 6.1).
 pub(crate) fn push_code_span<A: Allocator>(
     out: &mut String<A>,
     room: &mut String<A>,
+    cell: bool,
     code: &str,
 ) -> Result<(), AllocError>
-    ensures { Prints result out.old out.new (codes "<code>" ++ encode (code_text (content_codes code.now)) ++ codes "</code>") }
+    ensures { Prints result out.old out.new (codes "<code>" ++ encode (code_shown cell (code_text (content_codes code.now))) ++ codes "</code>") }
 {
     out.push_str("<code>")?;
-    push_code(out, room, code)?;
+    push_code(out, room, cell, code)?;
     out.push_str("</code>")
 }
 
-/// Prints the text of a code span. `spaces` is used for its text with spaces for line endings.
+/// Prints the text of a code span, in a cell or not. `spaces` is used for its text with spaces for line endings.
 pub(crate) fn push_code<A: Allocator>(
     out: &mut String<A>,
     spaces: &mut String<A>,
+    cell: bool,
     code: &str,
 ) -> Result<(), AllocError>
-    ensures { Prints result out.old out.new (encode (code_text (content_codes code.now))) }
+    ensures { Prints result out.old out.new (encode (code_shown cell (code_text (content_codes code.now)))) }
 {
     spaces.clear();
     push_spaced(spaces, code)?;
-    push_encoded(out, unpadded(spaces.as_str()))
+    let text = unpadded(spaces.as_str());
+    if cell {
+        push_cell_code(out, text)
+    } else {
+        push_encoded(out, text)
+    }
 }
 
 /// Prints a text with a space for each line ending.

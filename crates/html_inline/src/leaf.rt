@@ -2,6 +2,8 @@
 ghost use Rattle.std.specs.List.{flat_map};
 ghost use Rattle.html_bytes.specs.InlineHtml.{part_description, part_html};
 ghost use Rattle.inline_leaves.specs.Leaves.{parts_of};
+ghost use Rattle.std.specs.Prelude.{map};
+ghost use Rattle.html_inline.specs.GfmTable.{part_shown};
 ghost use Rattle.html_inline.specs.Prints.{meaning_by, Definitions, Prints};
 
 use crate::autolink::push_autolink;
@@ -17,22 +19,23 @@ use inline_leaves::LeafPart;
 use markdown_options::{CompileOptions, Tables};
 use std::alloc::{AllocError, Allocator};
 
-/// Prints what a construct says in the description of an image (CommonMark 6.4). `room` is used
-/// for the text of a code span or of math.
+/// Prints what a construct says in the description of an image, in a cell or not (CommonMark 6.4).
+/// `room` is used for the text of a code span or of math.
 pub(crate) fn push_description<A: Allocator>(
     out: &mut String<A>,
     room: &mut String<A>,
     compile: &CompileOptions,
+    cell: bool,
     part: LeafPart<'_>,
 ) -> Result<(), AllocError>
-    ensures { Prints result out.old out.new (flat_map (part_description compile.now) (parts_of part.entry)) }
+    ensures { Prints result out.old out.new (flat_map (part_description compile.now) (map (part_shown cell) (parts_of part.entry))) }
 {
     match part {
         LeafPart::Escape(text) => push_encoded(out, text),
         LeafPart::Character(text) => push_encoded(out, text),
         LeafPart::Number { radix, digits } => push_number(out, Form::Encoded, radix, digits),
-        LeafPart::Code(code) => push_code(out, room, code),
-        LeafPart::Math(math) => push_code(out, room, math),
+        LeafPart::Code(code) => push_code(out, room, cell, code),
+        LeafPart::Math(math) => push_code(out, room, cell, math),
         LeafPart::Unclosed(text) => push_encoded(out, text),
         LeafPart::Autolink { text, .. } => push_encoded(out, text),
         LeafPart::Literal { text, .. } => push_encoded(out, text),
@@ -53,14 +56,14 @@ pub(crate) fn push_leaf<A: Allocator, T: Tables>(
 ) -> Result<(), AllocError>
     ensures { (definition : Definitions) →
         Prints result out.old out.new (flat_map (part_html (meaning_by (T.reference_of printing.now.tables.now) printing.now definition))
-        (parts_of part.entry)) }
+        (map (part_shown printing.now.cell) (parts_of part.entry))) }
 {
     match part {
         LeafPart::Escape(text) => push_encoded(out, text),
         LeafPart::Character(text) => push_encoded(out, text),
         LeafPart::Number { radix, digits } => push_number(out, Form::Encoded, radix, digits),
-        LeafPart::Code(code) => push_code_span(out, room, code),
-        LeafPart::Math(math) => push_math(out, room, math),
+        LeafPart::Code(code) => push_code_span(out, room, printing.cell, code),
+        LeafPart::Math(math) => push_math(out, room, printing.cell, math),
         LeafPart::Unclosed(text) => push_encoded(out, text),
         LeafPart::Autolink { email, text } => {
             push_autolink(out, room, printing.compile, email, text)

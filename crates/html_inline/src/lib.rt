@@ -6,6 +6,7 @@ pub mod character_reference;
 pub mod code_text;
 pub mod form;
 mod gfm_autolink_literal;
+pub mod gfm_table;
 pub mod gfm_task_list_item;
 pub mod html_text;
 pub mod label_end;

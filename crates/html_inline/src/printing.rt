@@ -17,6 +17,8 @@ pub struct Printing<'a, T> {
     pub tables: &'a T,
     /// Where the definitions of the document lead, by their places.
     pub definitions: &'a [Linked<'a>],
+    /// Whether it is the cell of a table, in whose code a bar may be escaped (GFM 4.10).
+    pub cell: bool,
 }
 
 /// Room that is used again for each content.

@@ -13,6 +13,7 @@ ghost use Rattle.inline_leaves.specs.Leaves.{parts_of};
 ghost use Rattle.inline_rows.specs.View.{linked_view, row_view, rows_view, target_linked};
 ghost use Rattle.inline_rows.specs.declared.row.InlineRow.{InlineRow};
 ghost use Rattle.inline_rows.specs.declared.row.InlineRow.TheVariants.{Exit};
+ghost use Rattle.html_inline.specs.GfmTable.{shown, part_shown, row_printed_in};
 ghost use Rattle.html_inline.specs.Opens.{image_linked, opened_view, place_linked, printed_of};
 ghost use Rattle.html_inline.specs.Printed.{is_described, parts_printed, row_printed, span_end, span_start};
 ghost use Rattle.html_inline.specs.Prints.{meaning_by, Definitions, Prints};
@@ -37,7 +38,7 @@ pub fn push_rows<A: Allocator, T: Tables>(
 ) -> Result<(), AllocError>
     ensures { (definition : Definitions) (is : inline.Inlines) →
         rows_view (place_linked printing.now.definitions.now) rows.now ≡ rows_of.inline_rows (leads_to definition) is →
-        Prints result out.old out.new (inline_html (meaning_by (T.reference_of printing.now.tables.now) printing.now definition) is) }
+        Prints result out.old out.new (inline_html (meaning_by (T.reference_of printing.now.tables.now) printing.now definition) (shown printing.now.cell is)) }
 {
     scratch.stack.clear();
     for (place, row) in rows.iter().enumerate() {
@@ -60,7 +61,8 @@ fn push_row<A: Allocator, T: Tables>(
         let meaning = meaning_by (T.reference_of printing.now.tables.now) printing.now definition in
         let at = place_linked printing.now.definitions.now in
         OnOk result (printed_of meaning at rows.now (string_bytes out.new) scratch.new.stack.items
-        ≡ fold (row_printed meaning) (printed_of meaning at rows.now (string_bytes out.old) scratch.old.stack.items) (row_view at row.entry)) }
+        ≡ fold (row_printed_in printing.now.cell meaning) (printed_of meaning at rows.now (string_bytes out.old) scratch.old.stack.items)
+        (row_view at row.entry)) }
 {
     match row {
         InlineRow::Text(text) => push_encoded(out, text),
@@ -84,10 +86,16 @@ fn push_part<A: Allocator, T: Tables>(
         let meaning = meaning_by (T.reference_of printing.now.tables.now) printing.now definition in
         let at = place_linked printing.now.definitions.now in
         Prints result out.old out.new (parts_printed meaning (is_described (map (opened_view meaning at rows) (reverse scratch.old.stack.items)))
-        (parts_of part.entry)) }
+        (map (part_shown printing.now.cell) (parts_of part.entry))) }
 {
     if is_described(scratch.stack.as_slice()) {
-        push_description(out, &mut scratch.text, printing.compile, part)
+        push_description(
+            out,
+            &mut scratch.text,
+            printing.compile,
+            printing.cell,
+            part,
+        )
     } else {
         push_leaf(out, &mut scratch.text, printing, part)
     }

@@ -3,7 +3,6 @@ use Rattle.std.proofs.Common.{◌≡◌, ℕ, zero, suc, ◌+◌, ◌-◌, ◌*�
 use Rattle.std.specs.Char.{encode_utf8}
 use Rattle.std.proofs.lemmas.Bool.{cases_lt, cond-true, cond-false, lt-ltb, le-ltb, le-leb, and_left, and_from, and_right, lt-leb, ne_eqb, or_from}
 use Rattle.definition_text.specs.declared.beside.Kind.{Kind}
-use Rattle.definition_text.specs.declared.beside.Kind.TheVariants.{Whitespace}
 use Rattle.definition_text.specs.Lines.{ends_line}
 use Rattle.definition_text.specs.Content.{is_eol}
 use Rattle.definition_text.specs.InlineCode.{first_character, first_kind, is_continuation, character_kind}
@@ -189,9 +188,9 @@ module _ (p : ℕ → Bool) (marks : List Mark) where
       ∙ ap (character_kind p) first
 
 -- the kind before a character that ends no line
-pub kind_ahead : (p : ℕ → Bool) (c : ℕ) (cs : List ℕ) → c < 2097152 → ends_line c ≡ false → first_kind p Whitespace (line_left (encode_utf8 c ++ cs)) ≡ character_kind p c
-kind_ahead p c cs small h =
+pub kind_ahead : (p : ℕ → Bool) (end : Kind) (c : ℕ) (cs : List ℕ) → c < 2097152 → ends_line c ≡ false → first_kind p end (line_left (encode_utf8 c ++ cs)) ≡ character_kind p c
+kind_ahead p end c cs small h =
     let s = spelled c small h in
     let left = line_left (s.others ++ cs) in
     let line : line_left (encode_utf8 c ++ cs) ≡ s.head ∷ left = ap (λ bs. line_left (bs ++ cs)) s.same ∙ line_more s.head (s.others ++ cs) s.clear in
-    ap (first_kind p Whitespace) line ∙ cond-false (is_eol s.head) _ _ s.clear ∙ ap (λ l. character_kind p (first_character l)) (sym line) ∙ ap (character_kind p) (first_is c cs small h)
+    ap (first_kind p end) line ∙ cond-false (is_eol s.head) _ _ s.clear ∙ ap (λ l. character_kind p (first_character l)) (sym line) ∙ ap (character_kind p) (first_is c cs small h)

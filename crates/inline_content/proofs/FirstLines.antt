@@ -10,7 +10,7 @@ use Rattle.std.proofs.lemmas.List.Concat.{flat_map-append}
 use Rattle.markdown_options.specs.declared.line_ending.LineEnding.{LineEnding}
 use Rattle.markdown_options.specs.declared.line_ending.LineEnding.TheVariants.{CarriageReturnLineFeed, CarriageReturn, LineFeed}
 use Rattle.markdown_options.specs.LineEndings.{ending_bytes}
-use Rattle.definition_text.specs.declared.beside.Kind.TheVariants.{Whitespace}
+use Rattle.definition_text.specs.declared.beside.Kind.{Kind}
 use Rattle.definition_text.specs.Lines.{TextLine, text_line, in_first_line, after_return, lines, ending_text}
 use Rattle.definition_text.specs.Columns.{code_byte}
 use Rattle.definition_text.specs.BlockLines.{own_lines}
@@ -138,8 +138,8 @@ pub whole_apart : (n : ℕ) (text : List ℕ) → ((k : ℕ) → get_or text k 0
 whole_apart n text h = apart (take n (lines text)) (first_lines n (lines text) (are_lines text h))
 
 -- without marks they are what they are in the text
-pub whole_view : (p : ℕ → Bool) (n : ℕ) (text : List ℕ) → ((k : ℕ) → get_or text k 0 < 256) → marked p [] (content_text (whole_lines n text)) ≡ inline_content p Whitespace (own_lines (whole_lines n text))
-whole_view p n text h = content_is p [] (whole_lines n text) (whole_apart n text h) (agree 0 (take n (lines text)))
+pub whole_view : (p : ℕ → Bool) (end : Kind) (n : ℕ) (text : List ℕ) → ((k : ℕ) → get_or text k 0 < 256) → marked p end [] (content_text (whole_lines n text)) ≡ inline_content p end (own_lines (whole_lines n text))
+whole_view p end n text h = content_is p end [] (whole_lines n text) (whole_apart n text h) (agree 0 (take n (lines text)))
   where
     agree : (place : ℕ) (ls : List TextLine) → Agree p [] place (map whole_line ls)
     agree place [] = tt

@@ -112,50 +112,51 @@ module _ (p : ℕ → Bool) (marks : List Mark) where
   Agree place [] = Unit {0}
   Agree place (line ∷ others) = (kind_at marks place ≡ line.before) × Agree (place + length (line_text line)) others
 
+module _ (p : ℕ → Bool) (end : Kind) (marks : List Mark) where
   last_view : (place : ℕ) (previous : Option ℕ) (before : Kind) (cs : List ℕ) → HaveNoEnding cs
-      → view_from p marks place previous before cs ≡ with_kinds p previous before Whitespace cs
+      → view_from p end marks place previous before cs ≡ with_kinds p previous before end cs
   last_view place previous before [] h = refl
   last_view place previous before (c ∷ cs) h =
       let next = place + width c in
       let here = inline_code c previous before in
-      ap (λ l. here (kind_after p c l) ∷ view_from p marks next (previous_after c) (kind_before p marks next before c l) cs) (left_all cs h.1)
-      ∙ ap (λ k. here k ∷ view_from p marks next (previous_after c) (kind_before p marks next before c cs) cs) (cond-false (is_eol c) _ _ h.0)
-      ∙ ap (λ k. here (first_kind p Whitespace cs) ∷ view_from p marks next (previous_after c) k cs) (cond-false (is_eol c) _ _ h.0)
-      ∙ ap (λ o. here (first_kind p Whitespace cs) ∷ view_from p marks next o (next_kind p before (c ∷ cs)) cs) (cond-false (is_eol c) None (Some c) h.0)
-      ∙ ap (λ l. here (first_kind p Whitespace cs) ∷ l) (last_view next (Some c) (next_kind p before (c ∷ cs)) cs h.1)
+      ap (λ l. here (kind_after p end c l) ∷ view_from p end marks next (previous_after c) (kind_before p marks next before c l) cs) (left_all cs h.1)
+      ∙ ap (λ k. here k ∷ view_from p end marks next (previous_after c) (kind_before p marks next before c cs) cs) (cond-false (is_eol c) _ _ h.0)
+      ∙ ap (λ k. here (first_kind p end cs) ∷ view_from p end marks next (previous_after c) k cs) (cond-false (is_eol c) _ _ h.0)
+      ∙ ap (λ o. here (first_kind p end cs) ∷ view_from p end marks next o (next_kind p before (c ∷ cs)) cs) (cond-false (is_eol c) None (Some c) h.0)
+      ∙ ap (λ l. here (first_kind p end cs) ∷ l) (last_view next (Some c) (next_kind p before (c ∷ cs)) cs h.1)
 
   line_view : (place : ℕ) (previous : Option ℕ) (before : Kind) (cs : List ℕ) (e : ℕ) (rest : List ℕ) → HaveNoEnding cs → is_eol e ≡ true
-      → view_from p marks place previous before (cs ++ e ∷ rest)
-      ≡ with_kinds p previous before Whitespace (cs ++ e ∷ []) ++ view_from p marks (place + (length cs + width e)) None (kind_at marks (place + (length cs + width e))) rest
+      → view_from p end marks place previous before (cs ++ e ∷ rest)
+      ≡ with_kinds p previous before end (cs ++ e ∷ []) ++ view_from p end marks (place + (length cs + width e)) None (kind_at marks (place + (length cs + width e))) rest
   line_view place previous before [] e rest h is =
       let next = place + width e in
       let here = inline_code e previous before in
       let n : next ≡ place + (0 + width e) = omega arith in
-      ap (λ k. here k ∷ view_from p marks next (previous_after e) (kind_before p marks next before e (line_left rest)) rest) (cond-true (is_eol e) _ _ is)
-      ∙ ap (λ k. here Whitespace ∷ view_from p marks next (previous_after e) k rest) (cond-true (is_eol e) _ _ is)
-      ∙ ap (λ o. here Whitespace ∷ view_from p marks next o (kind_at marks next) rest) (cond-true (is_eol e) None (Some e) is)
-      ∙ ap (λ m. here Whitespace ∷ view_from p marks m None (kind_at marks m) rest) n
+      ap (λ k. here k ∷ view_from p end marks next (previous_after e) (kind_before p marks next before e (line_left rest)) rest) (cond-true (is_eol e) _ _ is)
+      ∙ ap (λ k. here end ∷ view_from p end marks next (previous_after e) k rest) (cond-true (is_eol e) _ _ is)
+      ∙ ap (λ o. here end ∷ view_from p end marks next o (kind_at marks next) rest) (cond-true (is_eol e) None (Some e) is)
+      ∙ ap (λ m. here end ∷ view_from p end marks m None (kind_at marks m) rest) n
   line_view place previous before (c ∷ cs) e rest h is =
       let next = place + width c in
       let line = cs ++ e ∷ [] in
       let here = inline_code c previous before in
       let n : next + (length cs + width e) ≡ place + (length (c ∷ cs) + width e) = let one = one_byte c h.0 in omega (arith, one) in
-      ap (λ l. here (kind_after p c l) ∷ view_from p marks next (previous_after c) (kind_before p marks next before c l) (cs ++ e ∷ rest)) (left_line cs e rest h.1 is)
-      ∙ ap (λ k. here k ∷ view_from p marks next (previous_after c) (kind_before p marks next before c line) (cs ++ e ∷ rest)) (cond-false (is_eol c) _ _ h.0)
-      ∙ ap (λ k. here (first_kind p Whitespace line) ∷ view_from p marks next (previous_after c) k (cs ++ e ∷ rest)) (cond-false (is_eol c) _ _ h.0)
-      ∙ ap (λ o. here (first_kind p Whitespace line) ∷ view_from p marks next o (next_kind p before (c ∷ line)) (cs ++ e ∷ rest)) (cond-false (is_eol c) None (Some c) h.0)
-      ∙ ap (λ l. here (first_kind p Whitespace line) ∷ l) (line_view next (Some c) (next_kind p before (c ∷ line)) cs e rest h.1 is)
-      ∙ ap (λ m. here (first_kind p Whitespace line) ∷ (with_kinds p (Some c) (next_kind p before (c ∷ line)) Whitespace line ++ view_from p marks m None (kind_at marks m) rest)) n
+      ap (λ l. here (kind_after p end c l) ∷ view_from p end marks next (previous_after c) (kind_before p marks next before c l) (cs ++ e ∷ rest)) (left_line cs e rest h.1 is)
+      ∙ ap (λ k. here k ∷ view_from p end marks next (previous_after c) (kind_before p marks next before c line) (cs ++ e ∷ rest)) (cond-false (is_eol c) _ _ h.0)
+      ∙ ap (λ k. here (first_kind p end line) ∷ view_from p end marks next (previous_after c) k (cs ++ e ∷ rest)) (cond-false (is_eol c) _ _ h.0)
+      ∙ ap (λ o. here (first_kind p end line) ∷ view_from p end marks next o (next_kind p before (c ∷ line)) (cs ++ e ∷ rest)) (cond-false (is_eol c) None (Some c) h.0)
+      ∙ ap (λ l. here (first_kind p end line) ∷ l) (line_view next (Some c) (next_kind p before (c ∷ line)) cs e rest h.1 is)
+      ∙ ap (λ m. here (first_kind p end line) ∷ (with_kinds p (Some c) (next_kind p before (c ∷ line)) end line ++ view_from p end marks m None (kind_at marks m) rest)) n
 
   lines_view : (place : ℕ) (ls : List BlockLine) → AreApart ls → Agree place ls
-      → view_from p marks place None (kind_at marks place) (map code_byte (content_of (own_lines ls))) ≡ inline_content p Whitespace (own_lines ls)
+      → view_from p end marks place None (kind_at marks place) (map code_byte (content_of (own_lines ls))) ≡ inline_content p end (own_lines ls)
   lines_view place [] h k = refl
   lines_view place (line ∷ []) h k =
-      ap (view_from p marks place None (kind_at marks place)) (last_of line.codes)
-      ∙ ap (λ b. view_from p marks place None b (map code_byte line.codes)) k.0
+      ap (view_from p end marks place None (kind_at marks place)) (last_of line.codes)
+      ∙ ap (λ b. view_from p end marks place None b (map code_byte line.codes)) k.0
       ∙ last_view place None line.before (map code_byte line.codes) (clear_bytes line.codes h)
-      ∙ ap (λ cs. with_kinds p None line.before Whitespace (map code_byte cs)) (sym (append-nil line.codes))
-      ∙ sym (append-nil (with_kinds p None line.before Whitespace (map code_byte (line.codes ++ []))))
+      ∙ ap (λ cs. with_kinds p None line.before end (map code_byte cs)) (sym (append-nil line.codes))
+      ∙ sym (append-nil (with_kinds p None line.before end (map code_byte (line.codes ++ []))))
   lines_view place (line ∷ next ∷ others) h k =
       let e = h.1.0 in
       let bytes = map code_byte line.codes in
@@ -164,17 +165,17 @@ module _ (p : ℕ → Bool) (marks : List Mark) where
       let w = ending_width e in let l = length-append bytes (ending_text line.ending) in let t = ap (λ o. length (ending_text o)) h.1.1 in omega (arith, w, l, t) in
       let own : map code_byte (line.codes ++ ending_code line.ending) ≡ bytes ++ line_ending_code e ∷ [] =
       ap (λ o. map code_byte (line.codes ++ ending_code o)) h.1.1 ∙ map-append code_byte line.codes (ending_code (Some e)) ∙ ap (λ l. bytes ++ l) (ending_byte e) in
-      let here : List ℕ → List InlineCode = with_kinds p None line.before Whitespace in
-      ap (view_from p marks place None (kind_at marks place)) (line_before line.codes (content_of (own_lines (next ∷ others))) line.ending e h.1.1)
-      ∙ ap (λ b. view_from p marks place None b (bytes ++ line_ending_code e ∷ rest)) k.0
+      let here : List ℕ → List InlineCode = with_kinds p None line.before end in
+      ap (view_from p end marks place None (kind_at marks place)) (line_before line.codes (content_of (own_lines (next ∷ others))) line.ending e h.1.1)
+      ∙ ap (λ b. view_from p end marks place None b (bytes ++ line_ending_code e ∷ rest)) k.0
       ∙ line_view place None line.before bytes (line_ending_code e) rest (clear_bytes line.codes h.0) (ending_is e)
-      ∙ ap (λ m. here (bytes ++ line_ending_code e ∷ []) ++ view_from p marks m None (kind_at marks m) rest) size
+      ∙ ap (λ m. here (bytes ++ line_ending_code e ∷ []) ++ view_from p end marks m None (kind_at marks m) rest) size
       ∙ ap (λ l. here (bytes ++ line_ending_code e ∷ []) ++ l) (lines_view (place + length (line_text line)) (next ∷ others) h.2 k.1)
-      ∙ ap (λ l. here l ++ inline_content p Whitespace (own_lines (next ∷ others))) (sym own)
+      ∙ ap (λ l. here l ++ inline_content p end (own_lines (next ∷ others))) (sym own)
 
   -- the content of lines
-  pub content_is : (ls : List BlockLine) → AreApart ls → Agree 0 ls → marked p marks (content_text ls) ≡ inline_content p Whitespace (own_lines ls)
-  content_is ls h k = ap (view_from p marks 0 None (kind_at marks 0)) (apart_codes ls h) ∙ lines_view 0 ls h k
+  pub content_is : (ls : List BlockLine) → AreApart ls → Agree 0 ls → marked p end marks (content_text ls) ≡ inline_content p end (own_lines ls)
+  content_is ls h k = ap (view_from p end marks 0 None (kind_at marks 0)) (apart_codes ls h) ∙ lines_view 0 ls h k
 
 -- ---- lines that are apart
 

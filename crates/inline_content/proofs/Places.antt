@@ -3,6 +3,7 @@ use Rattle.std.proofs.Common.{◌≡◌, ℕ, zero, suc, ◌+◌, ◌<◌, ◌�
 use Rattle.std.specs.Char.{encode_utf8}
 use Rattle.std.proofs.lemmas.Bool.{cases_Bool, cases_eq, cond-true, cond-false, eqb-true, ne_eqb, or_cases, true≢false}
 use Rattle.std.proofs.lemmas.List.{append-nil, take_at, drop_at, get_or_at, length-append, drop-drop}
+use Rattle.definition_text.specs.declared.beside.Kind.{Kind}
 use Rattle.definition_text.specs.declared.beside.Kind.TheVariants.{Whitespace}
 use Rattle.definition_text.specs.Lines.{ends_line}
 use Rattle.definition_text.specs.Content.{is_eol, content_codes}
@@ -173,30 +174,30 @@ module _ (p : ℕ → Bool) (marks : List Mark) where
       ∙ between_character p marks (0 + widths (content_codes zs)) (kind_between p marks 0 (kind_at marks 0) (content_codes zs) (encode_utf8 c ++ cs)) c cs small h)
 
 -- the kind of the character that a rest begins with
-pub rest_kind : (p : ℕ → Bool) (rest others : List ℕ) (c : ℕ) → rest ≡ encode_utf8 c ++ others → c < 2097152
-    → character_kind p c ≡ first_kind p Whitespace (line_left (content_codes rest))
+pub rest_kind : (p : ℕ → Bool) (end : Kind) (rest others : List ℕ) (c : ℕ) → rest ≡ encode_utf8 c ++ others → c < 2097152
+    → character_kind p c ≡ first_kind p end (line_left (content_codes rest))
 unfolding encode_utf8
-rest_kind p rest others c e small = elim (cases_Bool (ends_line c)) [
+rest_kind p end rest others c e small = elim (cases_Bool (ends_line c)) [
   | inl h ↦ elim (or_cases (eqb c 10) (eqb c 13) h) [
     | inl f ↦
         let ten = eqb-true c 10 f in
-        ap (character_kind p) ten ∙ sym (ap (λ l. first_kind p Whitespace (line_left (content_codes l))) (e ∙ ap (λ x. encode_utf8 x ++ others) ten))
+        ap (character_kind p) ten ∙ sym (ap (λ l. first_kind p end (line_left (content_codes l))) (e ∙ ap (λ x. encode_utf8 x ++ others) ten))
     | inr r ↦
         let thirteen = eqb-true c 13 r in
-        ap (character_kind p) thirteen ∙ sym (ap (λ l. first_kind p Whitespace (line_left (content_codes l))) (e ∙ ap (λ x. encode_utf8 x ++ others) thirteen) ∙ at_return p others)
+        ap (character_kind p) thirteen ∙ sym (ap (λ l. first_kind p end (line_left (content_codes l))) (e ∙ ap (λ x. encode_utf8 x ++ others) thirteen) ∙ at_return p others)
   ]
   | inr h ↦
       sym
-      (ap (λ l. first_kind p Whitespace (line_left (content_codes l))) e
-      ∙ ap (λ l. first_kind p Whitespace (line_left l)) (character_codes c others small h)
-      ∙ kind_ahead p c (content_codes others) small h)
+      (ap (λ l. first_kind p end (line_left (content_codes l))) e
+      ∙ ap (λ l. first_kind p end (line_left l)) (character_codes c others small h)
+      ∙ kind_ahead p end c (content_codes others) small h)
 ]
   where
-    at_return : (p : ℕ → Bool) (bs : List ℕ) → first_kind p Whitespace (line_left (content_codes (13 ∷ bs))) ≡ Whitespace
+    at_return : (p : ℕ → Bool) (bs : List ℕ) → first_kind p end (line_left (content_codes (13 ∷ bs))) ≡ Whitespace
     at_return p [] = refl
     at_return p (b ∷ bs) = elim (cases_Bool (eqb b 10)) [
-      | inl f ↦ ap (λ l. first_kind p Whitespace (line_left l)) (cond-true (eqb b 10) _ _ f)
-      | inr n ↦ ap (λ l. first_kind p Whitespace (line_left l)) (cond-false (eqb b 10) _ _ n)
+      | inl f ↦ ap (λ l. first_kind p end (line_left l)) (cond-true (eqb b 10) _ _ f)
+      | inr n ↦ ap (λ l. first_kind p end (line_left l)) (cond-false (eqb b 10) _ _ n)
     ]
 
 -- ---- a rest of a content

@@ -8,7 +8,6 @@ use Rattle.std.specs.Str.{IsUtf8, IsCharBoundary}
 use Rattle.std.proofs.lemmas.Str.{IsCharBoundary-after_ascii}
 use Rattle.markdown_options.specs.declared.configuration.ParseOptions.{ParseOptions}
 use Rattle.definition_text.specs.declared.beside.Kind.{Kind}
-use Rattle.definition_text.specs.declared.beside.Kind.TheVariants.{Whitespace}
 use Rattle.definition_text.specs.Content.{is_eol, content_codes}
 use Rattle.definition_text.specs.InlineCode.{InlineCode, codes_of, first_kind, inline_code}
 use Rattle.definition_inline.specs.Attention.{is_marker, run_between, run_size, run_at}
@@ -96,24 +95,24 @@ first_code_is options b bs h c cs e = elim (cases_Bool (eqb b 13)) [
 pub text_is : (text rest : List ℕ) → IsRest text rest → text ≡ take (length text - length rest) text ++ rest
 text_is text rest h = let n = length text - length rest in sym (take-append-drop n text) ∙ ap (λ l. take n text ++ l) (sym h.place)
 
-module _ (p : ℕ → Bool) (marks : List Mark) (options : ParseOptions) where
-  pub rest_of_view : (text rest : List ℕ) → codes_of (drop (length (content_codes text) - length (content_codes rest)) (marked p marks text)) ≡ drop (length (content_codes text) - length (content_codes rest)) (content_codes text)
+module _ (p : ℕ → Bool) (end : Kind) (marks : List Mark) (options : ParseOptions) where
+  pub rest_of_view : (text rest : List ℕ) → codes_of (drop (length (content_codes text) - length (content_codes rest)) (marked p end marks text)) ≡ drop (length (content_codes text) - length (content_codes rest)) (content_codes text)
   rest_of_view text rest =
       let n = length (content_codes text) - length (content_codes rest) in
-      sym (drop-map (λ (c : InlineCode). c.code) n (marked p marks text)) ∙ ap (drop n) (codes_from p marks 0 None (kind_at marks 0) (content_codes text))
+      sym (drop-map (λ (c : InlineCode). c.code) n (marked p end marks text)) ∙ ap (drop n) (codes_from p end marks 0 None (kind_at marks 0) (content_codes text))
 
   pub no_run : (text rest : List ℕ) → IsRest text rest → (0 < length rest → is_marker options (get_or rest 0 0) ≡ false)
-      → None ≡ run_at options (drop (length (content_codes text) - length (content_codes rest)) (marked p marks text))
+      → None ≡ run_at options (drop (length (content_codes text) - length (content_codes rest)) (marked p end marks text))
   no_run text [] r h =
       let n = length (content_codes text) in
-      sym (no_run_codes options (drop (n - 0) (marked p marks text)) (λ c cs e. absurd (omega (arith, ap length (sym e ∙ rest_of_view text [] ∙ drop_all (n - 0) (content_codes text) (omega arith))))))
+      sym (no_run_codes options (drop (n - 0) (marked p end marks text)) (λ c cs e. absurd (omega (arith, ap length (sym e ∙ rest_of_view text [] ∙ drop_all (n - 0) (content_codes text) (omega arith))))))
   no_run text (y ∷ ys) r h =
       let codes = content_codes text in
       let n = length codes - length (content_codes (y ∷ ys)) in
       let zs = take (length text - length (y ∷ ys)) text in
       let whole = ap content_codes (text_is text (y ∷ ys) r) in
       sym
-      (no_run_codes options (drop n (marked p marks text))
+      (no_run_codes options (drop n (marked p end marks text))
       (λ c cs e.
       let here : drop n codes ≡ c ∷ cs = sym (rest_of_view text (y ∷ ys)) ∙ e in
       elim (split_codes zs y ys) [
@@ -172,38 +171,38 @@ module _ (p : ℕ → Bool) (marks : List Mark) (options : ParseOptions) where
 
   -- a run of codes
   run_of_codes : (place : ℕ) (previous : Option ℕ) (kind : Kind) (b : ℕ) (bs : List ℕ) (size : ℕ) (before after : Kind) → is_marker options b ≡ true
-      → size ≡ prefix_len (λ x. x == b) (b ∷ bs) → before ≡ kind → after ≡ first_kind p Whitespace (line_left (content_codes (drop size (b ∷ bs))))
-      → Some (run_between options b size before after) ≡ run_at options (view_from p marks place previous kind (b ∷ content_codes bs))
+      → size ≡ prefix_len (λ x. x == b) (b ∷ bs) → before ≡ kind → after ≡ first_kind p end (line_left (content_codes (drop size (b ∷ bs))))
+      → Some (run_between options b size before after) ≡ run_at options (view_from p end marks place previous kind (b ∷ content_codes bs))
   run_of_codes place previous kind b bs size before after h sized is_before is_after =
-      let v = view_from p marks place previous kind (b ∷ content_codes bs) in
+      let v = view_from p end marks place previous kind (b ∷ content_codes bs) in
       let codes = b ∷ content_codes bs in
       let return : b ≡ 13 → ⊥ = marker_at options b 13 h refl in
       let both : b ≡ 257 → ⊥ = marker_at options b 257 h refl in
       let plain : content_codes (b ∷ bs) ≡ codes = cond-false (eqb b 13) _ _ (ne_eqb b 13 return) in
       let count : size ≡ run_size b v =
-      sized ∙ sym (size_bytes b (b ∷ bs) return both) ∙ ap (prefix_len (λ x. x == b)) (plain ∙ sym (codes_from p marks place previous kind codes)) ∙ sym (size_codes b v) in
+      sized ∙ sym (size_bytes b (b ∷ bs) return both) ∙ ap (prefix_len (λ x. x == b)) (plain ∙ sym (codes_from p end marks place previous kind codes)) ∙ sym (size_codes b v) in
       let first : prefix_len (λ x. x == b) (b ∷ bs) ≡ 1 + prefix_len (λ x. x == b) bs = cond-true (eqb b b) _ 0 (eq-eqb b b refl) in
       let in_codes : size ≡ prefix_len (λ x. x == b) codes = sized ∙ sym (size_bytes b (b ∷ bs) return both) ∙ ap (prefix_len (λ x. x == b)) plain in
       let le = prefix_len-le-length (λ x. x == b) codes in
       let at_end : get_or codes (size - 1) 0 ≡ b = eqb-true (get_or codes (size - 1) 0) b (prefix_len_passes (λ x. x == b) codes (size - 1) 0 (omega (arith, in_codes, sized, first))) in
-      let d = inline_code b previous kind (kind_after p b (line_left (content_codes bs))) in
+      let d = inline_code b previous kind (kind_after p end b (line_left (content_codes bs))) in
       let next : suc (size - 1) ≡ size = omega (arith, sized, first) in
       let past : drop (suc (size - 1)) codes ≡ content_codes (drop size (b ∷ bs)) =
       ap (λ k. drop k codes) next ∙ ap (drop size) (sym plain) ∙ drop_bytes b size (b ∷ bs) return (omega (arith, sized)) in
       let last : after ≡ (get_or v (size - 1) d).after =
       is_after
-      ∙ sym (cond-false (is_eol b) Whitespace _ (within_line options b h))
-      ∙ ap (λ l. kind_after p b (line_left l)) (sym past)
-      ∙ ap (λ x. kind_after p x (line_left (drop (suc (size - 1)) codes))) (sym at_end)
-      ∙ sym (after_at p marks place previous kind codes (size - 1) d (omega (arith, in_codes, le, sized, first))) in
+      ∙ sym (cond-false (is_eol b) end _ (within_line options b h))
+      ∙ ap (λ l. kind_after p end b (line_left l)) (sym past)
+      ∙ ap (λ x. kind_after p end x (line_left (drop (suc (size - 1)) codes))) (sym at_end)
+      ∙ sym (after_at p end marks place previous kind codes (size - 1) d (omega (arith, in_codes, le, sized, first))) in
       ap Some (same_run b size (run_size b v) before kind after (get_or v (run_size b v - 1) d).after count is_before (last ∙ ap (λ k. (get_or v (k - 1) d).after) count))
       ∙ sym (cond-true (is_marker options b) _ None h)
 
   pub a_run : (text rest : List ℕ) (size : ℕ) (before after : Kind) → IsRest text rest → 0 < length rest → is_marker options (get_or rest 0 0) ≡ true
       → size ≡ prefix_len (λ x. x == get_or rest 0 0) rest
       → before ≡ kind_between p marks 0 (kind_at marks 0) (content_codes (take (length text - length rest) text)) (content_codes rest)
-      → after ≡ first_kind p Whitespace (line_left (content_codes (drop size rest)))
-      → Some (run_between options (get_or rest 0 0) size before after) ≡ run_at options (drop (length (content_codes text) - length (content_codes rest)) (marked p marks text))
+      → after ≡ first_kind p end (line_left (content_codes (drop size rest)))
+      → Some (run_between options (get_or rest 0 0) size before after) ≡ run_at options (drop (length (content_codes text) - length (content_codes rest)) (marked p end marks text))
   a_run text [] size before after r some h sized is_before is_after = absurd (omega (arith, some))
   a_run text (b ∷ bs) size before after r some h sized is_before is_after =
       let rest = b ∷ bs in
@@ -213,8 +212,8 @@ module _ (p : ℕ → Bool) (marks : List Mark) (options : ParseOptions) where
       let whole : content_codes text ≡ front ++ content_codes rest =
       ap content_codes (text_is text rest r) ∙ codes_append zs b bs (marker_at options b 10 h refl) in
       run_of_codes (widths front) (previous_from None front) (kind_between p marks 0 (kind_at marks 0) front (content_codes rest)) b bs size before after h sized is_before is_after
-      ∙ ap (λ cs. run_at options (view_from p marks (widths front) (previous_from None front) (kind_between p marks 0 (kind_at marks 0) front (content_codes rest)) cs)) (sym plain)
-      ∙ ap (run_at options) (sym (view_is p marks text rest front whole))
+      ∙ ap (λ cs. run_at options (view_from p end marks (widths front) (previous_from None front) (kind_between p marks 0 (kind_at marks 0) front (content_codes rest)) cs)) (sym plain)
+      ∙ ap (run_at options) (sym (view_is p end marks text rest front whole))
 
 -- a text may be cut after a run
 pub run_boundary : (options : ParseOptions) (rest : List ℕ) (size : ℕ) → IsUtf8 rest → is_marker options (get_or rest 0 0) ≡ true → size ≡ prefix_len (λ x. x == get_or rest 0 0) rest → 0 < size → IsCharBoundary rest size

@@ -19,9 +19,9 @@ abbrev pub line_left : List ℕ → List ℕ
 line_left [] = []
 line_left (c ∷ cs) = c ∷ (if is_eol c then [] else line_left cs)
 
--- the kind of the character after a code, before what is left of its line
-abbrev pub kind_after : (ℕ → Bool) → ℕ → List ℕ → Kind
-kind_after is_punctuation c left = if is_eol c then Whitespace else first_kind is_punctuation Whitespace left
+-- the kind of the character after a code, before what is left of its line, given that after the content
+abbrev pub kind_after : (ℕ → Bool) → Kind → ℕ → List ℕ → Kind
+kind_after is_punctuation end c left = if is_eol c then end else first_kind is_punctuation end left
 
 -- the kind of the character before the place after a code, given that before the code
 abbrev pub kind_before : (ℕ → Bool) → List Mark → ℕ → Kind → ℕ → List ℕ → Kind
@@ -33,19 +33,19 @@ abbrev pub previous_after : ℕ → Option ℕ
 previous_after c = if is_eol c then None else Some c
 
 -- codes from a place on, with their neighbours: after an ending a line starts, before which its mark tells the kind
-abbrev pub view_from : (ℕ → Bool) → List Mark → ℕ → Option ℕ → Kind → List ℕ → List InlineCode
-view_from is_punctuation marks place previous before [] = []
-view_from is_punctuation marks place previous before (c ∷ cs) =
-    inline_code c previous before (kind_after is_punctuation c (line_left cs))
-    ∷ view_from is_punctuation marks (place + width c) (previous_after c) (kind_before is_punctuation marks (place + width c) before c (line_left cs)) cs
+abbrev pub view_from : (ℕ → Bool) → Kind → List Mark → ℕ → Option ℕ → Kind → List ℕ → List InlineCode
+view_from is_punctuation end marks place previous before [] = []
+view_from is_punctuation end marks place previous before (c ∷ cs) =
+    inline_code c previous before (kind_after is_punctuation end c (line_left cs))
+    ∷ view_from is_punctuation end marks (place + width c) (previous_after c) (kind_before is_punctuation marks (place + width c) before c (line_left cs)) cs
 
--- the codes of a text with their neighbours, by these marks
-abbrev pub marked : (ℕ → Bool) → List Mark → List ℕ → List InlineCode
-marked is_punctuation marks text = view_from is_punctuation marks 0 None (kind_at marks 0) (content_codes text)
+-- the codes of a text with their neighbours, by the kind of the character after it and these marks
+abbrev pub marked : (ℕ → Bool) → Kind → List Mark → List ℕ → List InlineCode
+marked is_punctuation end marks text = view_from is_punctuation end marks 0 None (kind_at marks 0) (content_codes text)
 
 -- the codes that a content stands for
 abbrev pub content_view : (ℕ → Bool) → Content → List InlineCode
-content_view is_punctuation content = marked is_punctuation content.marks.now content.text.now
+content_view is_punctuation content = marked is_punctuation content.after content.marks.now content.text.now
 
 -- those from a rest of it on
 abbrev pub view_at : (ℕ → Bool) → Content → List ℕ → List InlineCode

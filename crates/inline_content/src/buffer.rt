@@ -7,6 +7,7 @@ ghost use Rattle.inline_content.specs.Marks.{mark_place};
 use crate::content::Content;
 use crate::mark::{Mark, push_mark};
 use block_rows::{Piece, push_ending, push_line};
+use definition_text::Kind;
 use std::alloc::{AllocError, Allocator};
 
 /// The content of the lines of a block. It can be used again for another block, with no new memory
@@ -19,11 +20,12 @@ pub struct ContentBuffer<A: Allocator> {
 }
 
 impl<A: Allocator + Clone> ContentBuffer<A> {
+    ghost use Rattle.definition_text.specs.declared.beside.Kind.{Kind};
     ghost use Rattle.inline_content.specs.Buffers.{buffer_view};
 
     /// The content of no lines.
     pub fn new(alloc: A) -> Result<ContentBuffer<A>, AllocError>
-        ensures { (is_punctuation : ℕ → Bool) → IfOk result (λ buffer. buffer_view is_punctuation buffer ≡ []) }
+        ensures { (is_punctuation : ℕ → Bool) (after : Kind) → IfOk result (λ buffer. buffer_view is_punctuation after buffer ≡ []) }
     {
         Ok(ContentBuffer {
             text: String::new(alloc.clone()?),
@@ -33,7 +35,7 @@ impl<A: Allocator + Clone> ContentBuffer<A> {
 }
 
 impl<A: Allocator> ContentBuffer<A> {
-    ghost use Rattle.definition_text.specs.declared.beside.Kind.TheVariants.{Whitespace};
+    ghost use Rattle.definition_text.specs.declared.beside.Kind.{Kind};
     ghost use Rattle.definition_text.specs.BlockLines.{own_lines};
     ghost use Rattle.block_rows.specs.Rows.{piece_lines};
     ghost use Rattle.definition_text.specs.InlineCode.{inline_content};
@@ -44,8 +46,8 @@ impl<A: Allocator> ContentBuffer<A> {
     /// Makes it the content of these lines: a space for each column that is left of a tab, the bytes
     /// of the line, and all endings but the last.
     pub fn join(&mut self, lines: &[Piece<'_>]) -> Result<(), AllocError>
-        ensures { (is_punctuation : ℕ → Bool) → OnOk result (AreContentLines (piece_lines lines.now) →
-            buffer_view is_punctuation self.new ≡ inline_content is_punctuation Whitespace (own_lines (piece_lines lines.now))) }
+        ensures { (is_punctuation : ℕ → Bool) (after : Kind) → OnOk result (AreContentLines (piece_lines lines.now) →
+            buffer_view is_punctuation after self.new ≡ inline_content is_punctuation after (own_lines (piece_lines lines.now))) }
     {
         self.marks.clear();
         self.text.clear();
@@ -59,13 +61,14 @@ impl<A: Allocator> ContentBuffer<A> {
         Ok(())
     }
 
-    /// The content.
-    pub fn content(&self) -> Content<'_>
-        ensures { (is_punctuation : ℕ → Bool) → content_view is_punctuation result ≡ buffer_view is_punctuation self.now }
+    /// The content, before a character of a kind.
+    pub fn content(&self, after: Kind) -> Content<'_>
+        ensures { (is_punctuation : ℕ → Bool) → content_view is_punctuation result ≡ buffer_view is_punctuation after self.now }
     {
         Content {
             text: &self.text,
             marks: &self.marks,
+            after,
         }
     }
 }

@@ -12,6 +12,8 @@ pub struct Content<'a> {
     pub(crate) text: &'a str,
     // The lines before which something else than white space stands, in order.
     pub(crate) marks: &'a [Mark],
+    // What stands after the content in the text.
+    pub(crate) after: Kind,
     pub ghost ordered: { IsNonDecreasingBy mark_place marks.now },
 }
 

@@ -2,7 +2,6 @@
 //!
 //!     run ::= '*'+ | '_'+ | '~'+, as long as it gets
 ghost use Rattle.std.specs.Prelude.{◌≡◌, ◌<◌, ℕ, List, IfSome, MatchOption, length, slice_index};
-ghost use Rattle.definition_text.specs.declared.beside.Kind.TheVariants.{Whitespace};
 ghost use Rattle.definition_inline.specs.Attention.{is_marker};
 ghost use Rattle.definition_text.specs.Content.{content_codes};
 ghost use Rattle.definition_text.specs.InlineCode.{character_kind, first_kind};
@@ -34,7 +33,7 @@ impl<'a> Content<'a> {
         let marker = bytes[0];
         let size = text_bytes::run(marker, bytes);
         let before = self.kind_before(tables, self.text.len() - rest.len());
-        let after = first_kind(tables, &rest[size..]);
+        let after = first_kind(tables, self.after, &rest[size..]);
         Some(run_between(options, marker, size, before, after))
     }
 
@@ -86,12 +85,12 @@ fn last_character(text: &str) -> Option<char>
     text.chars().next_back()
 }
 
-/// The kind of the character that a rest of a content begins with.
-pub fn first_kind<T: Tables>(tables: &T, rest: &str) -> Kind
-    ensures { result ≡ first_kind (T.punctuation_of tables.now) Whitespace (line_left (content_codes rest.now)) }
+/// The kind of the character that a rest of a content begins with, given that after the content.
+pub fn first_kind<T: Tables>(tables: &T, after: Kind, rest: &str) -> Kind
+    ensures { result ≡ first_kind (T.punctuation_of tables.now) after (line_left (content_codes rest.now)) }
 {
     match rest.chars().next() {
-        None => Kind::Whitespace,
+        None => after,
         Some(character) => character_kind(tables, character),
     }
 }

@@ -6,6 +6,7 @@ ghost use Rattle.block_rows.specs.Rows.{whole_lines};
 ghost use Rattle.inline_content.specs.View.{content_view, whole_view};
 
 use crate::content::Content;
+use definition_text::Kind;
 use text_lines::line::next_line;
 
 /// The content of the first lines of a text, so many, without the last ending.
@@ -15,6 +16,7 @@ pub fn whole_content(count: usize, text: &str) -> Content<'_>
     Content {
         text: whole_text(count, text),
         marks: &[],
+        after: Kind::Whitespace,
     }
 }
 

@@ -3,4 +3,5 @@ pub mod NoTabs
 pub mod Nested
 pub mod Neighbours
 pub mod Plain
+pub mod GfmTable
 pub mod GroupedRows

@@ -3,5 +3,6 @@
 
 pub mod columns;
 pub mod constructs;
+pub mod gfm_table;
 pub mod lists;
 pub mod rows;

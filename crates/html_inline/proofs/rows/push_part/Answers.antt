@@ -4,6 +4,7 @@ use Rattle.html_bytes.specs.Meaning.{inline_meaning}
 use Rattle.inline_leaves.specs.Leaves.{parts_of}
 use Rattle.html_inline.specs.declared.stack.OpenPart.{OpenPart}
 use Rattle.html_inline.specs.Opens.{opened_view, place_linked}
+use Rattle.html_inline.specs.GfmTable.{part_shown}
 use Rattle.html_inline.specs.Printed.{is_described, parts_printed}
 use Rattle.html_inline.proofs.rows.push_part.Goals as goal
 
@@ -15,7 +16,7 @@ returns-then-is_described-clause-printed g c = λ definition rows.
     let view = opened_view meaning at rows in
     let h : is_described (map view (reverse c.args.scratch.now.stack.items)) ≡ true =
     ap (λ (s : List OpenPart). is_described (map view (reverse s))) (sym c.as_slice.ensures.value) ∙ sym (c.is_described.ensures meaning at rows) ∙ c.if-is_described.true in
-    subst (λ (t : Bool). OnOk c.push_description.result (string_bytes c.push_description.new.out ≡ string_bytes c.args.out.now ++ parts_printed meaning t (parts_of c.args.part)))
+    subst (λ (t : Bool). OnOk c.push_description.result (string_bytes c.push_description.new.out ≡ string_bytes c.args.out.now ++ parts_printed meaning t (map (part_shown p.cell) (parts_of c.args.part))))
     (sym h) c.push_description.ensures
 
 pub returns-else-is_described-clause-printed : goal.returns-else-is_described-clause-printed
@@ -26,5 +27,5 @@ returns-else-is_described-clause-printed g c = λ definition rows.
     let view = opened_view meaning at rows in
     let h : is_described (map view (reverse c.args.scratch.now.stack.items)) ≡ false =
     ap (λ (s : List OpenPart). is_described (map view (reverse s))) (sym c.as_slice.ensures.value) ∙ sym (c.is_described.ensures meaning at rows) ∙ c.if-is_described.false in
-    subst (λ (t : Bool). OnOk c.push_leaf.result (string_bytes c.push_leaf.new.out ≡ string_bytes c.args.out.now ++ parts_printed meaning t (parts_of c.args.part)))
+    subst (λ (t : Bool). OnOk c.push_leaf.result (string_bytes c.push_leaf.new.out ≡ string_bytes c.args.out.now ++ parts_printed meaning t (map (part_shown p.cell) (parts_of c.args.part))))
     (sym h) (c.push_leaf.ensures definition)

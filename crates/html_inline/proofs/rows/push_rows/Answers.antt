@@ -7,6 +7,9 @@ use Rattle.inline_rows.specs.declared.row.InlineRow.{InlineRow}
 use Rattle.inline_rows.specs.View.{rows_view}
 use Rattle.html_inline.specs.Opens.{place_linked, printed_of}
 use Rattle.html_inline.specs.Printed.{Printed, printed_at, row_printed}
+use Rattle.definition_page.specs.InlinePieces.{leads_to}
+use Rattle.html_inline.specs.GfmTable.{shown, row_printed_in}
+use Rattle.html_inline.proofs.CellRows.{rows_shown, fold_shown}
 use Rattle.html_inline.proofs.OpenStack.{rows_step}
 use Rattle.html_inline.proofs.RowsPrinted.{content_printed}
 use Rattle.html_inline.proofs.rows.push_rows.Goals as goal
@@ -17,7 +20,7 @@ loop-place-preserved g c = λ definition.
     let meaning = inline_meaning p.on.now p.compile.now (g.T.Tables.reference_of p.tables.now) definition in
     let at = place_linked p.definitions.now in
     let rows = c.args.rows.now in
-    rows_step meaning at (printed_at (string_bytes c.args.out.now) [])
+    rows_step p.cell meaning at (printed_at (string_bytes c.args.out.now) [])
     (printed_of meaning at rows (string_bytes c.loop-place.out) c.loop-place.scratch.stack.items)
     (printed_of meaning at rows (string_bytes c.push_row.new.out) c.push_row.new.scratch.stack.items)
     rows c.loop-place.place _ c.loop-place-test.true (c.loop-place.invariant definition) (c.in_ok-push_row.ensures definition)
@@ -32,6 +35,8 @@ returns g c = λ definition is rows_are.
     let whole : take c.loop-place.place rows ≡ rows = take_all c.loop-place.place rows c.loop-place-test.false in
     ap (λ (q : Printed). q.out)
     (c.loop-place.invariant definition
-    ∙ ap (λ (rs : List InlineRow). fold (row_printed meaning) (printed_at out []) (rows_view at rs)) whole
-    ∙ ap (λ (rs : List rows_of.InlineRow). fold (row_printed meaning) (printed_at out []) rs) rows_are
-    ∙ content_printed meaning is out)
+    ∙ ap (λ (rs : List InlineRow). fold (row_printed_in p.cell meaning) (printed_at out []) (rows_view at rs)) whole
+    ∙ ap (λ (rs : List rows_of.InlineRow). fold (row_printed_in p.cell meaning) (printed_at out []) rs) rows_are
+    ∙ fold_shown p.cell meaning (printed_at out []) (rows_of.inline_rows (leads_to meaning.definition) is)
+    ∙ ap (fold (row_printed meaning) (printed_at out [])) (rows_shown (leads_to meaning.definition) p.cell is)
+    ∙ content_printed meaning (shown p.cell is) out)

@@ -4,7 +4,8 @@ use Rattle.definition_inline.specs.Inline as inline
 use Rattle.html_bytes.specs.Meaning.{inline_meaning}
 use Rattle.inline_rows.specs.View.{rows_view}
 use Rattle.html_inline.specs.Opens.{place_linked, printed_of}
-use Rattle.html_inline.specs.Printed.{printed_at, row_printed}
+use Rattle.html_inline.specs.Printed.{printed_at}
+use Rattle.html_inline.specs.GfmTable.{row_printed_in}
 use Rattle.html_inline.proofs.rows.push_rows.Given as goal
 
 -- the rows so far are printed
@@ -14,4 +15,4 @@ invariant-loop-place g l =
     let meaning = inline_meaning l.printing.on.now l.printing.compile.now (g.T.Tables.reference_of l.printing.tables.now) definition in
     let at = place_linked l.printing.definitions.now in
     printed_of meaning at l.rows (string_bytes l.out) l.scratch.stack.items
-    ≡ fold (row_printed meaning) (printed_at (string_bytes l.fn.out) []) (rows_view at (take l.place l.rows))
+    ≡ fold (row_printed_in l.printing.cell meaning) (printed_at (string_bytes l.fn.out) []) (rows_view at (take l.place l.rows))

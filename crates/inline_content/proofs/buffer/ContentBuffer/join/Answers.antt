@@ -44,14 +44,14 @@ loop-line-preserved g c =
     }
 
 pub returns : goal.returns
-returns g c = λ p h.
+returns g c = λ p end h.
     let lines = c.args.lines.now in
     let ls = piece_lines lines in
     let i = c.loop-line.line-index in
     let k = c.loop-line.invariant in
     let all : take i lines ≡ lines = take_all i lines (omega (arith, c.loop-line-test.false)) in
     let apart = content_lines_apart ls h in
-    ap (λ ms. marked p ms (string_bytes c.loop-line.self.text)) k.marks
-    ∙ ap (marked p (marks_of 0 (piece_lines (take i lines)))) k.so_far
-    ∙ ap (λ xs. marked p (marks_of 0 (piece_lines xs)) (content_text (piece_lines xs))) all
-    ∙ content_is p (marks_of 0 ls) ls apart (lines_agree p ls apart)
+    ap (λ ms. marked p end ms (string_bytes c.loop-line.self.text)) k.marks
+    ∙ ap (marked p end (marks_of 0 (piece_lines (take i lines)))) k.so_far
+    ∙ ap (λ xs. marked p end (marks_of 0 (piece_lines xs)) (content_text (piece_lines xs))) all
+    ∙ content_is p end (marks_of 0 ls) ls apart (lines_agree p ls apart)

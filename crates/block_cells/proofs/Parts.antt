@@ -1,0 +1,132 @@
+-- The first part of a line.
+use Rattle.std.proofs.Common.{◌≡◌, ◌≢◌, Bool, ℕ, suc, zero, ◌<◌, ◌≤◌, List, [], ◌∷◌, ◌++◌, true, false, not, eqb, refl, sym, ap, ◌∙◌, length, drop, take, get_or, arith, inl, inr, Option, None, Some}
+use Rattle.std.specs.Prelude.{replicate, is_some}
+use Rattle.std.proofs.lemmas.Bool.{true≢false, cases_Bool, cond-true, cond-false, and_parts, eqb-true}
+use Rattle.std.specs.Str.{IsCharBoundary}
+use Rattle.definition_text.specs.declared.beside.Kind.{Kind}
+use Rattle.definition_text.specs.declared.beside.Kind.TheVariants.{Whitespace, Punctuation}
+use Rattle.definition_text.specs.Content.{may_escape}
+use Rattle.definition_block.specs.GfmTable.{Cell, cell, parts, is_bar, in_first_cell, without_blank_last}
+use Rattle.definition_text.specs.Columns.{is_blank}
+use Rattle.block_rows.specs.declared.row.Piece.{Piece}
+use Rattle.block_rows.specs.Rows.{piece_line}
+use Rattle.text_bytes.proofs.Ascii.{boundary_before}
+use Rattle.block_cells.specs.GfmTable.{bar_at, parts_if}
+
+bar_byte : (escaped : Bool) (c : ℕ) → is_bar escaped c ≡ true → c ≡ 124
+bar_byte escaped c h = eqb-true c 124 (and_parts (eqb c 124) (not escaped) h).0
+
+-- the first bar stands in the line, or at its end
+pub bar_within : (escaped : Bool) (cs : List ℕ) → bar_at escaped cs ≤ length cs
+bar_within escaped [] = omega arith
+bar_within escaped (c ∷ cs) =
+    elim (cases_Bool (is_bar escaped c)) [
+      | inr h ↦ let e = cond-false (is_bar escaped c) 0 (suc (bar_at (may_escape escaped c) cs)) h in
+          let le = bar_within (may_escape escaped c) cs in omega (arith, e, le)
+      | inl h ↦ let e = cond-true (is_bar escaped c) 0 (suc (bar_at (may_escape escaped c) cs)) h in omega (arith, e)
+    ]
+
+-- a line up to its first bar, and after it
+pub with_bar : (before : Kind) (escaped : Bool) (cs rest : List ℕ) → drop (bar_at escaped cs) cs ≡ 124 ∷ rest
+    → parts before escaped cs ≡ cell (take (bar_at escaped cs) cs) before Punctuation ∷ parts Punctuation false rest
+with_bar before escaped [] rest e = absurd (omega (arith, ap length e))
+with_bar before escaped (c ∷ cs) rest e =
+    elim (cases_Bool (is_bar escaped c)) [
+      | inr h ↦
+          let n : bar_at escaped (c ∷ cs) ≡ suc (bar_at (may_escape escaped c) cs) = cond-false (is_bar escaped c) 0 _ h in
+          let more = with_bar before (may_escape escaped c) cs rest (sym (ap (λ k. drop k (c ∷ cs)) n) ∙ e) in
+          cond-false (is_bar escaped c) _ _ h ∙ ap (in_first_cell c before) more
+          ∙ sym (ap (λ k. cell (take k (c ∷ cs)) before Punctuation ∷ parts Punctuation false rest) n)
+      | inl h ↦
+          let n : bar_at escaped (c ∷ cs) ≡ 0 = cond-true (is_bar escaped c) 0 _ h in
+          let same : cs ≡ rest = ap (drop 1) (sym (ap (λ k. drop k (c ∷ cs)) n) ∙ e) in
+          cond-true (is_bar escaped c) _ _ h ∙ ap (λ x. cell [] before Punctuation ∷ parts Punctuation false x) same
+          ∙ sym (ap (λ k. cell (take k (c ∷ cs)) before Punctuation ∷ parts Punctuation false rest) n)
+    ]
+
+-- a line without a bar
+pub without_bar : (before : Kind) (escaped : Bool) (cs : List ℕ) → ((rest : List ℕ) → drop (bar_at escaped cs) cs ≢ 124 ∷ rest)
+    → parts before escaped cs ≡ cell (take (bar_at escaped cs) cs) before Whitespace ∷ []
+without_bar before escaped [] none = refl
+without_bar before escaped (c ∷ cs) none =
+    elim (cases_Bool (is_bar escaped c)) [
+      | inr h ↦
+          let n : bar_at escaped (c ∷ cs) ≡ suc (bar_at (may_escape escaped c) cs) = cond-false (is_bar escaped c) 0 _ h in
+          let more = without_bar before (may_escape escaped c) cs (λ rest e. none rest (ap (λ k. drop k (c ∷ cs)) n ∙ e)) in
+          cond-false (is_bar escaped c) _ _ h ∙ ap (in_first_cell c before) more
+          ∙ sym (ap (λ k. cell (take k (c ∷ cs)) before Whitespace ∷ []) n)
+      | inl h ↦
+          let n : bar_at escaped (c ∷ cs) ≡ 0 = cond-true (is_bar escaped c) 0 _ h in
+          absurd (none cs (ap (λ k. drop k (c ∷ cs)) n ∙ ap (λ b. b ∷ cs) (bar_byte escaped c h)))
+    ]
+
+-- the columns that are left of a tab stand in the first part
+pub after_columns : (owed : ℕ) (before after : Kind) (cs text : List ℕ) (others : List Cell) → parts before false text ≡ cell cs before after ∷ others
+    → parts before false (replicate owed 256 ++ text) ≡ cell (replicate owed 256 ++ cs) before after ∷ others
+after_columns zero before after cs text others e = e
+after_columns (suc owed) before after cs text others e = ap (in_first_cell 256 before) (after_columns owed before after cs text others e)
+
+-- a line may be cut before its first bar
+pub at_bar : (escaped : Bool) (cs : List ℕ) → bar_at escaped cs < length cs → get_or cs (bar_at escaped cs) 0 ≡ 124
+at_bar escaped [] lt = absurd (omega arith)
+at_bar escaped (c ∷ cs) lt =
+    elim (cases_Bool (is_bar escaped c)) [
+      | inr h ↦
+          let n : bar_at escaped (c ∷ cs) ≡ suc (bar_at (may_escape escaped c) cs) = cond-false (is_bar escaped c) 0 _ h in
+          ap (λ k. get_or (c ∷ cs) k 0) n ∙ at_bar (may_escape escaped c) cs (omega (arith, n, lt))
+      | inl h ↦
+          let n : bar_at escaped (c ∷ cs) ≡ 0 = cond-true (is_bar escaped c) 0 _ h in
+          ap (λ k. get_or (c ∷ cs) k 0) n ∙ bar_byte escaped c h
+    ]
+
+pub boundary_bar : (cs : List ℕ) → IsCharBoundary cs (bar_at false cs)
+boundary_bar cs = boundary_before cs _ (bar_within false cs) (λ lt. omega (arith, at_bar false cs lt))
+
+-- ---- the last part
+
+pub record SomePart (cs : List Cell) : Type 0 where
+  pub first : Cell
+  pub others : List Cell
+  pub same : cs ≡ first ∷ others
+
+some_part : (before : Kind) (escaped : Bool) (cs : List ℕ) → SomePart (parts before escaped cs)
+some_part before escaped [] = record { first = cell [] before Whitespace; others = []; same = refl }
+some_part before escaped (c ∷ cs) =
+    elim (cases_Bool (is_bar escaped c)) [
+      | inl h ↦ record { first = cell [] before Punctuation; others = parts Punctuation false cs; same = cond-true (is_bar escaped c) _ _ h }
+      | inr h ↦
+          let k = some_part before (may_escape escaped c) cs in
+          record {
+            first = cell (c ∷ k.first.codes) before k.first.after;
+            others = k.others;
+            same = cond-false (is_bar escaped c) _ _ h ∙ ap (in_first_cell c before) k.same;
+          }
+    ]
+
+-- a part before another one is a cell
+before_part : (c : Cell) (line : Piece) → without_blank_last (c ∷ parts_if (Some line)) ≡ c ∷ without_blank_last (parts_if (Some line))
+before_part c line =
+    let k = some_part line.before false (piece_line line).codes in
+    ap (λ l. without_blank_last (c ∷ l)) k.same ∙ sym (ap (λ l. c ∷ without_blank_last l) k.same)
+
+-- the last one is a cell unless it is blank
+last_part : (c : Cell) → is_blank c.codes ≡ false → without_blank_last (c ∷ []) ≡ c ∷ []
+last_part c h = cond-false (is_blank c.codes) _ _ h
+
+pub same_cell : (owed other_owed : ℕ) (cs other_cs : List ℕ) (before other_before after other_after : Kind) → other_owed ≡ owed → other_cs ≡ cs
+    → other_before ≡ before → other_after ≡ after
+    → cell (replicate owed 256 ++ cs) before after ≡ cell (replicate other_owed 256 ++ other_cs) other_before other_after
+same_cell owed other_owed cs other_cs before other_before after other_after e f g h =
+    ap (λ n. cell (replicate n 256 ++ cs) before after) (sym e)
+    ∙ ap (λ l. cell (replicate other_owed 256 ++ l) before after) (sym f)
+    ∙ ap (λ k. cell (replicate other_owed 256 ++ other_cs) k after) (sym g)
+    ∙ ap (cell (replicate other_owed 256 ++ other_cs) other_before) (sym h)
+
+-- a part that isn't blank, or that another one follows, is a cell
+pub filled_part : (c : Cell) (after : Option Piece) → is_blank c.codes ≡ false → without_blank_last (c ∷ parts_if after) ≡ c ∷ without_blank_last (parts_if after)
+filled_part c None h = last_part c h
+filled_part c (Some line) h = before_part c line
+
+pub followed_part : (c : Cell) (after : Option Piece) → is_some after ≡ true → without_blank_last (c ∷ parts_if after) ≡ c ∷ without_blank_last (parts_if after)
+followed_part c None h = absurd (true≢false (sym h))
+followed_part c (Some line) h = before_part c line

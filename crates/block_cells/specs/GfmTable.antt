@@ -1,0 +1,26 @@
+-- What cells of a line stand for.
+use Rattle.std.specs.Prelude.{ℕ, suc, Bool, false, if◌then◌else◌, List, [], ◌∷◌, Option, None, Some}
+use Rattle.definition_text.specs.Content.{may_escape}
+use Rattle.definition_block.specs.GfmTable as table
+use Rattle.definition_block.specs.GfmTable.{cell, parts, is_bar, without_blank_last}
+use Rattle.block_rows.specs.declared.row.Piece.{Piece}
+use Rattle.block_rows.specs.Rows.{piece_line}
+use Rattle.block_cells.specs.declared.gfm_table.Cell.{Cell}
+use Rattle.block_cells.specs.declared.gfm_table.Cells.{Cells}
+
+-- how many codes stand before the first bar that divides cells
+abbrev pub bar_at : Bool → List ℕ → ℕ
+bar_at escaped [] = 0
+bar_at escaped (c ∷ cs) = if is_bar escaped c then 0 else suc (bar_at (may_escape escaped c) cs)
+
+abbrev pub cell_view : Cell → table.Cell
+cell_view c = cell (piece_line c.line).codes c.line.before c.after
+
+-- the parts of a line, if there is one
+abbrev pub parts_if : Option Piece → List table.Cell
+parts_if None = []
+parts_if (Some line) = parts line.before false (piece_line line).codes
+
+-- the cells that are left
+abbrev pub cells_left : Cells → List table.Cell
+cells_left s = without_blank_last (parts_if s.rest)
