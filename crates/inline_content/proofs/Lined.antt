@@ -148,7 +148,7 @@ module _ (p : ℕ → Bool) (end : Kind) (marks : List Mark) where
       ∙ ap (λ l. here (first_kind p end line) ∷ l) (line_view next (Some c) (next_kind p before (c ∷ line)) cs e rest h.1 is)
       ∙ ap (λ m. here (first_kind p end line) ∷ (with_kinds p (Some c) (next_kind p before (c ∷ line)) end line ++ view_from p end marks m None (kind_at marks m) rest)) n
 
-  lines_view : (place : ℕ) (ls : List BlockLine) → AreApart ls → Agree place ls
+  lines_view : (place : ℕ) (ls : List BlockLine) → AreApart ls → Agree p marks place ls
       → view_from p end marks place None (kind_at marks place) (map code_byte (content_of (own_lines ls))) ≡ inline_content p end (own_lines ls)
   lines_view place [] h k = refl
   lines_view place (line ∷ []) h k =
@@ -174,7 +174,7 @@ module _ (p : ℕ → Bool) (end : Kind) (marks : List Mark) where
       ∙ ap (λ l. here l ++ inline_content p end (own_lines (next ∷ others))) (sym own)
 
   -- the content of lines
-  pub content_is : (ls : List BlockLine) → AreApart ls → Agree 0 ls → marked p end marks (content_text ls) ≡ inline_content p end (own_lines ls)
+  pub content_is : (ls : List BlockLine) → AreApart ls → Agree p marks 0 ls → marked p end marks (content_text ls) ≡ inline_content p end (own_lines ls)
   content_is ls h k = ap (view_from p end marks 0 None (kind_at marks 0)) (apart_codes ls h) ∙ lines_view 0 ls h k
 
 -- ---- lines that are apart
