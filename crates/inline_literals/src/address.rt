@@ -10,7 +10,8 @@ ghost use Rattle.std.specs.List.{suffix_len};
 ghost use Rattle.std.specs.Option.{option_map};
 ghost use Rattle.definition_text.specs.Bytes.{is_letter_or_digit};
 ghost use Rattle.definition_inline.specs.Inline.{Data};
-ghost use Rattle.definition_inline.specs.GfmAutolinkLiteral.{address_at, address_of, ends_with_letter_or_digit, ends_with_protocol, host_size, is_host, is_host_code};
+ghost use Rattle.definition_inline.specs.GfmAutolinkLiteral.{address_at, address_of, ends_with_letter_or_digit};
+ghost use Rattle.definition_inline.specs.GfmAutolinkLiteral.{ends_with_protocol, host_size, is_host, is_host_code};
 ghost use Rattle.definition_inline.specs.GfmAutolinkLiteral.{begins_with_letter_or_digit, is_user_byte, protocol_size, user_size, with_addresses};
 ghost use Rattle.inline_literals.specs.Addresses.{address_view, found_parts, IsAddress, IsFound};
 

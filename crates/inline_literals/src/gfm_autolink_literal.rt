@@ -8,11 +8,13 @@ ghost use Rattle.std.specs.Option.{option_map};
 ghost use Rattle.std.specs.Str.{IsCharBoundary};
 ghost use Rattle.definition_text.specs.Content.{content_codes};
 ghost use Rattle.definition_text.specs.InlineCode.{is_continuation};
-ghost use Rattle.definition_inline.specs.GfmAutolinkLiteral.{begins_caselessly, is_control, is_among, literal_at, literal_name, literal_start_at, may_precede_protocol, may_precede_www};
+ghost use Rattle.definition_inline.specs.GfmAutolinkLiteral.{begins_caselessly, is_control, is_among, literal_at};
+ghost use Rattle.definition_inline.specs.GfmAutolinkLiteral.{literal_name, literal_start_at, may_precede_protocol, may_precede_www};
 ghost use Rattle.inline_content.specs.View.{view_at};
 ghost use Rattle.inline_leaves.specs.Leaves.{found_leaf, size_before, IsAfter};
 ghost use Rattle.inline_links.specs.Codes.{IsRest};
-ghost use Rattle.inline_literals.specs.Literals.{begins_domain, begins_name, begins_other, domain_size, may_begin, size_after, start_view, IsNameEnd, StartsLiteral};
+ghost use Rattle.inline_literals.specs.Literals.{begins_domain, begins_name, begins_other, domain_size};
+ghost use Rattle.inline_literals.specs.Literals.{may_begin, size_after, start_view, IsNameEnd, StartsLiteral};
 
 use crate::name::{has_low_line, name_size};
 use definition_text::Kind;

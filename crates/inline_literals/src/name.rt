@@ -6,7 +6,8 @@ ghost use Rattle.std.specs.Prelude.{◌≡◌, ◌<◌, ◌≤◌, ◌+◌, ◌-
 ghost use Rattle.std.specs.List.{prefix_len, suffix_len};
 ghost use Rattle.definition_text.specs.Bytes.{is_letter_or_digit};
 ghost use Rattle.definition_text.specs.Content.{content_codes};
-ghost use Rattle.definition_inline.specs.GfmAutolinkLiteral.{count_of, cut_more, ends_label, ends_literal, is_trailing, literal_name, literal_run, low_line_in, has_low_line, without_tail};
+ghost use Rattle.definition_inline.specs.GfmAutolinkLiteral.{count_of, cut_more, ends_label, ends_literal, is_trailing};
+ghost use Rattle.definition_inline.specs.GfmAutolinkLiteral.{literal_name, literal_run, low_line_in, has_low_line, without_tail};
 ghost use Rattle.inline_leaves.specs.Leaves.{IsPlain};
 
 use inline_links::part::from;
