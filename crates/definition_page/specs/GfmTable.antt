@@ -4,7 +4,7 @@ use Rattle.std.specs.List.{flat_map}
 use Rattle.markdown_options.specs.declared.line_ending.LineEnding.{LineEnding}
 use Rattle.definition_text.specs.BlockLines.{BlockLine, spaced_line}
 use Rattle.definition_text.specs.Lines.{ending_text}
-use Rattle.definition_inline.specs.Inline.{Inline, Data, Escape, Character, Code, Math, Autolink, Html, EscapedBreak, TrailingBreak, LineEnd, Emphasis, Strong, Strikethrough, Link, Image, Inlines, Nil, Cons}
+use Rattle.definition_inline.specs.Inline.{Inline, Data, Escape, Character, Code, Math, Autolink, Literal, Html, EscapedBreak, TrailingBreak, LineEnd, Emphasis, Strong, Strikethrough, Link, Image, Inlines, Nil, Cons}
 use Rattle.definition_block.specs.declared.align_kind.AlignKind.{AlignKind}
 use Rattle.definition_block.specs.declared.align_kind.AlignKind.TheVariants as align
 use Rattle.definition_block.specs.GfmTable.{Cell, cells, delimiters}
@@ -66,6 +66,7 @@ abbrev mutual
   part_in_cell (Code text) = Code (cell_code text)
   part_in_cell (Math text) = Math (cell_code text)
   part_in_cell (Autolink is_email text) = Autolink is_email text
+  part_in_cell (Literal kind text) = Literal kind text
   part_in_cell (Html html) = Html html
   part_in_cell EscapedBreak = EscapedBreak
   part_in_cell TrailingBreak = TrailingBreak

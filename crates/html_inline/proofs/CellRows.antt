@@ -3,7 +3,7 @@ use Rattle.std.proofs.Common.{◌≡◌, Bool, true, false, List, [], ◌∷◌,
 use Rattle.std.specs.Prelude.{map}
 use Rattle.std.specs.List.{fold}
 use Rattle.std.proofs.lemmas.List.{map-append}
-use Rattle.definition_inline.specs.Inline.{Target, Linked, Inline, Data, Escape, Character, Code, Math, Autolink, Html, EscapedBreak, TrailingBreak, LineEnd, Emphasis, Strong, Strikethrough, Link, Image, Inlines, Nil, Cons}
+use Rattle.definition_inline.specs.Inline.{Target, Linked, Inline, Data, Escape, Character, Code, Math, Autolink, Literal, Html, EscapedBreak, TrailingBreak, LineEnd, Emphasis, Strong, Strikethrough, Link, Image, Inlines, Nil, Cons}
 use Rattle.definition_page.specs.GfmTable.{part_in_cell, in_cell}
 use Rattle.html_bytes.specs.InlineHtml.{InlineMeaning}
 use Rattle.inline_rows.specs.InlineRows.{InlineRow, Part, EnterSpan, EnterLink, EnterImage, Leave, part_rows, inline_rows}
@@ -17,6 +17,7 @@ part_unshown (Character text) = refl
 part_unshown (Code text) = refl
 part_unshown (Math text) = refl
 part_unshown (Autolink is_email text) = refl
+part_unshown (Literal kind text) = refl
 part_unshown (Html html) = refl
 part_unshown EscapedBreak = refl
 part_unshown TrailingBreak = refl
@@ -52,6 +53,7 @@ module _ (leads : Target → Linked) where
     part_cell_rows (Code text) = refl
     part_cell_rows (Math text) = refl
     part_cell_rows (Autolink is_email text) = refl
+    part_cell_rows (Literal kind text) = refl
     part_cell_rows (Html html) = refl
     part_cell_rows EscapedBreak = refl
     part_cell_rows TrailingBreak = refl

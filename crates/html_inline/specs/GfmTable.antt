@@ -1,6 +1,6 @@
 -- What stands in the cell of a table, or elsewhere.
 use Rattle.std.specs.Prelude.{ℕ, suc, Bool, true, false, if◌then◌else◌, List, [], ◌∷◌}
-use Rattle.definition_inline.specs.Inline.{Inline, Data, Escape, Character, Code, Math, Autolink, Html, EscapedBreak, TrailingBreak, LineEnd, Emphasis, Strong, Strikethrough, Link, Image, Inlines}
+use Rattle.definition_inline.specs.Inline.{Inline, Data, Escape, Character, Code, Math, Autolink, Literal, Html, EscapedBreak, TrailingBreak, LineEnd, Emphasis, Strong, Strikethrough, Link, Image, Inlines}
 use Rattle.definition_page.specs.GfmTable.{escapes_bar, cell_code, in_cell}
 use Rattle.html_bytes.specs.InlineHtml.{InlineMeaning}
 use Rattle.html_inline.specs.Printed.{Printed, row_printed}
@@ -28,6 +28,7 @@ part_shown cell (Character text) = Character text
 part_shown cell (Code text) = Code (code_shown cell text)
 part_shown cell (Math text) = Math (code_shown cell text)
 part_shown cell (Autolink is_email text) = Autolink is_email text
+part_shown cell (Literal kind text) = Literal kind text
 part_shown cell (Html html) = Html html
 part_shown cell EscapedBreak = EscapedBreak
 part_shown cell TrailingBreak = TrailingBreak
