@@ -20,6 +20,7 @@ use Rattle.inline_content.specs.Marks.{kind_at}
 use Rattle.inline_content.proofs.Places.{codes_append}
 use Rattle.inline_content.proofs.Runs.{text_is}
 use Rattle.inline_links.specs.Codes.{IsRest}
+use Rattle.inline_links.proofs.Cuts.{codes_some}
 use Rattle.inline_content.proofs.Views.{widths, codes_from, view_drop, view_is, after_at}
 use Rattle.inline_leaves.specs.Leaves.{IsPlain, IsAfter, IsEnd, size_before}
 use Rattle.inline_leaves.proofs.Codes.{at_return, plain_code, plain_codes, plain_drop, plain_take, plain_size, size_plain, cut_plain, is_after, end_after}
@@ -70,10 +71,16 @@ name_plain xs =
     omega (arith, count, length-reverse (without_tail 0 (reverse run)), tail_fits 0 (reverse run), length-reverse run) in
     record { within = omega (arith, le, r.plain.within); plain = λ k lt. r.plain.plain k (omega (arith, le, lt)) }
 
-module _ (p : ℕ → Bool) (marks : List Mark) where
+module _ (p : ℕ → Bool) (end : Kind) (marks : List Mark) where
   -- the kind of the character that bytes begin with
   abbrev kind_of : List ℕ → Kind
-  kind_of xs = first_kind p Whitespace (line_left (content_codes xs))
+  kind_of xs = first_kind p end (line_left (content_codes xs))
+
+  -- of bytes, of which there is one, whatever stands after the content
+  same_kind : (b : ℕ) (bs : List ℕ) → kind_of (b ∷ bs) ≡ first_kind p Whitespace (line_left (content_codes (b ∷ bs)))
+  same_kind b bs =
+      let first = codes_some b bs in
+      ap (λ l. first_kind p end (line_left l)) first.2 ∙ sym (ap (λ l. first_kind p Whitespace (line_left l)) first.2)
 
   -- no line ending belongs to a domain
   no_ending : (b : ℕ) (bs : List ℕ) → (b ≡ 13 → ⊥) → is_eol b ≡ true → begins_domain p b bs ≡ false
@@ -87,22 +94,23 @@ module _ (p : ℕ → Bool) (marks : List Mark) where
 
   -- a domain
   pub domains : (n : ℕ) (xs : List ℕ) (place : ℕ) (previous : Option ℕ) (before : Kind) → IsPlain xs n
-      → domain (kind_of xs) (take n (view_from p marks place previous before (content_codes xs))) ≡ take (domain_size p n xs) xs
+      → domain (kind_of xs) (take n (view_from p end marks place previous before (content_codes xs))) ≡ take (domain_size p n xs) xs
   domains zero xs place previous before plain = refl
   domains (suc n) [] place previous before plain = absurd (omega (arith, plain.within))
   domains (suc n) (b ∷ bs) place previous before plain =
       let cs = content_codes bs in
-      let next : List ℕ → List InlineCode = view_from p marks (place + width b) (previous_after b) (kind_before p marks (place + width b) before b (line_left cs)) in
+      let next : List ℕ → List InlineCode = view_from p end marks (place + width b) (previous_after b) (kind_before p marks (place + width b) before b (line_left cs)) in
       let apart : b ≡ 13 → ⊥ = plain.plain 0 (omega arith) in
       let code : content_codes (b ∷ bs) ≡ b ∷ cs = plain_code b bs apart in
       let later : IsPlain bs n = record { within = omega (arith, plain.within); plain = λ k lt. plain.plain (suc k) (omega (arith, lt)) } in
-      ap (λ l. domain (kind_of (b ∷ bs)) (take (suc n) (view_from p marks place previous before l))) code
+      ap (λ k. domain k (take (suc n) (view_from p end marks place previous before (content_codes (b ∷ bs))))) (same_kind b bs)
+      ∙ ap (λ l. domain (first_kind p Whitespace (line_left (content_codes (b ∷ bs)))) (take (suc n) (view_from p end marks place previous before l))) code
       ∙ elim (cases_Bool (begins_domain p b bs)) [
         | inr none ↦ cond-false (begins_domain p b bs) _ _ none ∙ ap (λ k. take k (b ∷ bs)) (sym (cond-false (begins_domain p b bs) (1 + domain_size p n bs) 0 none))
         | inl some ↦
             let line : is_eol b ≡ false = no_line b bs apart some in
             cond-true (begins_domain p b bs) _ _ some
-            ∙ ap (λ k. b ∷ domain k (take n (next cs))) (cond-false (is_eol b) Whitespace (first_kind p Whitespace (line_left cs)) line)
+            ∙ ap (λ k. b ∷ domain k (take n (next cs))) (cond-false (is_eol b) end (first_kind p end (line_left cs)) line)
             ∙ ap (λ l. b ∷ l) (domains n bs (place + width b) (previous_after b) (kind_before p marks (place + width b) before b (line_left cs)) later)
             ∙ ap (λ k. take k (b ∷ bs)) (one (domain_size p n bs) ∙ sym (cond-true (begins_domain p b bs) (1 + domain_size p n bs) 0 some))
       ]
@@ -117,10 +125,10 @@ module _ (p : ℕ → Bool) (marks : List Mark) where
 
   -- what may come first after a literal's start
   pub names_begin : (xs : List ℕ) (place : ℕ) (previous : Option ℕ) (before : Kind)
-      → literal.begins_name (kind_of xs) (view_from p marks place previous before (content_codes xs)) ≡ begins_name p xs
+      → literal.begins_name (kind_of xs) (view_from p end marks place previous before (content_codes xs)) ≡ begins_name p xs
   names_begin [] place previous before = refl
   names_begin (b ∷ bs) place previous before =
-      let codes_side : List ℕ → Bool = λ cs. literal.begins_name (first_kind p Whitespace (line_left cs)) (view_from p marks place previous before cs) in
+      let codes_side : List ℕ → Bool = λ cs. literal.begins_name (first_kind p end (line_left cs)) (view_from p end marks place previous before cs) in
       let bytes_side : ℕ → List ℕ → Bool = λ c cs. is_other (first_kind p Whitespace (line_left cs)) && not (is_control c) in
       elim (cases_Bool (eqb b 13)) [
         | inl h ↦
@@ -134,7 +142,7 @@ module _ (p : ℕ → Bool) (marks : List Mark) where
 
   -- the kind of the character after a literal's start
   kind_after_start : (xs : List ℕ) (size place : ℕ) (previous : Option ℕ) (before : Kind) (d : InlineCode) → StartsLiteral xs size
-      → (get_or (view_from p marks place previous before (content_codes xs)) (size - 1) d).after ≡ kind_of (drop size xs)
+      → (get_or (view_from p end marks place previous before (content_codes xs)) (size - 1) d).after ≡ kind_of (drop size xs)
   kind_after_start xs size place previous before d s =
       let cs = content_codes xs in
       let some : size - 1 < size = omega (arith, s.some) in
@@ -145,23 +153,23 @@ module _ (p : ℕ → Bool) (marks : List Mark) where
       let line : is_eol b ≡ false =
       or_from (eqb b 10 || eqb b 13) (eqb b 257) (or_from (eqb b 10) (eqb b 13) (ne_eqb b 10 s.inside) (ne_eqb b 13 (s.plain.plain (size - 1) some))) (ne_eqb b 257 (λ e. omega (arith, e, s.ascii))) in
       let next : suc (size - 1) ≡ size = omega (arith, s.some) in
-      after_at p marks place previous before cs (size - 1) d (omega (arith, long, s.some))
-      ∙ ap (λ k. kind_after p (get_or cs (size - 1) 0) (line_left (drop k cs))) next
-      ∙ ap (λ k. kind_after p k (line_left (drop size cs))) byte
-      ∙ cond-false (is_eol b) Whitespace _ line
-      ∙ ap (λ l. first_kind p Whitespace (line_left l)) (plain_drop size xs s.plain.within s.plain.plain)
+      after_at p end marks place previous before cs (size - 1) d (omega (arith, long, s.some))
+      ∙ ap (λ k. kind_after p end (get_or cs (size - 1) 0) (line_left (drop k cs))) next
+      ∙ ap (λ k. kind_after p end k (line_left (drop size cs))) byte
+      ∙ cond-false (is_eol b) end _ line
+      ∙ ap (λ l. first_kind p end (line_left l)) (plain_drop size xs s.plain.within s.plain.plain)
 
   -- what is left after a literal's start
   left_after_start : (xs : List ℕ) (size place : ℕ) (previous : Option ℕ) (before : Kind) → StartsLiteral xs size
-      → drop size (view_from p marks place previous before (content_codes xs))
-      ≡ view_from p marks (place + widths (take size xs)) (previous_from previous (take size xs)) (kind_between p marks place before (take size xs) (content_codes (drop size xs))) (content_codes (drop size xs))
+      → drop size (view_from p end marks place previous before (content_codes xs))
+      ≡ view_from p end marks (place + widths (take size xs)) (previous_from previous (take size xs)) (kind_between p marks place before (take size xs) (content_codes (drop size xs))) (content_codes (drop size xs))
   left_after_start xs size place previous before s =
       let front = take size xs in
       let after = content_codes (drop size xs) in
       let count : size ≡ length front = sym (length-take-le size xs s.plain.within) in
-      ap (λ cs. drop size (view_from p marks place previous before cs)) (plain_codes size xs s.plain.within s.plain.plain)
-      ∙ ap (λ k. drop k (view_from p marks place previous before (front ++ after))) count
-      ∙ view_drop p marks place previous before front after
+      ap (λ cs. drop size (view_from p end marks place previous before cs)) (plain_codes size xs s.plain.within s.plain.plain)
+      ∙ ap (λ k. drop k (view_from p end marks place previous before (front ++ after))) count
+      ∙ view_drop p end marks place previous before front after
 
   -- the literal of a start
   abbrev pub literal_of : LiteralStart → List ℕ → Option Leaf
@@ -172,21 +180,21 @@ module _ (p : ℕ → Bool) (marks : List Mark) where
       (Some (leaf (Literal start.kind (take start.size xs ++ name) ∷ []) (start.size + length name))) None
 
   pub named : (xs : List ℕ) (start : LiteralStart) (place : ℕ) (previous : Option ℕ) (before : Kind) (d : InlineCode) → StartsLiteral xs start.size
-      → named_literal start (view_from p marks place previous before (content_codes xs)) (slice_index_or (view_from p marks place previous before (content_codes xs)) (start.size - 1) d)
-      (literal_name (drop start.size (codes_of (view_from p marks place previous before (content_codes xs)))))
+      → named_literal start (view_from p end marks place previous before (content_codes xs)) (slice_index_or (view_from p end marks place previous before (content_codes xs)) (start.size - 1) d)
+      (literal_name (drop start.size (codes_of (view_from p end marks place previous before (content_codes xs)))))
       ≡ literal_of start xs
   named xs start place previous before d s =
       let size = start.size in
-      let view = view_from p marks place previous before (content_codes xs) in
+      let view = view_from p end marks place previous before (content_codes xs) in
       let after = drop size xs in
       let name = literal_name (content_codes after) in
-      let left = view_from p marks (place + widths (take size xs)) (previous_from previous (take size xs)) (kind_between p marks place before (take size xs) (content_codes after)) (content_codes after) in
+      let left = view_from p end marks (place + widths (take size xs)) (previous_from previous (take size xs)) (kind_between p marks place before (take size xs) (content_codes after)) (content_codes after) in
       let made : Kind → List InlineCode → List ℕ → List ℕ → Option Leaf =
       λ kind rest cs named.
       cond (literal.begins_name kind rest && not (has_low_line (domain kind (take (length named) rest))))
       (Some (leaf (Literal start.kind (take size cs ++ named) ∷ []) (size + length named))) None in
       let last = slice_index_or view (size - 1) d in
-      let codes_are : codes_of view ≡ content_codes xs = codes_from p marks place previous before (content_codes xs) in
+      let codes_are : codes_of view ≡ content_codes xs = codes_from p end marks place previous before (content_codes xs) in
       let name_is : literal_name (drop size (codes_of view)) ≡ name = ap (λ cs. literal_name (drop size cs)) codes_are ∙ ap literal_name (plain_drop size xs s.plain.within s.plain.plain) in
       ap (λ n. made last.after (drop size view) (codes_of view) n) name_is
       ∙ ap (λ cs. made last.after (drop size view) cs name) codes_are
@@ -204,14 +212,14 @@ module _ (p : ℕ → Bool) (marks : List Mark) where
   -- a start that was found
   pub found_start : (on : Constructs) (b : ℕ) (bs : List ℕ) (start : LiteralStart) (place : ℕ) (previous : Option ℕ) (before : Kind) → on.gfm_autolink_literal ≡ true
       → literal_start_at previous (b ∷ bs) ≡ Some start → StartsLiteral (b ∷ bs) start.size
-      → literal_at on (view_from p marks place previous before (content_codes (b ∷ bs))) ≡ literal_of start (b ∷ bs)
+      → literal_at on (view_from p end marks place previous before (content_codes (b ∷ bs))) ≡ literal_of start (b ∷ bs)
   found_start on b bs start place previous before is found s =
       let xs = b ∷ bs in
       let code : content_codes xs ≡ b ∷ content_codes bs = plain_code b bs (s.plain.plain 0 s.some) in
-      let view : List ℕ → List InlineCode = view_from p marks place previous before in
-      let c = inline_code b previous before (kind_after p b (line_left (content_codes bs))) in
-      let cs = view_from p marks (place + width b) (previous_after b) (kind_before p marks (place + width b) before b (line_left (content_codes bs))) (content_codes bs) in
-      let same : codes_of (c ∷ cs) ≡ content_codes xs = codes_from p marks place previous before (b ∷ content_codes bs) ∙ sym code in
+      let view : List ℕ → List InlineCode = view_from p end marks place previous before in
+      let c = inline_code b previous before (kind_after p end b (line_left (content_codes bs))) in
+      let cs = view_from p end marks (place + width b) (previous_after b) (kind_before p marks (place + width b) before b (line_left (content_codes bs))) (content_codes bs) in
+      let same : codes_of (c ∷ cs) ≡ content_codes xs = codes_from p end marks place previous before (b ∷ content_codes bs) ∙ sym code in
       ap (λ l. literal_at on (view l)) code
       ∙ cond-true on.gfm_autolink_literal (literal_after c cs (literal_start_at previous (codes_of (c ∷ cs)))) None is
       ∙ ap (λ l. literal_after c cs (literal_start_at previous l)) same
@@ -300,31 +308,31 @@ none_first on v xs same h = none_found on v xs same (λ previous. none_start pre
 
 -- ---- at a place of a content
 
-module _ (p : ℕ → Bool) (marks : List Mark) (text : List ℕ) where
+module _ (p : ℕ → Bool) (end : Kind) (marks : List Mark) (text : List ℕ) where
   abbrev front : List ℕ → List ℕ
   front rest = content_codes (take (length text - length rest) text)
 
   abbrev view : List ℕ → List InlineCode
-  view rest = drop (length (content_codes text) - length (content_codes rest)) (marked p marks text)
+  view rest = drop (length (content_codes text) - length (content_codes rest)) (marked p end marks text)
 
   pub view_codes : (rest : List ℕ) → codes_of (view rest) ≡ drop (length (content_codes text) - length (content_codes rest)) (content_codes text)
   view_codes rest =
       let n = length (content_codes text) - length (content_codes rest) in
-      sym (drop-map (λ (c : InlineCode). c.code) n (marked p marks text)) ∙ ap (drop n) (codes_from p marks 0 None (kind_at marks 0) (content_codes text))
+      sym (drop-map (λ (c : InlineCode). c.code) n (marked p end marks text)) ∙ ap (drop n) (codes_from p end marks 0 None (kind_at marks 0) (content_codes text))
 
   view_here : (b : ℕ) (bs : List ℕ) → IsRest text (b ∷ bs) → (b ≡ 10 → ⊥)
       → view (b ∷ bs)
-      ≡ view_from p marks (widths (front (b ∷ bs))) (previous_from None (front (b ∷ bs))) (kind_between p marks 0 (kind_at marks 0) (front (b ∷ bs)) (content_codes (b ∷ bs))) (content_codes (b ∷ bs))
+      ≡ view_from p end marks (widths (front (b ∷ bs))) (previous_from None (front (b ∷ bs))) (kind_between p marks 0 (kind_at marks 0) (front (b ∷ bs)) (content_codes (b ∷ bs))) (content_codes (b ∷ bs))
   view_here b bs r apart =
-      view_is p marks text (b ∷ bs) (front (b ∷ bs)) (ap content_codes (text_is text (b ∷ bs) r) ∙ codes_append (take (length text - length (b ∷ bs)) text) b bs apart)
+      view_is p end marks text (b ∷ bs) (front (b ∷ bs)) (ap content_codes (text_is text (b ∷ bs) r) ∙ codes_append (take (length text - length (b ∷ bs)) text) b bs apart)
 
   pub at_found : (on : Constructs) (rest : List ℕ) (start : LiteralStart) → IsRest text rest → may_begin rest ≡ true → on.gfm_autolink_literal ≡ true
-      → literal_start_at (previous_from None (front rest)) rest ≡ Some start → StartsLiteral rest start.size → literal_at on (view rest) ≡ literal_of p marks start rest
+      → literal_start_at (previous_from None (front rest)) rest ≡ Some start → StartsLiteral rest start.size → literal_at on (view rest) ≡ literal_of p end marks start rest
   at_found on [] start r may is found s = absurd (true≢false (sym may))
   at_found on (b ∷ bs) start r may is found s =
       let first = letter_first b bs may in
       ap (literal_at on) (view_here b bs r (λ e. omega (arith, e, first)))
-      ∙ found_start p marks on b bs start (widths (front (b ∷ bs))) (previous_from None (front (b ∷ bs))) (kind_between p marks 0 (kind_at marks 0) (front (b ∷ bs)) (content_codes (b ∷ bs))) is found s
+      ∙ found_start p end marks on b bs start (widths (front (b ∷ bs))) (previous_from None (front (b ∷ bs))) (kind_between p marks 0 (kind_at marks 0) (front (b ∷ bs)) (content_codes (b ∷ bs))) is found s
 
   pub at_none : (on : Constructs) (rest : List ℕ) → IsRest text rest → may_begin rest ≡ true → literal_start_at (previous_from None (front rest)) rest ≡ None
       → literal_at on (view rest) ≡ None
@@ -335,10 +343,10 @@ module _ (p : ℕ → Bool) (marks : List Mark) (text : List ℕ) where
       let previous = previous_from None (front (b ∷ bs)) in
       let before = kind_between p marks 0 (kind_at marks 0) (front (b ∷ bs)) (content_codes (b ∷ bs)) in
       let code : content_codes (b ∷ bs) ≡ b ∷ content_codes bs = plain_code b bs (λ e. omega (arith, e, first)) in
-      let c = inline_code b previous before (kind_after p b (line_left (content_codes bs))) in
-      let cs = view_from p marks (place + width b) (previous_after b) (kind_before p marks (place + width b) before b (line_left (content_codes bs))) (content_codes bs) in
-      let same : codes_of (c ∷ cs) ≡ content_codes (b ∷ bs) = codes_from p marks place previous before (b ∷ content_codes bs) ∙ sym code in
-      ap (literal_at on) (view_here b bs r (λ e. omega (arith, e, first)) ∙ ap (view_from p marks place previous before) code)
+      let c = inline_code b previous before (kind_after p end b (line_left (content_codes bs))) in
+      let cs = view_from p end marks (place + width b) (previous_after b) (kind_before p marks (place + width b) before b (line_left (content_codes bs))) (content_codes bs) in
+      let same : codes_of (c ∷ cs) ≡ content_codes (b ∷ bs) = codes_from p end marks place previous before (b ∷ content_codes bs) ∙ sym code in
+      ap (literal_at on) (view_here b bs r (λ e. omega (arith, e, first)) ∙ ap (view_from p end marks place previous before) code)
       ∙ ap (λ o. cond on.gfm_autolink_literal (literal_after c cs o) None) (ap (literal_start_at previous) same ∙ start_codes previous (b ∷ bs) ∙ none)
       ∙ either on.gfm_autolink_literal
     where
@@ -348,7 +356,7 @@ module _ (p : ℕ → Bool) (marks : List Mark) (text : List ℕ) where
 
   -- ---- a literal whose name may stand there
 
-  pub no_size : (start : LiteralStart) (xs : List ℕ) → size_after p (drop start.size xs) ≡ None → literal_of p marks start xs ≡ None
+  pub no_size : (start : LiteralStart) (xs : List ℕ) → size_after p (drop start.size xs) ≡ None → literal_of p end marks start xs ≡ None
   no_size start xs none =
       let after = drop start.size xs in
       let name = literal_name (content_codes after) in
@@ -359,7 +367,7 @@ module _ (p : ℕ → Bool) (marks : List Mark) (text : List ℕ) where
       ]
 
   pub with_size : (start : LiteralStart) (xs : List ℕ) (size : ℕ) → size_after p (drop start.size xs) ≡ Some size → StartsLiteral xs start.size → IsNameEnd (drop start.size xs) size
-      → literal_of p marks start xs ≡ Some (leaf (Literal start.kind (take (start.size + size) xs) ∷ []) (start.size + size))
+      → literal_of p end marks start xs ≡ Some (leaf (Literal start.kind (take (start.size + size) xs) ∷ []) (start.size + size))
   with_size start xs size found s end =
       let after = drop start.size xs in
       let name = literal_name (content_codes after) in

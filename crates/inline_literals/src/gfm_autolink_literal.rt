@@ -110,7 +110,7 @@ fn begins_name<T: Tables>(tables: &T, after: &str) -> bool
 fn begins_other<T: Tables>(tables: &T, text: &str) -> bool
     ensures { result ≡ begins_other (T.punctuation_of tables.now) text.now }
 {
-    match first_kind(tables, text) {
+    match first_kind(tables, Kind::Whitespace, text) {
         Kind::Other => true,
         Kind::Whitespace | Kind::Punctuation => false,
     }

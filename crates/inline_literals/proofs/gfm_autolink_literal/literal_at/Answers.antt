@@ -18,7 +18,7 @@ returns-then-not-on-clause-read g c =
       | then-not-on-via-then-not-on w ↦ sym (none_off c.args.on.now view w.if-not-on.true)
       | then-not-on-via-else-not-on+then-not-may_begin w ↦
           sym
-          (none_first c.args.on.now view rest (view_codes p c.args.content.marks.now c.args.content.text.now rest ∙ sym c.requires.codes)
+          (none_first c.args.on.now view rest (view_codes p c.args.content.after c.args.content.marks.now c.args.content.text.now rest ∙ sym c.requires.codes)
           (ap may_begin (sym w.as_bytes.ensures.value) ∙ sym w.may_begin.ensures ∙ w.if-not-may_begin.true))
     ]
 
@@ -27,7 +27,7 @@ returns-in_default-clause-read g c =
     let p = g.T.Tables.punctuation_of c.args.tables.now in
     let rest = c.args.rest.now in
     sym
-    (at_none p c.args.content.marks.now c.args.content.text.now c.args.on.now rest c.requires.rest
+    (at_none p c.args.content.after c.args.content.marks.now c.args.content.text.now c.args.on.now rest c.requires.rest
     (ap may_begin (sym c.as_bytes.ensures.value) ∙ sym c.may_begin.ensures ∙ c.if-not-may_begin.false)
     (ap (λ o. literal_start_at o rest) (sym c.previous.ensures) ∙ ap (literal_start_at c.previous.result) (sym c.as_bytes-2.ensures.value)
     ∙ sym c.start_at.ensures.read ∙ ap (option_map start_view) c.in_default.is))
@@ -42,12 +42,12 @@ returns-in_default-size_after-clause-read g c =
     let rest = c.args.rest.now in
     let start = start_view c.in-Some.start in
     sym
-    (at_found p marks c.args.content.text.now c.args.on.now rest start c.requires.rest
+    (at_found p c.args.content.after marks c.args.content.text.now c.args.on.now rest start c.requires.rest
     (ap may_begin (sym c.as_bytes.ensures.value) ∙ sym c.may_begin.ensures ∙ c.if-not-may_begin.false) c.if-not-on.false
     (ap (λ o. literal_start_at o rest) (sym c.previous.ensures) ∙ ap (literal_start_at c.previous.result) (sym c.as_bytes-2.ensures.value)
     ∙ sym c.start_at.ensures.read ∙ ap (option_map start_view) c.in-Some.is)
     (subst (λ l. StartsLiteral l c.in-Some.start.size) c.as_bytes-2.ensures.value c.in-Some.ensures.front)
-    ∙ no_size p marks c.args.content.text.now start rest
+    ∙ no_size p c.args.content.after marks c.args.content.text.now start rest
     (ap (size_after p) (sym c.cut_after-after.ensures.rest) ∙ sym c.size_after.ensures.read ∙ c.in_default-size_after.is))
 
 pub returns-clause-read : goal.returns-clause-read
@@ -63,11 +63,11 @@ returns-clause-read g c =
     ap (λ l. Some (leaf (Literal start.kind l ∷ []) (size_before rest c.rest_from.result.now))) c.text_before.ensures
     ∙ ap (λ n. Some (leaf (Literal start.kind (take (start.size + size) rest) ∷ []) n)) count
     ∙ sym
-    (at_found p marks c.args.content.text.now c.args.on.now rest start c.requires.rest
+    (at_found p c.args.content.after marks c.args.content.text.now c.args.on.now rest start c.requires.rest
     (ap may_begin (sym c.as_bytes.ensures.value) ∙ sym c.may_begin.ensures ∙ c.if-not-may_begin.false) c.if-not-on.false
     (ap (λ o. literal_start_at o rest) (sym c.previous.ensures) ∙ ap (literal_start_at c.previous.result) (sym c.as_bytes-2.ensures.value)
     ∙ sym c.start_at.ensures.read ∙ ap (option_map start_view) c.in-Some.is) begins
-    ∙ with_size p marks c.args.content.text.now start rest size (ap (size_after p) (sym c.cut_after-after.ensures.rest) ∙ sym c.size_after.ensures.read ∙ c.in-Some-size_after.is) begins ends)
+    ∙ with_size p c.args.content.after marks c.args.content.text.now start rest size (ap (size_after p) (sym c.cut_after-after.ensures.rest) ∙ sym c.size_after.ensures.read ∙ c.in-Some-size_after.is) begins ends)
 
 pub returns-clause-place : goal.returns-clause-place
 returns-clause-place g c =
