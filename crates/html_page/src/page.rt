@@ -45,7 +45,12 @@ impl<A: Allocator + Clone> Page<A> {
     {
         let top = level.is_document();
         match row {
-            Row::Paragraph(count) => self.paragraph(texts, level.tight, level.first, &lines[..count]),
+            Row::Paragraph(count) => self.paragraph(
+                texts,
+                level.tight,
+                level.first,
+                &lines[..count],
+            ),
             Row::WholeParagraph(count) => {
                 self.whole_paragraph(texts, level.tight, level.first, count, lines[0].text)
             }

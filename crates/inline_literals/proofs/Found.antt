@@ -120,6 +120,7 @@ module _ (p : ℕ → Bool) (end : Kind) (marks : List Mark) where
         | inl line ↦ absurd (true≢false (sym some ∙ no_ending b bs apart line))
         | inr other ↦ other
       ]
+
       one : (k : ℕ) → suc k ≡ 1 + k
       one k = omega arith
 
@@ -269,7 +270,7 @@ none_start : (previous : Option ℕ) (xs : List ℕ) → may_begin xs ≡ false 
 none_start previous xs h =
     let start : Bool → Bool → Bool → Option LiteralStart =
     λ www http https. or_start (cond (may_precede_www previous && www) (Some (literal_start Www 4)) None)
-        (cond (not (may_precede_protocol previous)) None (cond http (Some (literal_start Protocol 7)) (cond https (Some (literal_start Protocol 8)) None))) in
+    (cond (not (may_precede_protocol previous)) None (cond http (Some (literal_start Protocol 7)) (cond https (Some (literal_start Protocol 8)) None))) in
     let ww : begins_caselessly (codes "www.") xs ≡ false = w xs h in
     let hp : begins_caselessly (codes "http://") xs ≡ false = p xs h in
     let hs : begins_caselessly (codes "https://") xs ≡ false = s xs h in
@@ -283,21 +284,24 @@ none_start previous xs h =
     all true false = refl
     all false true = refl
     all false false = refl
+
     large : (b : ℕ) (r : Bool) → (eqb b 72 || (eqb b 87 || (eqb b 104 || eqb b 119))) ≡ false → (eqb 104 (to_ascii_lowercase b) ≡ false) × (eqb 119 (to_ascii_lowercase b) ≡ false)
     large b r h =
         let one = or_parts (eqb b 72) _ h in
         let two = or_parts (eqb b 87) _ one.1 in
-        let three = or_parts (eqb b 104) (eqb b 119) two.1 in
-        (
+        let three = or_parts (eqb b 104) (eqb b 119) two.1 in (
           ne_eqb 104 (to_ascii_lowercase b) (λ e. lower_is b 104 (eqb-false b 104 three.0) (λ k. eqb-false b 72 one.0 (omega (arith, k))) (sym e)),
           ne_eqb 119 (to_ascii_lowercase b) (λ e. lower_is b 119 (eqb-false b 119 three.1) (λ k. eqb-false b 87 two.0 (omega (arith, k))) (sym e)),
         )
+
     w : (xs : List ℕ) → may_begin xs ≡ false → begins_caselessly (codes "www.") xs ≡ false
     w [] h = refl
     w (b ∷ bs) h = and_left (eqb 119 (to_ascii_lowercase b)) _ (large b true h).1
+
     p : (xs : List ℕ) → may_begin xs ≡ false → begins_caselessly (codes "http://") xs ≡ false
     p [] h = refl
     p (b ∷ bs) h = and_left (eqb 104 (to_ascii_lowercase b)) _ (large b true h).0
+
     s : (xs : List ℕ) → may_begin xs ≡ false → begins_caselessly (codes "https://") xs ≡ false
     s [] h = refl
     s (b ∷ bs) h = and_left (eqb 104 (to_ascii_lowercase b)) _ (large b true h).0

@@ -56,11 +56,10 @@ run_goes_on n xs h plain so_far other =
     let rest = content_codes (drop (n + 1) xs) in
     let apart = no_return b rest other in
     let here : content_codes (drop n xs) ≡ b ∷ rest =
-    ap content_codes (drop-cons xs n 0 h) ∙ plain_code b (drop (suc n) xs) apart ∙ ap (λ k. b ∷ content_codes (drop k xs)) one in
-    (
+    ap content_codes (drop-cons xs n 0 h) ∙ plain_code b (drop (suc n) xs) apart ∙ ap (λ k. b ∷ content_codes (drop k xs)) one in (
       so_far ∙ ap (λ cs. take n xs ++ literal_run cs) here ∙ ap (λ cs. take n xs ++ cs) (cond-false (ends_literal b rest) _ _ other)
-      ∙ sym (append_assoc (take n xs) (b ∷ []) (literal_run rest)) ∙ ap (λ l. l ++ literal_run rest) (sym (take-suc xs n 0 h) ∙ ap (λ k. take k xs) one),
-      record { within = omega (arith, h); plain = λ k lt. elim (cases_lt k n) [ | inl less ↦ plain.plain k less | inr more ↦ λ e. apart (ap (λ j. get_or xs j 0) (same k more lt) ∙ e) ] },
+          ∙ sym (append_assoc (take n xs) (b ∷ []) (literal_run rest)) ∙ ap (λ l. l ++ literal_run rest) (sym (take-suc xs n 0 h) ∙ ap (λ k. take k xs) one),
+      record { within = omega (arith, h); plain = λ k lt. elim (cases_lt k n) [ inl less ↦ plain.plain k less | inr more ↦ λ e. apart (ap (λ j. get_or xs j 0) (same k more lt) ∙ e) ] },
     )
   where
     same : (k : ℕ) → n ≤ k → k < n + 1 → n ≡ k
@@ -201,7 +200,7 @@ cut_stops text end closed opened now some other stops =
     here ∙ sym (now.same ∙ ap (without_tail 0) here ∙ cond-false (is_cut last before) _ _ (or_from (is_trailing last) _ other none))
   where
     not_less : (a b : ℕ) → (a < b → ⊥) → nat_lt a b ≡ false
-    not_less a b h = elim (cases_lt a b) [ | inl less ↦ absurd (h less) | inr more ↦ le-ltb a b more ]
+    not_less a b h = elim (cases_lt a b) [ inl less ↦ absurd (h less) | inr more ↦ le-ltb a b more ]
 
 pub cut_all : (text : List ℕ) (end closed opened : ℕ) → IsCutTo text end closed opened → end ≡ 0 → reverse (take 0 text) ≡ without_tail 0 (reverse text)
 cut_all text end closed opened now none = sym (now.same ∙ ap (λ k. without_tail 0 (reverse (take k text))) none)

@@ -73,6 +73,7 @@ caseless_codes (t ∷ ts) (b ∷ bs) low =
   where
     other : (t b : ℕ) → is_low t ≡ true → is_low b ≡ false → (r : Bool) → (eqb (to_ascii_lowercase t) (to_ascii_lowercase b) && r) ≡ false
     other t b low no_low r = and_left _ r (ne_eqb (to_ascii_lowercase t) (to_ascii_lowercase b) (λ e. true≢false (sym (same_low t b low e) ∙ no_low)))
+
     apart : (b : ℕ) → eqb b 13 ≡ false → b ≡ 13 → ⊥
     apart b h e = true≢false (sym (ap (λ x. eqb x 13) e) ∙ h)
 
@@ -80,7 +81,7 @@ pub start_codes : (previous : Option ℕ) (bytes : List ℕ) → literal_start_a
 start_codes previous bytes =
     let start : Bool → Bool → Bool → Option LiteralStart =
     λ www http https. or_start (cond (may_precede_www previous && www) (Some (literal_start Www 4)) None)
-        (cond (not (may_precede_protocol previous)) None (cond http (Some (literal_start Protocol 7)) (cond https (Some (literal_start Protocol 8)) None))) in
+    (cond (not (may_precede_protocol previous)) None (cond http (Some (literal_start Protocol 7)) (cond https (Some (literal_start Protocol 8)) None))) in
     ap (λ w. start w (begins_caselessly (codes "http://") (content_codes bytes)) (begins_caselessly (codes "https://") (content_codes bytes))) (caseless_codes (codes "www.") bytes refl)
     ∙ ap (λ h. start (begins_caselessly (codes "www.") bytes) h (begins_caselessly (codes "https://") (content_codes bytes))) (caseless_codes (codes "http://") bytes refl)
     ∙ ap (start (begins_caselessly (codes "www.") bytes) (begins_caselessly (codes "http://") bytes)) (caseless_codes (codes "https://") bytes refl)

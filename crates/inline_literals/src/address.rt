@@ -147,8 +147,7 @@ fn ends_with_protocol(protocol: &[u8], text: &[u8]) -> bool
     ensures within { result ≡ true → length protocol.now ≤ length text.now }
     ensures same { result ≡ true → drop (length text.now - length protocol.now) text.now ≡ protocol.now }
 {
-    text.ends_with(protocol)
-        && !ends_with_letter_or_digit(&text[..text.len() - protocol.len()])
+    text.ends_with(protocol) && !ends_with_letter_or_digit(&text[..text.len() - protocol.len()])
 }
 
 /// Whether the last byte of a text is a letter or a digit.

@@ -8,9 +8,18 @@ use tests_helpers::first_wrong;
 
 /// Task list items (GFM 5.3).
 pub(crate) const TASKS: [(&str, &str); 42] = [
-    ("- [ ] a", "<ul>\n<li><input type=\"checkbox\" disabled=\"\" /> a</li>\n</ul>"),
-    ("- [x] a", "<ul>\n<li><input type=\"checkbox\" disabled=\"\" checked=\"\" /> a</li>\n</ul>"),
-    ("* [X] a", "<ul>\n<li><input type=\"checkbox\" disabled=\"\" checked=\"\" /> a</li>\n</ul>"),
+    (
+        "- [ ] a",
+        "<ul>\n<li><input type=\"checkbox\" disabled=\"\" /> a</li>\n</ul>",
+    ),
+    (
+        "- [x] a",
+        "<ul>\n<li><input type=\"checkbox\" disabled=\"\" checked=\"\" /> a</li>\n</ul>",
+    ),
+    (
+        "* [X] a",
+        "<ul>\n<li><input type=\"checkbox\" disabled=\"\" checked=\"\" /> a</li>\n</ul>",
+    ),
     (
         "- [ ] foo\n- [x] bar",
         "<ul>\n<li><input type=\"checkbox\" disabled=\"\" /> foo</li>\n<li><input type=\"checkbox\" disabled=\"\" checked=\"\" /> bar</li>\n</ul>",
@@ -23,10 +32,16 @@ pub(crate) const TASKS: [(&str, &str); 42] = [
         "1. [x] a\n2. [ ] b",
         "<ol>\n<li><input type=\"checkbox\" disabled=\"\" checked=\"\" /> a</li>\n<li><input type=\"checkbox\" disabled=\"\" /> b</li>\n</ol>",
     ),
-    ("-\n   [ ] a", "<ul>\n<li><input type=\"checkbox\" disabled=\"\" /> a</li>\n</ul>"),
+    (
+        "-\n   [ ] a",
+        "<ul>\n<li><input type=\"checkbox\" disabled=\"\" /> a</li>\n</ul>",
+    ),
     ("- [ ]  ", "<ul>\n<li>[ ]</li>\n</ul>"),
     ("- [ ]", "<ul>\n<li>[ ]</li>\n</ul>"),
-    ("- [ ]\n  a", "<ul>\n<li><input type=\"checkbox\" disabled=\"\" />\na</li>\n</ul>"),
+    (
+        "- [ ]\n  a",
+        "<ul>\n<li><input type=\"checkbox\" disabled=\"\" />\na</li>\n</ul>",
+    ),
     ("- [x]a", "<ul>\n<li>[x]a</li>\n</ul>"),
     ("- [y] a", "<ul>\n<li>[y] a</li>\n</ul>"),
     ("- [xx] a", "<ul>\n<li>[xx] a</li>\n</ul>"),
@@ -36,11 +51,23 @@ pub(crate) const TASKS: [(&str, &str); 42] = [
         "- [x] a\n\n- [ ] b",
         "<ul>\n<li>\n<p><input type=\"checkbox\" disabled=\"\" checked=\"\" /> a</p>\n</li>\n<li>\n<p><input type=\"checkbox\" disabled=\"\" /> b</p>\n</li>\n</ul>",
     ),
-    ("- [\t] a", "<ul>\n<li><input type=\"checkbox\" disabled=\"\" /> a</li>\n</ul>"),
-    ("- [\n  ] a", "<ul>\n<li><input type=\"checkbox\" disabled=\"\" /> a</li>\n</ul>"),
-    ("- [x]\ta", "<ul>\n<li><input type=\"checkbox\" disabled=\"\" checked=\"\" />\ta</li>\n</ul>"),
+    (
+        "- [\t] a",
+        "<ul>\n<li><input type=\"checkbox\" disabled=\"\" /> a</li>\n</ul>",
+    ),
+    (
+        "- [\n  ] a",
+        "<ul>\n<li><input type=\"checkbox\" disabled=\"\" /> a</li>\n</ul>",
+    ),
+    (
+        "- [x]\ta",
+        "<ul>\n<li><input type=\"checkbox\" disabled=\"\" checked=\"\" />\ta</li>\n</ul>",
+    ),
     ("- [a]: b\n  [ ] c", "<ul>\n<li>[ ] c</li>\n</ul>"),
-    ("- > [ ] a", "<ul>\n<li>\n<blockquote>\n<p>[ ] a</p>\n</blockquote>\n</li>\n</ul>"),
+    (
+        "- > [ ] a",
+        "<ul>\n<li>\n<blockquote>\n<p>[ ] a</p>\n</blockquote>\n</li>\n</ul>",
+    ),
     ("- [x] a\n  ===", "<ul>\n<li>\n<h1>[x] a</h1>\n</li>\n</ul>"),
     ("- # [x] a", "<ul>\n<li>\n<h1>[x] a</h1>\n</li>\n</ul>"),
     ("[x] a", "<p>[x] a</p>"),
@@ -49,7 +76,10 @@ pub(crate) const TASKS: [(&str, &str); 42] = [
         "> - [x] *a*",
         "<blockquote>\n<ul>\n<li><input type=\"checkbox\" disabled=\"\" checked=\"\" /> <em>a</em></li>\n</ul>\n</blockquote>",
     ),
-    ("- a\n\n  [x] b", "<ul>\n<li>\n<p>a</p>\n<p>[x] b</p>\n</li>\n</ul>"),
+    (
+        "- a\n\n  [x] b",
+        "<ul>\n<li>\n<p>a</p>\n<p>[x] b</p>\n</li>\n</ul>",
+    ),
     (
         "- [x] a\n\n  [x] b",
         "<ul>\n<li>\n<p><input type=\"checkbox\" disabled=\"\" checked=\"\" /> a</p>\n<p>[x] b</p>\n</li>\n</ul>",
@@ -69,7 +99,10 @@ pub(crate) const TASKS: [(&str, &str); 42] = [
         "- [x] a\n[x] b",
         "<ul>\n<li><input type=\"checkbox\" disabled=\"\" checked=\"\" /> a\n[x] b</li>\n</ul>",
     ),
-    ("-   [x] a", "<ul>\n<li><input type=\"checkbox\" disabled=\"\" checked=\"\" /> a</li>\n</ul>"),
+    (
+        "-   [x] a",
+        "<ul>\n<li><input type=\"checkbox\" disabled=\"\" checked=\"\" /> a</li>\n</ul>",
+    ),
     (
         "- `a`\n- [ ] ~~b~~",
         "<ul>\n<li><code>a</code></li>\n<li><input type=\"checkbox\" disabled=\"\" /> <del>b</del></li>\n</ul>",
@@ -99,7 +132,10 @@ pub(crate) const TASKS: [(&str, &str); 42] = [
 
 /// Task list items whose boxes can be changed.
 const CHECKABLE: [(&str, &str); 2] = [
-    ("- [ ] a", "<ul>\n<li><input type=\"checkbox\" /> a</li>\n</ul>"),
+    (
+        "- [ ] a",
+        "<ul>\n<li><input type=\"checkbox\" /> a</li>\n</ul>",
+    ),
     (
         "- [x] a\n\n  b",
         "<ul>\n<li>\n<p><input type=\"checkbox\" checked=\"\" /> a</p>\n<p>b</p>\n</li>\n</ul>",
@@ -109,7 +145,10 @@ const CHECKABLE: [(&str, &str); 2] = [
 /// What these texts are while task list items are off.
 const OFF: [(&str, &str); 2] = [
     ("- [ ] a", "<ul>\n<li>[ ] a</li>\n</ul>"),
-    ("- [x] a\n\n[x]: b", "<ul>\n<li><a href=\"b\">x</a> a</li>\n</ul>\n"),
+    (
+        "- [x] a\n\n[x]: b",
+        "<ul>\n<li><a href=\"b\">x</a> a</li>\n</ul>\n",
+    ),
 ];
 
 #[test]

@@ -11,8 +11,8 @@ loop-end-preserved-then-is_trailing c =
     let now = c.loop-end.invariant in
     let is = sym c.is_trailing.ensures ∙ c.if-is_trailing.true in
     let next = cut_trailing text end c.loop-end.closed c.count_of-opened.result c.cut_more.result
-        (record { within = now.within; same = now.same; closed_is = now.closed; opened_is = now.opened })
-        c.loop-end-test.true is c.cut_more.ensures.size in
+    (record { within = now.within; same = now.same; closed_is = now.closed; opened_is = now.opened })
+    c.loop-end-test.true is c.cut_more.ensures.size in
     record {
       within = next.within;
       same = next.same;
