@@ -1,7 +1,8 @@
-//! Examples by number, compared with the page.
+//! Examples by number, compared with the page, and tried by the laws of pages.
 ghost use Rattle.std.specs.Prelude.{◌≡◌, true};
 ghost use Rattle.markdown_options.specs.Built.{is_built};
 
+use crate::laws::broken_law;
 use markdown::{Builtin, CompileOptions, Options, ParseOptions, RunError, Watched, run};
 use std::process::Abort;
 
@@ -19,7 +20,8 @@ fn options() -> Options
     }
 }
 
-/// Prints each text, the first of which is the example of this number, and compares.
+/// Prints each text, the first of which is the example of this number, compares, and tries the
+/// laws on it.
 pub(crate) fn examples(
     rt: &(impl AllocGlobal + Abort),
     first: usize,
@@ -34,6 +36,12 @@ pub(crate) fn examples(
         assert_eq!(rt;
             out.as_slice(),
             want.as_bytes(),
+            "example {}",
+            first.saturating_add(place)
+        );
+        assert_eq!(rt;
+            broken_law(rt.alloc(), text, &options)?,
+            None,
             "example {}",
             first.saturating_add(place)
         );
