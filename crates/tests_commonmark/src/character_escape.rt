@@ -12,8 +12,12 @@ const EXAMPLES: [(&str, &str); 13] = [
         "<p>\\\t\\A\\a\\ \\3\\φ\\«</p>\n",
     ),
     (
-        "\\*not emphasized*\n\\<br/> not a tag\n\\[not a link](/foo)\n\\`not code`\n1\\. not a list\n\\* not a list\n\\# not a heading\n\\[foo]: /url \"not a reference\"\n\\&ouml; not a character entity\n",
-        "<p>*not emphasized*\n&lt;br/&gt; not a tag\n[not a link](/foo)\n`not code`\n1. not a list\n* not a list\n# not a heading\n[foo]: /url &quot;not a reference&quot;\n&amp;ouml; not a character entity</p>\n",
+        "\\*not emphasized*\n\\<br/> not a tag\n\\[not a link](/foo)\n\\`not code`\n1\\. not a list\n\
+         \\* not a list\n\\# not a heading\n\\[foo]: /url \"not a reference\"\n\
+         \\&ouml; not a character entity\n",
+        "<p>*not emphasized*\n&lt;br/&gt; not a tag\n[not a link](/foo)\n`not code`\n1. not a list\n\
+         * not a list\n# not a heading\n[foo]: /url &quot;not a reference&quot;\n\
+         &amp;ouml; not a character entity</p>\n",
     ),
     ("\\\\*emphasis*\n", "<p>\\<em>emphasis</em></p>\n"),
     ("foo\\\nbar\n", "<p>foo<br />\nbar</p>\n"),
