@@ -1,5 +1,5 @@
 //! Tables of a caller.
-ghost use Rattle.std.specs.Prelude.{Some, None, codes, bytes_eq, if◌then◌else◌};
+ghost use Rattle.tests_helpers.specs.Names.{stands_for};
 ghost use Rattle.std.specs.Char.{is_ascii_punctuation};
 ghost use Rattle.std.proofs.Common.{rules};
 ghost use Rattle.std.proofs.lemmas.Grind.{common_steps};
@@ -12,7 +12,7 @@ use markdown_options::Tables;
 pub struct Names;
 
 impl Tables for Names {
-    ghost reference_of = { λ _ name. if bytes_eq name (codes "and") then Some (codes "&") else (if bytes_eq name (codes "q") then Some (codes "\"") else (if bytes_eq name (codes "j") then Some (codes "ja") else None)) };
+    ghost reference_of = { λ _ name. stands_for name };
 
     ghost punctuation_of = { λ _ code. is_ascii_punctuation code };
 

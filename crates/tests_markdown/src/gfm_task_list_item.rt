@@ -26,7 +26,10 @@ pub(crate) const TASKS: [(&str, &str); 42] = [
     ),
     (
         "- [x] foo\n  - [ ] bar\n  - [x] baz\n- [ ] bim",
-        "<ul>\n<li><input type=\"checkbox\" disabled=\"\" checked=\"\" /> foo\n<ul>\n<li><input type=\"checkbox\" disabled=\"\" /> bar</li>\n<li><input type=\"checkbox\" disabled=\"\" checked=\"\" /> baz</li>\n</ul>\n</li>\n<li><input type=\"checkbox\" disabled=\"\" /> bim</li>\n</ul>",
+        "<ul>\n<li><input type=\"checkbox\" disabled=\"\" checked=\"\" /> foo\n<ul>\n\
+         <li><input type=\"checkbox\" disabled=\"\" /> bar</li>\n\
+         <li><input type=\"checkbox\" disabled=\"\" checked=\"\" /> baz</li>\n</ul>\n</li>\n\
+         <li><input type=\"checkbox\" disabled=\"\" /> bim</li>\n</ul>",
     ),
     (
         "1. [x] a\n2. [ ] b",
