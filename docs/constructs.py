@@ -6,8 +6,8 @@ usage: docs/constructs.py            writes the page
 
 A file belongs to the construct whose switch in `Constructs` it is named after: `code_text.rt`, `proofs/code_text`,
 `CodeText.antt`, `CodeTextLemmas.antt`; SHARED names the constructs of the others. The prefix of its crate is its room.
-Both ways fail on a gap: a construct that has a file in some room, but none in one that it needs, or no grammar at its
-reader's head.
+Both ways fail on a gap: a construct that is read, but has no file in a room that it needs, or no grammar at its reader's
+head.
 """
 import os
 import re
@@ -24,6 +24,7 @@ NEEDED = ("Definition", "Reader", "Printer", "Laws", "Tests")
 PREFIXES = {
     "definition_": "Definition",
     "inline_states": "Events",
+    "inline_verdicts": "Events",
     "text_": "Reader",
     "block_": "Reader",
     "inline_": "Reader",
@@ -279,6 +280,11 @@ Not in the table, since it holds all of them: what a block prints is defined in 
 """
 
 
+def is_read(name, found):
+    """Whether a construct has a reader, or needs none."""
+    return (name, "Reader") in found or (name, "Reader") in WITHOUT
+
+
 def page():
     """The page, and the gaps."""
     names = switches()
@@ -290,10 +296,11 @@ def page():
     for name in standing:
         line, has_grammar = row(name, rooms, found)
         lines.append(line)
-        lacking = [it for it in NEEDED if (name, it) not in found and (name, it) not in WITHOUT]
-        gaps += [f"{name} has no {it.lower()}" for it in lacking]
-        gaps += [] if has_grammar else [f"{name} has no grammar at its reader's head"]
-    absent = [f"`{it}`" for it in names if it not in standing]
+        if is_read(name, found):
+            lacking = [it for it in NEEDED if (name, it) not in found and (name, it) not in WITHOUT]
+            gaps += [f"{name} has no {it.lower()}" for it in lacking]
+            gaps += [] if has_grammar else [f"{name} has no grammar at its reader's head"]
+    absent = [f"`{it}`" for it in names if not is_read(it, found)]
     if absent:
         lines += ["", f"Not read so far: {', '.join(absent)}."]
     return "\n".join(lines) + "\n", gaps

@@ -27,7 +27,9 @@ enum {
     /* Metadata at the front of a text, between lines of --- or of +++, is skipped. */
     MARKDOWN_FRONTMATTER = 16,
     /* An item that begins with [ ] or [x] has a check box. */
-    MARKDOWN_TASK_LIST_ITEMS = 32
+    MARKDOWN_TASK_LIST_ITEMS = 32,
+    /* A row of delimiters below a line, as | - | - |, makes a table. */
+    MARKDOWN_TABLES = 64
 };
 
 /* What a call answers. */

@@ -2,6 +2,7 @@
 """Reads Markdown from standard input, and writes its HTML to standard output.
 
     convert.py LIBRARY [--dangerous] [--plain] [--strikethrough] [--math] [--frontmatter] [--task-list-items]
+        [--tables]
 """
 import sys
 
@@ -14,6 +15,7 @@ FLAGS = {
     "--math": markdown_c.MATH,
     "--frontmatter": markdown_c.FRONTMATTER,
     "--task-list-items": markdown_c.TASK_LIST_ITEMS,
+    "--tables": markdown_c.TABLES,
 }
 
 library = markdown_c.load(sys.argv[1])

@@ -16,6 +16,7 @@ fn main() -> Result<(), Box<dyn Error>> {
             "--math" => flags.math = true,
             "--frontmatter" => flags.frontmatter = true,
             "--task-list-items" => flags.task_list_items = true,
+            "--tables" => flags.tables = true,
             _ => return Err(format!("an unknown word: {word}").into()),
         }
     }

@@ -15,6 +15,7 @@ mod calls {
     pub const MATH: u32 = 8;
     pub const FRONTMATTER: u32 = 16;
     pub const TASK_LIST_ITEMS: u32 = 32;
+    pub const TABLES: u32 = 64;
 
     #[link(name = "markdown", kind = "static")]
     extern "C" {
@@ -44,6 +45,8 @@ pub struct Flags {
     pub frontmatter: bool,
     /// An item that begins with `[ ]` or `[x]` has a check box.
     pub task_list_items: bool,
+    /// A row of delimiters below a line makes a table.
+    pub tables: bool,
 }
 
 impl Flags {
@@ -55,6 +58,7 @@ impl Flags {
             (self.math, calls::MATH),
             (self.frontmatter, calls::FRONTMATTER),
             (self.task_list_items, calls::TASK_LIST_ITEMS),
+            (self.tables, calls::TABLES),
         ]
         .into_iter()
         .filter_map(|(asked, flag)| asked.then_some(flag))

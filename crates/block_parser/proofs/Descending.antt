@@ -6,7 +6,7 @@ use Rattle.std.specs.Prelude.{map, if◌then◌else◌}
 use Rattle.markdown_options.specs.declared.line_ending.LineEnding.{LineEnding}
 use Rattle.markdown_options.specs.declared.configuration.Constructs.{Constructs}
 use Rattle.definition_text.specs.declared.beside.Beside.{Beside}
-use Rattle.definition_block.specs.declared.container.Container.{Container}
+use Rattle.definition_block.specs.Container.{Container}
 use Rattle.block_rows.specs.declared.row.Row.{Row}
 use Rattle.block_rows.specs.declared.row.Row.TheVariants as row
 use Rattle.definition_text.specs.Columns.{Rest}
@@ -14,11 +14,11 @@ use Rattle.definition_block.specs.Containers.{continues}
 use Rattle.definition_block.specs.CodeFenced.{Fence}
 use Rattle.definition_inline.specs.Definition.{Definition as LinkDefinition}
 use Rattle.definition_text.specs.BlockLines.{BlockLine, last_ending_or}
-use Rattle.definition_block.specs.Tree.{Block, Paragraph, Heading, Break, IndentedCode, FencedCode, Html, Definition, Holds, Items, Ending, Blank, Blocks, Nil, Cons, join, all_endings, front, trailing, Text, Indented, Fenced, OpenHtml, Opening, Leaf, Inside, Tree, beside_in, grow, goes_on, new, began_blank, is_nothing, is_one_blank}
+use Rattle.definition_block.specs.Tree.{Block, Paragraph, Heading, Break, IndentedCode, FencedCode, Html, Table, Definition, Holds, Items, Ending, Blank, Blocks, Nil, Cons, join, all_endings, front, trailing, Text, Indented, Fenced, OpenHtml, OpenTable, Opening, Leaf, Inside, Tree, beside_in, grow, goes_on, new, began_blank, is_nothing, is_one_blank}
 use Rattle.block_rows.specs.Rows.{definition_on, definition_value, BlockRow, Single, rows_of}
 use Rattle.block_parser.specs.Spine.{Level, level, Spine, spine, spine_at, spine_of, spine_after, containers_of}
 use Rattle.block_parser.specs.Waits.{is_one_blank_row}
-use Rattle.block_parser.specs.Shows.{InText, InIndented, InFenced, InHtml, state_of, lone, is_nil, Written}
+use Rattle.block_parser.specs.Shows.{InText, InIndented, InFenced, InHtml, InTable, state_of, lone, is_nil, Written}
 use Rattle.block_parser.specs.View.{Descent, leaf_grown}
 use Rattle.block_parser.proofs.Trees.{join-nil}
 use Rattle.block_parser.proofs.Closing.{opening_depth, length-around, length-containers}
@@ -112,6 +112,7 @@ blank-rows (Cons Break Nil) = refl
 blank-rows (Cons (IndentedCode ls) Nil) = refl
 blank-rows (Cons (FencedCode info closed ls) Nil) = refl
 blank-rows (Cons (Html ls) Nil) = refl
+blank-rows (Cons (Table ls) Nil) = refl
 blank-rows (Cons (Definition label destination title) Nil) = refl
 blank-rows (Cons (Holds c kids) Nil) = refl
 blank-rows (Cons (Items items) Nil) = refl
@@ -126,6 +127,7 @@ blank-rows (Cons b (Cons c bs)) = none b ∙ parts b c (all_endings (Cons b (Con
     none (IndentedCode ls) = refl
     none (FencedCode info closed ls) = refl
     none (Html ls) = refl
+    none (Table ls) = refl
     none (Definition label destination title) = refl
     none (Holds c kids) = refl
     none (Items items) = refl
@@ -162,9 +164,11 @@ one-row (row.UnclosedCode n ∷ []) = refl
 one-row (row.WholeParagraph n ∷ []) = refl
 one-row (row.SetextHeading rank n ∷ []) = refl
 one-row (row.Html n ∷ []) = refl
+one-row (row.Table n ∷ []) = refl
 one-row (row.Definition n ∷ []) = sym (not-blank (definition_on (take n [])) [])
 one-row (row.EnterQuote ∷ []) = refl
 one-row (row.EnterItem marker number ∷ []) = refl
+one-row (row.EnterFootnote ∷ []) = refl
 one-row (row.Exit ∷ []) = refl
 one-row (row.Ending ending ∷ []) = refl
 one-row (row.Blank ending ∷ []) = refl
@@ -180,9 +184,11 @@ one-row (a ∷ b ∷ rows) = two a
     two (row.WholeParagraph n) = refl
     two (row.SetextHeading rank n) = refl
     two (row.Html n) = refl
+    two (row.Table n) = refl
     two (row.Definition n) = sym (not-blank (definition_on (take n [])) (lone b ∷ map lone rows))
     two row.EnterQuote = refl
     two (row.EnterItem marker number) = refl
+    two row.EnterFootnote = refl
     two row.Exit = refl
     two (row.Ending ending) = refl
     two (row.Blank ending) = refl
@@ -218,7 +224,17 @@ module _ (P Q : Spine → Type 0) (on : Constructs) (e : Beside) (r : Rest) wher
   text_grows around kids (Leaf (Indented ls pending)) none is h = let wrong : InText ≡ InIndented _ _ = is in cc
   text_grows around kids (Leaf (Fenced f opening ls)) none is h = let wrong : InText ≡ InFenced _ _ = is in cc
   text_grows around kids (Leaf (OpenHtml kind ls)) none is h = let wrong : InText ≡ InHtml _ _ = is in cc
+  text_grows around kids (Leaf (OpenTable ls)) none is h = let wrong : InText ≡ InTable _ = is in cc
   text_grows around kids (Inside c inner_kids inner) none is h = absurd (omega (arith, none))
+
+  pub table_grows : (last : Option LineEnding) (around : List Level) (kids : Blocks) (now : Opening) → opening_depth now ≡ 0 → InTable last ≡ state_of (spine_at around kids now).leaf
+      → Q (spine_after around kids (new (length r) on true now e r)) → Q (spine_after around kids (grow on e now r))
+  table_grows last around kids (Leaf (Text ls)) none is h = let wrong : InTable last ≡ InText = is in cc
+  table_grows last around kids (Leaf (Indented ls pending)) none is h = let wrong : InTable last ≡ InIndented _ _ = is in cc
+  table_grows last around kids (Leaf (Fenced f opening ls)) none is h = let wrong : InTable last ≡ InFenced _ _ = is in cc
+  table_grows last around kids (Leaf (OpenHtml kind ls)) none is h = let wrong : InTable last ≡ InHtml _ _ = is in cc
+  table_grows last around kids (Leaf (OpenTable ls)) none is h = h
+  table_grows last around kids (Inside c inner_kids inner) none is h = absurd (omega (arith, none))
 
   pub indented_grows : ((around : List Level) (kids : Blocks) (ls pending : List BlockLine) → P (spine around kids (Indented ls pending)) → Q (spine_after around kids (leaf_grown on e r (Leaf (Indented ls pending)))))
       → (count : ℕ) (last : Option LineEnding) (around : List Level) (kids : Blocks) (now : Opening) → opening_depth now ≡ 0 → InIndented count last ≡ state_of (spine_at around kids now).leaf
@@ -227,6 +243,7 @@ module _ (P Q : Spine → Type 0) (on : Constructs) (e : Beside) (r : Rest) wher
   indented_grows grows count last around kids (Leaf (Indented ls pending)) none is h = grows around kids ls pending h
   indented_grows grows count last around kids (Leaf (Fenced f opening ls)) none is h = let wrong : InIndented count last ≡ InFenced _ _ = is in cc
   indented_grows grows count last around kids (Leaf (OpenHtml kind ls)) none is h = let wrong : InIndented count last ≡ InHtml _ _ = is in cc
+  indented_grows grows count last around kids (Leaf (OpenTable ls)) none is h = let wrong : InIndented count last ≡ InTable _ = is in cc
   indented_grows grows count last around kids (Inside c inner_kids inner) none is h = absurd (omega (arith, none))
 
   pub fenced_grows : (f : Fence) → ((around : List Level) (kids : Blocks) (opening : Option LineEnding) (ls : List BlockLine) → P (spine around kids (Fenced f opening ls)) → Q (spine_after around kids (leaf_grown on e r (Leaf (Fenced f opening ls)))))
@@ -240,6 +257,7 @@ module _ (P Q : Spine → Type 0) (on : Constructs) (e : Beside) (r : Rest) wher
       subst (λ (x : Fence). Q (spine_after around kids (grow on e (Leaf (Fenced x opening ls)) r))) (sym is_fence)
       (grows around kids opening ls (subst (λ (x : Fence). P (spine around kids (Fenced x opening ls))) is_fence h))
   fenced_grows f grows last around kids (Leaf (OpenHtml kind ls)) none is h = let wrong : InFenced f last ≡ InHtml _ _ = is in cc
+  fenced_grows f grows last around kids (Leaf (OpenTable ls)) none is h = let wrong : InFenced f last ≡ InTable _ = is in cc
   fenced_grows f grows last around kids (Inside c inner_kids inner) none is h = absurd (omega (arith, none))
 
   pub html_grows : (kind : ℕ) → ((around : List Level) (kids : Blocks) (ls : List BlockLine) → P (spine around kids (OpenHtml kind ls)) → Q (spine_after around kids (leaf_grown on e r (Leaf (OpenHtml kind ls)))))
@@ -253,4 +271,5 @@ module _ (P Q : Spine → Type 0) (on : Constructs) (e : Beside) (r : Rest) wher
       let is_kind : other ≡ kind = cc in
       subst (λ (x : ℕ). Q (spine_after around kids (grow on e (Leaf (OpenHtml x ls)) r))) (sym is_kind)
       (grows around kids ls (subst (λ (x : ℕ). P (spine around kids (OpenHtml x ls))) is_kind h))
+  html_grows kind grows last around kids (Leaf (OpenTable ls)) none is h = let wrong : InHtml kind last ≡ InTable _ = is in cc
   html_grows kind grows last around kids (Inside c inner_kids inner) none is h = absurd (omega (arith, none))

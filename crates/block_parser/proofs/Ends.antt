@@ -3,10 +3,9 @@ use Rattle.std.proofs.Common.{◌≡◌, suc, ◌-◌, Bool, true, false, if◌t
 use Rattle.std.specs.Prelude.{map}
 use Rattle.std.proofs.lemmas.Bool.{cond-true, and_parts}
 use Rattle.std.proofs.lemmas.List.{append-nil, take-map, drop-map, length-map}
-use Rattle.definition_block.specs.declared.container.Container.{Container}
-use Rattle.definition_block.specs.declared.container.Container.TheVariants.{Quote, Item}
+use Rattle.definition_block.specs.Container.{Container, Quote, Item, Footnote}
 use Rattle.block_rows.specs.declared.row.Row.{Row}
-use Rattle.definition_block.specs.Tree.{Block, Paragraph, Heading, Break, IndentedCode, FencedCode, Html, Definition, Holds, Items, Ending, Blank, Blocks, Nil, Cons, join, one, is_ending, all_endings, front, trailing, without_last, last_of, holds}
+use Rattle.definition_block.specs.Tree.{Block, Paragraph, Heading, Break, IndentedCode, FencedCode, Html, Table, Definition, Holds, Items, Ending, Blank, Blocks, Nil, Cons, join, one, is_ending, all_endings, front, trailing, without_last, last_of, holds}
 use Rattle.block_rows.specs.Rows.{BlockRow, Single, Exit, start_row, block_rows, rows_of}
 use Rattle.block_parser.specs.Waits.{inside, outside}
 use Rattle.block_parser.specs.Shows.{lone}
@@ -22,6 +21,7 @@ ending_rows Break h = refl
 ending_rows (IndentedCode ls) h = refl
 ending_rows (FencedCode info closed ls) h = refl
 ending_rows (Html ls) h = refl
+ending_rows (Table ls) h = refl
 ending_rows (Definition label destination title) h = let wrong : false ≡ true = h in cc
 ending_rows (Holds c kids) h = let wrong : false ≡ true = h in cc
 ending_rows (Items items) h = let wrong : false ≡ true = h in cc
@@ -93,22 +93,27 @@ last-all (Cons b (Cons c bs)) = last-all (Cons c bs)
 abbrev pub holding : Container → Blocks → Block
 holding Quote kids = Holds Quote (without_last kids)
 holding (Item item) kids = Holds (Item item) (front kids)
+holding (Footnote label) kids = Holds (Footnote label) (front kids)
 
 abbrev pub left_over : Container → Blocks → Blocks
 left_over Quote kids = last_of kids
 left_over (Item item) kids = trailing kids
+left_over (Footnote label) kids = trailing kids
 
 pub holds_parts : (c : Container) (kids : Blocks) → holds c kids ≡ join (one (holding c kids)) (left_over c kids)
 holds_parts Quote kids = refl
 holds_parts (Item item) kids = refl
+holds_parts (Footnote label) kids = refl
 
 left_over-all : (c : Container) (kids : Blocks) → all_endings (left_over c kids) ≡ true
 left_over-all Quote kids = last-all kids
 left_over-all (Item item) kids = trailing-all kids
+left_over-all (Footnote label) kids = trailing-all kids
 
 holding-block : (c : Container) (kids : Blocks) → is_ending (holding c kids) ≡ false
 holding-block Quote kids = refl
 holding-block (Item item) kids = refl
+holding-block (Footnote label) kids = refl
 
 pub front-holds : (before kids : Blocks) (c : Container) → front (join before (holds c kids)) ≡ join before (one (holding c kids))
 front-holds before kids c =
@@ -134,6 +139,7 @@ inside-rows Quote kids waiting h =
     (without-front kids
     ∙ ap (λ x. rows_of (front kids) ++ x) ((endings-last (trailing kids) (trailing-all kids)).0 ∙ ap (λ m. take m (rows_of (trailing kids))) count ∙ ap (take n) (sym h) ∙ take-map lone n waiting))
 inside-rows (Item item) kids waiting h = ap (λ x. start_row (Item item) ∷ (x ++ Exit ∷ [])) (sym (append-nil (rows_of (front kids))))
+inside-rows (Footnote label) kids waiting h = ap (λ x. start_row (Footnote label) ∷ (x ++ Exit ∷ [])) (sym (append-nil (rows_of (front kids))))
 
 pub outside-rows : (c : Container) (kids : Blocks) (waiting : List Row) → map lone waiting ≡ rows_of (trailing kids)
     → map lone (outside c waiting) ≡ rows_of (left_over c kids)
@@ -142,3 +148,4 @@ outside-rows Quote kids waiting h =
     let count : length (rows_of (trailing kids)) - 1 ≡ n = ap (λ (x : List BlockRow). length x - 1) (sym h) ∙ ap (λ m. m - 1) (length-map waiting lone) in
     sym (ap rows_of (last-trailing kids) ∙ (endings-last (trailing kids) (trailing-all kids)).1 ∙ ap (λ m. drop m (rows_of (trailing kids))) count ∙ ap (drop n) (sym h) ∙ drop-map lone n waiting)
 outside-rows (Item item) kids waiting h = h
+outside-rows (Footnote label) kids waiting h = h

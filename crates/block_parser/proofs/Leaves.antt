@@ -7,8 +7,7 @@ use Rattle.std.proofs.lemmas.List.Sums.{sum_by-append}
 use Rattle.markdown_options.specs.declared.line_ending.LineEnding.{LineEnding}
 use Rattle.markdown_options.specs.declared.configuration.Constructs.{Constructs}
 use Rattle.definition_text.specs.Lines.{TextLine}
-use Rattle.definition_block.specs.declared.container.Container.{Container}
-use Rattle.definition_block.specs.declared.container.Container.TheVariants.{Quote, Item}
+use Rattle.definition_block.specs.Container.{Container, Quote, Item, Footnote}
 use Rattle.block_rows.specs.declared.row.Row.{Row}
 use Rattle.block_rows.specs.declared.row.Row.TheVariants as row
 use Rattle.block_rows.specs.declared.row.Piece.{Piece}
@@ -161,21 +160,19 @@ pub longer : (rows waiting : List Row) (bare : Bool) (pool : List BlockLine) (ar
     → Written rows waiting bare pool around kids left → (l : BlockLine) → rows_size rows ≤ length pool → Written rows waiting bare (pool ++ l ∷ []) around kids (left ++ l ∷ [])
 longer rows waiting bare pool around kids left h l le = with_line rows waiting bare pool around kids left h l le
 
-enter_shown : (c : Container) (left : List BlockLine) → row_value (enter_row c) left ≡ start_row c
-enter_shown Quote left = refl
-enter_shown (Item item) left = refl
-
-enter_taken : (c : Container) → row_size (enter_row c) ≡ 0
-enter_taken Quote = refl
-enter_taken (Item item) = refl
+pub enter_shown : (c : Container) (left : List BlockLine) → row_size (enter_row c) ≡ 0 → row_value (enter_row c) left ≡ start_row c
+enter_shown Quote left none = refl
+enter_shown (Item item) left none = refl
+enter_shown (Footnote label) left none = absurd (omega (arith, none))
 
 pub entered_as : (rows waiting : List Row) (bare : Bool) (pool : List BlockLine) (around : List Level) (kids : Blocks) (left : List BlockLine)
-    → Written rows waiting bare pool around kids left → (c : Container) → rows_size waiting ≡ 0
-    → (rows2 waiting2 : List Row) (bare2 : Bool) → rows2 ≡ (rows ++ waiting) ++ enter_row c ∷ [] → waiting2 ≡ [] → bare2 ≡ true
-    → Written rows2 waiting2 bare2 pool (level c kids ∷ around) Nil left
-entered_as rows waiting bare pool around kids left h c none rows2 waiting2 bare2 r w b =
-    written_as ((rows ++ waiting) ++ enter_row c ∷ []) rows2 [] waiting2 true bare2 pool pool (level c kids ∷ around) Nil left left r w b refl refl
-    (with_enter rows waiting bare pool around kids left h (enter_row c) c none (enter_shown c left) (enter_taken c))
+    → Written rows waiting bare pool around kids left → (c : Container) → rows_size waiting ≡ 0 → row_value (enter_row c) left ≡ start_row c
+    → (rows2 waiting2 : List Row) (bare2 : Bool) (left2 : List BlockLine) → rows2 ≡ (rows ++ waiting) ++ enter_row c ∷ [] → waiting2 ≡ [] → bare2 ≡ true
+    → left2 ≡ drop (row_size (enter_row c)) left
+    → Written rows2 waiting2 bare2 pool (level c kids ∷ around) Nil left2
+entered_as rows waiting bare pool around kids left h c none is rows2 waiting2 bare2 left2 r w b l =
+    written_as ((rows ++ waiting) ++ enter_row c ∷ []) rows2 [] waiting2 true bare2 pool pool (level c kids ∷ around) Nil (drop (row_size (enter_row c)) left) left2 r w b refl l
+    (with_enter rows waiting bare pool around kids left h (enter_row c) c none is)
 
 none-inside : (n : ℕ) (waiting : List Row) → rows_size waiting ≡ 0 → rows_size (take n waiting) ≡ 0
 none-inside n waiting none =
@@ -184,6 +181,7 @@ none-inside n waiting none =
 pub inside_none : (c : Container) (waiting : List Row) → rows_size waiting ≡ 0 → rows_size (inside c waiting) ≡ 0
 inside_none Quote waiting none = none-inside (length waiting - 1) waiting none
 inside_none (Item item) waiting none = refl
+inside_none (Footnote label) waiting none = refl
 
 pub exited_as : (rows waiting : List Row) (bare : Bool) (pool : List BlockLine) (around : List Level) (l : Level) (kids : Blocks) (left : List BlockLine)
     → Written rows waiting bare pool (l ∷ around) kids left → rows_size waiting ≡ 0

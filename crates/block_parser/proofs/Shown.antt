@@ -9,7 +9,7 @@ use Rattle.block_rows.specs.declared.row.Row.TheVariants as row
 use Rattle.block_rows.specs.declared.row.Piece.{Piece}
 use Rattle.definition_text.specs.Columns.{bytes_of}
 use Rattle.definition_text.specs.BlockLines.{BlockLine, own_lines}
-use Rattle.definition_block.specs.Tree.{Paragraph, Heading, IndentedCode, FencedCode, Html}
+use Rattle.definition_block.specs.Tree.{Paragraph, Heading, IndentedCode, FencedCode, Html, Table}
 use Rattle.block_parser.specs.Shows.{lone}
 use Rattle.block_rows.specs.Rows.{whole_lines, definition_on, definition_value, BlockRow, Single, RowsValue, rows_value, value_with, show_row, row_value, row_size, rows_size, piece_line, piece_lines}
 
@@ -47,11 +47,16 @@ row_longer (row.SetextHeading rank n) out ls more le =
 row_longer (row.Html n) out ls more le =
     ap (λ front. value_with (out ++ Single (Html (own_lines front)) ∷ []) (drop n (ls ++ more))) (take-append-le n ls more le)
     ∙ ap (value_with (out ++ Single (Html (own_lines (take n ls))) ∷ [])) (drop-append-le n ls more le)
+row_longer (row.Table n) out ls more le =
+    ap (λ front. value_with (out ++ Single (Table (own_lines front)) ∷ []) (drop n (ls ++ more))) (take-append-le n ls more le)
+    ∙ ap (value_with (out ++ Single (Table (own_lines (take n ls))) ∷ [])) (drop-append-le n ls more le)
 row_longer (row.Definition n) out ls more le =
     ap (λ front. value_with (out ++ Single (definition_value (definition_on front)) ∷ []) (drop n (ls ++ more))) (take-append-le n ls more le)
     ∙ ap (value_with (out ++ Single (definition_value (definition_on (take n ls))) ∷ [])) (drop-append-le n ls more le)
 row_longer row.EnterQuote out ls more le = refl
 row_longer (row.EnterItem marker number) out ls more le = refl
+row_longer row.EnterFootnote out [] more le = absurd (omega arith)
+row_longer row.EnterFootnote out (l ∷ ls) more le = refl
 row_longer row.Exit out ls more le = refl
 row_longer (row.Ending e) out ls more le = refl
 row_longer (row.Blank e) out ls more le = refl
@@ -95,6 +100,7 @@ none_taken (row.Heading rank) left h = absurd (omega (arith, h))
 none_taken (row.WholeParagraph n) left h = absurd (omega (arith, h))
 none_taken (row.SetextHeading rank n) left h = ap (λ (k : ℕ). Single (Heading rank (own_lines (take k left)))) h ∙ sym (ap (λ (k : ℕ). Single (Heading rank (own_lines (take k [])))) h)
 none_taken (row.Html n) left h = ap (λ (k : ℕ). Single (Html (own_lines (take k left)))) h ∙ sym (ap (λ (k : ℕ). Single (Html (own_lines (take k [])))) h)
+none_taken (row.Table n) left h = ap (λ (k : ℕ). Single (Table (own_lines (take k left)))) h ∙ sym (ap (λ (k : ℕ). Single (Table (own_lines (take k [])))) h)
 none_taken (row.Definition n) left h =
     ap (λ (k : ℕ). Single (definition_value (definition_on (take k left)))) h
     ∙ sym (ap (λ (k : ℕ). Single (definition_value (definition_on (take k [])))) h)
@@ -104,6 +110,7 @@ none_taken (row.FencedCode n) left h = absurd (omega (arith, h))
 none_taken (row.UnclosedCode n) left h = absurd (omega (arith, h))
 none_taken row.EnterQuote left h = refl
 none_taken (row.EnterItem marker number) left h = refl
+none_taken row.EnterFootnote left h = absurd (omega (arith, h))
 none_taken row.Exit left h = refl
 none_taken (row.Ending e) left h = refl
 none_taken (row.Blank e) left h = refl

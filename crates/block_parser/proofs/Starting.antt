@@ -5,14 +5,17 @@ use Rattle.std.specs.Prelude.{min}
 use Rattle.std.specs.List.{prefix_len}
 use Rattle.markdown_options.specs.declared.configuration.Constructs.{Constructs}
 use Rattle.definition_text.specs.declared.beside.Beside.{Beside}
-use Rattle.definition_block.specs.declared.container.Container.{Container}
+use Rattle.definition_block.specs.Container.{Container}
 use Rattle.definition_text.specs.Columns.{Rest, bare, indent}
 use Rattle.definition_text.specs.Indents.{small_indent}
 use Rattle.definition_block.specs.Started.{Started}
 use Rattle.definition_block.specs.ThematicBreak.{is_break}
 use Rattle.definition_block.specs.BlockQuote.{after_byte, after_mark, quote_prefix}
 use Rattle.definition_block.specs.ListItem.{Marker, marker_of, is_digit, number_of, bullet, delimiter, ordered, marker, gap, is_item, item, item_after, item_start}
-use Rattle.definition_block.specs.Containers.{quote_or, starts}
+use Rattle.definition_text.specs.Content.{Part, may_escape, closed_by}
+use Rattle.definition_inline.specs.Label.{ends_label, label_end}
+use Rattle.definition_block.specs.GfmFootnoteDefinition.{is_footnote_label, label_before, with_colon, after_open, after_bracket, footnote_mark, footnote_of, footnote_start}
+use Rattle.definition_block.specs.Containers.{quote_or, footnote_or, starts}
 use Rattle.definition_block.specs.Tree.{Blocks, Nil, join, Opening, Inside, Tree, tree, nothing, after, has_text, leaf_line, beside_in, start, new, with_paragraph}
 use Rattle.definition_block.specs.Definitions.{cut_into, cut_most}
 use Rattle.block_parser.specs.Spine.{Level, level, spine_at, spine_after}
@@ -32,6 +35,22 @@ MarkerShorter n (Some m) = length m.rest < n
 abbrev Shorter : ℕ → Option Started → Type 0
 Shorter n None = Unit {0}
 Shorter n (Some s) = length s.rest < n
+
+abbrev RestWithin : ℕ → Option Rest → Type 0
+RestWithin n None = Unit {0}
+RestWithin n (Some rest) = length rest ≤ n
+
+abbrev PartWithin : ℕ → Option Part → Type 0
+PartWithin n None = Unit {0}
+PartWithin n (Some part) = length part.rest ≤ n
+
+abbrev PartShorter : ℕ → Option Part → Type 0
+PartShorter n None = Unit {0}
+PartShorter n (Some part) = length part.rest < n
+
+part-within : (n m : ℕ) (o : Option Part) → m < n → PartWithin m o → PartShorter n o
+part-within n m None lt h = tt
+part-within n m (Some part) lt h = omega (arith, lt, h)
 
 bare-shorter : (rest : Rest) → length (bare rest) ≤ length rest
 bare-shorter rest = omega (arith, length-drop (indent rest) rest)
@@ -80,9 +99,55 @@ either-shorter : (n : ℕ) (other : Option Started) (o : Option Rest) → Shorte
 either-shorter n other None h k = h
 either-shorter n other (Some rest) h k = k
 
+end-shorter : (n : ℕ) (escaped : Bool) (rest : Rest) → length rest ≤ n → RestWithin n (label_end escaped rest)
+end-shorter n escaped [] le = tt
+end-shorter n escaped (c ∷ cs) le =
+    choose_if (RestWithin n) (ends_label escaped c) (if c == 93 then Some (c ∷ cs) else None) (label_end (may_escape escaped c) cs)
+    (λ h. choose_if (RestWithin n) (c == 93) (Some (c ∷ cs)) None (λ k. le) (λ k. tt))
+    (λ h. end-shorter n (may_escape escaped c) cs (omega (arith, le)))
+
+closed-shorter : (n : ℕ) (rest : Rest) (o : Option Rest) → RestWithin n o → PartWithin n (closed_by rest o)
+closed-shorter n rest None h = tt
+closed-shorter n rest (Some after) h = omega (arith, h, length-drop 1 after)
+
+label-shorter : (n : ℕ) (label : List ℕ) (o : Option Rest) → RestShorter n o → PartWithin n (label_before label o)
+label-shorter n label None h = tt
+label-shorter n label (Some rest) h = omega (arith, h)
+
+colon-shorter : (n : ℕ) (o : Option Part) → PartWithin n o → PartWithin n (with_colon o)
+colon-shorter n None h = tt
+colon-shorter n (Some label) h =
+    choose_if (PartWithin n) (is_footnote_label label.text) (label_before label.text (after_byte 58 label.rest)) None
+    (λ k. label-shorter n label.text (after_byte 58 label.rest) (byte-shorter n 58 label.rest h)) (λ k. tt)
+
+open-shorter : (n : ℕ) (o : Option Rest) → RestShorter n o → PartShorter n (after_open o)
+open-shorter n None h = tt
+open-shorter n (Some rest) h = part-within n (length rest) (after_open (Some rest)) h
+    (colon-shorter (length rest) (closed_by rest (label_end false rest)) (closed-shorter (length rest) rest (label_end false rest) (end-shorter (length rest) false rest (omega arith))))
+
+bracket-shorter : (n : ℕ) (o : Option Rest) → RestShorter n o → PartShorter n (after_bracket o)
+bracket-shorter n None h = tt
+bracket-shorter n (Some rest) h = open-shorter n (after_byte 94 rest) (byte-shorter n 94 rest (omega (arith, h)))
+
+footnote_of-shorter : (n : ℕ) (o : Option Part) → PartShorter n o → Shorter n (footnote_of o)
+footnote_of-shorter n None h = tt
+footnote_of-shorter n (Some mark) h = omega (arith, h, bare-shorter mark.rest)
+
+footnote-shorter : (on : Constructs) (rest : Rest) → Shorter (length rest) (footnote_start on rest)
+footnote-shorter on rest =
+    choose_if (Shorter (length rest)) (on.gfm_footnote_definition && small_indent on rest) (footnote_of (footnote_mark (bare rest))) None
+    (λ h. footnote_of-shorter (length rest) (footnote_mark (bare rest)) (bracket-shorter (length rest) (after_byte 91 (bare rest)) (byte-shorter (length rest) 91 (bare rest) (bare-shorter rest))))
+    (λ h. tt)
+
+footnote_or-shorter : (n : ℕ) (other o : Option Started) → Shorter n other → Shorter n o → Shorter n (footnote_or other o)
+footnote_or-shorter n other None h k = h
+footnote_or-shorter n other (Some footnote) h k = k
+
 starts-shorter : (on : Constructs) (interrupts : Bool) (rest : Rest) → Shorter (length rest) (starts on interrupts rest)
 starts-shorter on interrupts rest =
-    either-shorter (length rest) (item_start on interrupts rest) (quote_prefix on rest) (item_start-shorter on interrupts rest) (quote-shorter on rest)
+    either-shorter (length rest) (footnote_or (item_start on interrupts rest) (footnote_start on rest)) (quote_prefix on rest)
+    (footnote_or-shorter (length rest) (item_start on interrupts rest) (footnote_start on rest) (item_start-shorter on interrupts rest) (footnote-shorter on rest))
+    (quote-shorter on rest)
 
 pub start-shorter : (on : Constructs) (interrupts : Bool) (rest : Rest) (s : Started) → starts on interrupts rest ≡ Some s → length s.rest < length rest
 start-shorter on interrupts rest s is = subst (Shorter (length rest)) is (starts-shorter on interrupts rest)

@@ -1,6 +1,6 @@
 -- The steps of the definition, case by case.
-use Rattle.std.proofs.Common.{◌≡◌, ℕ, List, [], ◌∷◌, ◌++◌, Option, None, Some, Bool, if◌then◌else◌, true, false, not, ◌&&◌, ◌==◌, refl, sym, ap, ◌∙◌, subst, length, arith}
-use Rattle.std.proofs.lemmas.Bool.{cond-true, cond-false}
+use Rattle.std.proofs.Common.{◌≡◌, ℕ, List, [], ◌∷◌, ◌++◌, Option, None, Some, Bool, if◌then◌else◌, true, false, not, ◌&&◌, ◌||◌, ◌==◌, refl, sym, ap, ◌∙◌, subst, length, arith}
+use Rattle.std.proofs.lemmas.Bool.{cond-true, cond-false, or_left, or_from}
 use Rattle.markdown_options.specs.declared.line_ending.LineEnding.{LineEnding}
 use Rattle.markdown_options.specs.declared.configuration.Constructs.{Constructs}
 use Rattle.definition_text.specs.declared.beside.Beside.{Beside}
@@ -18,9 +18,10 @@ use Rattle.definition_block.specs.ThematicBreak.{is_break}
 use Rattle.definition_block.specs.Definitions.{cut, cut_into, cut_most}
 use Rattle.block_rows.specs.ParagraphLines.{AreLines}
 use Rattle.definition_text.specs.BlockLines.{BlockLine, spaced_line, own_lines}
-use Rattle.definition_block.specs.Tree.{Heading, Break, FencedCode, Blank, Blocks, Nil, join, one, ended, OpenLeaf, Text, Indented, Fenced, OpenHtml, Opening, Leaf, Inside, Tree, tree, nothing, close, after, leaf_text, open_text, text_here, is_some_line, has_text, with_line, rest_line, leaf_line, begun, or_fence, or_html, or_heading, html_with, break_or_text, text_line_of, taken, turns, underlined, heading_of, new}
+use Rattle.definition_block.specs.Tree.{Heading, Break, FencedCode, Blank, Blocks, Nil, join, one, ended, OpenLeaf, Text, Indented, Fenced, OpenHtml, OpenTable, Opening, Leaf, Inside, Tree, tree, nothing, close, after, leaf_text, open_text, text_here, is_some_line, has_text, is_table_leaf, has_table, makes_table, with_line, rest_line, leaf_line, begun, or_fence, or_html, or_heading, html_with, break_or_text, text_line_of, taken, turns, underlined, heading_of, new}
 use Rattle.block_parser.specs.Spine.{Level, level, Spine, spine, spine_at, spine_after}
 use Rattle.block_parser.specs.HeadingSetext.{IsText, heading_blocks, heading_tree}
+use Rattle.block_parser.specs.GfmTable.{table_left}
 use Rattle.block_parser.specs.View.{leaf_grown}
 use Rattle.block_parser.proofs.Trees.{join-nil}
 use Rattle.block_parser.proofs.Closing.{after_added, opening_depth}
@@ -123,8 +124,16 @@ module _ (on : Constructs) (away : Opening) (r : Rest) (e : Beside) where
               pub break_leaf : is_break on r ≡ true → leaf_line on away r e ≡ after on away (tree (ended Break e.ending) nothing)
               break_leaf b = last_leaves ∙ ap (λ o. taken o (break_or_text on away r e)) unturned ∙ cond-true (is_break on r) _ _ b
 
-              pub text_leaf : is_break on r ≡ false → leaf_line on away r e ≡ text_line_of on away r e
-              text_leaf b = last_leaves ∙ ap (λ o. taken o (break_or_text on away r e)) unturned ∙ cond-false (is_break on r) _ _ b
+              module _ (unbroken : is_break on r ≡ false) where
+                -- and no break
+                table_or_text : leaf_line on away r e ≡ taken (makes_table on away r e) (text_line_of on away r e)
+                table_or_text = last_leaves ∙ ap (λ o. taken o (break_or_text on away r e)) unturned ∙ cond-false (is_break on r) _ _ unbroken
+
+                pub table_leaf : (t : Tree) → makes_table on away r e ≡ Some t → leaf_line on away r e ≡ t
+                table_leaf t made = table_or_text ∙ ap (λ o. taken o (text_line_of on away r e)) made
+
+                pub text_leaf : makes_table on away r e ≡ None → leaf_line on away r e ≡ text_line_of on away r e
+                text_leaf unmade = table_or_text ∙ ap (λ o. taken o (text_line_of on away r e)) unmade
 
 -- ---- an underline
 
@@ -176,6 +185,7 @@ text_leaf_here P (Leaf (Text (l ∷ ls))) none some k = k l ls
 text_leaf_here P (Leaf (Indented ls pending)) none some k = let wrong : false ≡ true = some in cc
 text_leaf_here P (Leaf (Fenced f opening ls)) none some k = let wrong : false ≡ true = some in cc
 text_leaf_here P (Leaf (OpenHtml kind ls)) none some k = let wrong : false ≡ true = some in cc
+text_leaf_here P (Leaf (OpenTable ls)) none some k = let wrong : false ≡ true = some in cc
 text_leaf_here P (Inside c kids inner) none some k = absurd (omega (arith, none))
 
 -- ---- a line of text
@@ -194,22 +204,54 @@ module _ (P Q : Spine → Type 0) (l : BlockLine) (more : (around : List Level) 
   longer_at around kids (Leaf (Indented ls pending)) some h = let wrong : false ≡ true = some in cc
   longer_at around kids (Leaf (Fenced f opening ls)) some h = let wrong : false ≡ true = some in cc
   longer_at around kids (Leaf (OpenHtml kind ls)) some h = let wrong : false ≡ true = some in cc
+  longer_at around kids (Leaf (OpenTable ls)) some h = let wrong : false ≡ true = some in cc
   longer_at around kids (Inside c inner_kids inner) some h = longer_at (level c kids ∷ around) inner_kids inner some h
 
 pub goes_longer : (on : Constructs) (P Q : Spine → Type 0) (r : Rest) (e : Beside)
     → ((around : List Level) (kids : Blocks) (ls : List BlockLine) → P (spine around kids (Text ls)) → Q (spine around kids (Text (ls ++ rest_line r e ∷ []))))
     → (around : List Level) (kids : Blocks) (away : Opening) → has_text away ≡ true → P (spine_at around kids away) → Q (spine_after around kids (text_line_of on away r e))
 goes_longer on P Q r e more around kids away some h =
-    subst (λ (t : Tree). Q (spine_after around kids t)) (sym (cond-true (has_text away) _ _ some))
+    subst (λ (t : Tree). Q (spine_after around kids t)) (sym (cond-true (has_text away || has_table away) _ _ (or_left (has_text away) (has_table away) some)))
     (subst (λ (bs : Blocks). Q (spine_at around bs (with_line (rest_line r e) away))) (sym (join-nil kids)) (longer_at P Q (rest_line r e) more around kids away some h))
 
 -- or it is the first of one
-pub starts_text : (on : Constructs) (Q : Spine → Type 0) (r : Rest) (e : Beside) (around : List Level) (kids : Blocks) (away : Opening) → has_text away ≡ false
+pub starts_text : (on : Constructs) (Q : Spine → Type 0) (r : Rest) (e : Beside) (around : List Level) (kids : Blocks) (away : Opening) → has_text away ≡ false → has_table away ≡ false
     → Q (spine around (join kids (close on away)) (Text (rest_line r e ∷ []))) → Q (spine_after around kids (text_line_of on away r e))
-starts_text on Q r e around kids away none h =
+starts_text on Q r e around kids away none no_table h =
     let t = tree Nil (Leaf (Text (rest_line r e ∷ []))) in
-    subst (λ (more : Tree). Q (spine_after around kids more)) (sym (cond-false (has_text away) _ _ none))
+    subst (λ (more : Tree). Q (spine_after around kids more)) (sym (cond-false (has_text away || has_table away) _ _ (or_from (has_text away) (has_table away) none no_table)))
     (after_added on Q around kids away t (subst (λ (bs : Blocks). Q (spine around bs (Text (rest_line r e ∷ [])))) (sym (join-nil (join kids (close on away)))) h))
+
+-- whether a table is open where all containers are
+pub table_at : (around : List Level) (kids : Blocks) (away : Opening) → opening_depth away ≡ 0 → is_table_leaf (spine_at around kids away).leaf ≡ has_table away
+table_at around kids (Leaf leaf) none = refl
+table_at around kids (Inside c inner_kids inner) none = absurd (omega (arith, none))
+
+pub no_table_at : (away : Opening) → (opening_depth away ≡ 0 → ⊥) → has_table away ≡ false
+no_table_at (Leaf leaf) deeper = absurd (deeper refl)
+no_table_at (Inside c kids inner) deeper = refl
+
+-- or a row of a table
+pub goes_row : (on : Constructs) (P Q : Spine → Type 0) (r : Rest) (e : Beside)
+    → ((around : List Level) (kids : Blocks) (ls : List BlockLine) → P (spine around kids (OpenTable ls)) → Q (spine_after around kids (tree Nil (Leaf (OpenTable (ls ++ rest_line r e ∷ []))))))
+    → (around : List Level) (kids : Blocks) (away : Opening) → has_table away ≡ true → P (spine_at around kids away) → Q (spine_after around kids (text_line_of on away r e))
+goes_row on P Q r e more around kids (Leaf (Text ls)) some h = let wrong : false ≡ true = some in cc
+goes_row on P Q r e more around kids (Leaf (Indented ls pending)) some h = let wrong : false ≡ true = some in cc
+goes_row on P Q r e more around kids (Leaf (Fenced f opening ls)) some h = let wrong : false ≡ true = some in cc
+goes_row on P Q r e more around kids (Leaf (OpenHtml kind ls)) some h = let wrong : false ≡ true = some in cc
+goes_row on P Q r e more around kids (Leaf (OpenTable ls)) some h = more around kids ls h
+goes_row on P Q r e more around kids (Inside c inner_kids inner) some h = let wrong : false ≡ true = some in cc
+
+-- a paragraph becomes a table
+pub tabled_here : (on : Constructs) (P Q : Spine → Type 0) (row : BlockLine)
+    → ((around : List Level) (kids : Blocks) (ls : List BlockLine) → AreLines ls → P (spine around kids (Text ls)) → Q (spine_after around kids (table_left (cut on ls) row)))
+    → (around : List Level) (kids : Blocks) (away : Opening) → IsText away → AreLines (open_text away) → P (spine_at around kids away) → Q (spine_after around kids (table_left (cut on (text_here away)) row))
+tabled_here on P Q row reads around kids (Leaf (Text ls)) is clean h = reads around kids ls clean h
+tabled_here on P Q row reads around kids (Leaf (Indented ls pending)) is clean h = absurd is
+tabled_here on P Q row reads around kids (Leaf (Fenced f opening ls)) is clean h = absurd is
+tabled_here on P Q row reads around kids (Leaf (OpenHtml kind ls)) is clean h = absurd is
+tabled_here on P Q row reads around kids (Leaf (OpenTable ls)) is clean h = absurd is
+tabled_here on P Q row reads around kids (Inside c inner_kids inner) is clean h = absurd is
 
 -- a paragraph becomes a heading
 pub turned_here : (on : Constructs) (P Q : Spine → Type 0) (rank : ℕ) (e : Option LineEnding)
@@ -219,4 +261,5 @@ turned_here on P Q rank e reads around kids (Leaf (Text ls)) is clean h = reads 
 turned_here on P Q rank e reads around kids (Leaf (Indented ls pending)) is clean h = absurd is
 turned_here on P Q rank e reads around kids (Leaf (Fenced f opening ls)) is clean h = absurd is
 turned_here on P Q rank e reads around kids (Leaf (OpenHtml kind ls)) is clean h = absurd is
+turned_here on P Q rank e reads around kids (Leaf (OpenTable ls)) is clean h = absurd is
 turned_here on P Q rank e reads around kids (Inside c inner_kids inner) is clean h = absurd is

@@ -2,7 +2,7 @@
 use Rattle.std.proofs.Common.{◌≡◌, ◌≤◌, ◌&&◌, Bool, true, false, List, [], ◌∷◌, ◌++◌, refl, sym, ap, ◌∙◌, append_assoc, length, take, drop}
 use Rattle.std.specs.Prelude.{map}
 use Rattle.std.proofs.lemmas.List.{append-nil, map-append}
-use Rattle.definition_block.specs.declared.container.Container.{Container}
+use Rattle.definition_block.specs.Container.{Container}
 use Rattle.block_rows.specs.declared.row.Row.{Row}
 use Rattle.block_rows.specs.declared.row.Row.TheVariants as row
 use Rattle.definition_text.specs.BlockLines.{BlockLine}
@@ -61,14 +61,13 @@ module _ (rows waiting : List Row) (bare : Bool) (pool : List BlockLine) (around
         }
 
     -- the start of a container
-    pub with_enter : (r : Row) (c : Container) → rows_size waiting ≡ 0 → row_value r left ≡ start_row c → row_size r ≡ 0
-        → Written ((rows ++ waiting) ++ r ∷ []) [] true pool (level c kids ∷ around) Nil left
-    with_enter r c none is zero = record {
+    pub with_enter : (r : Row) (c : Container) → rows_size waiting ≡ 0 → row_value r left ≡ start_row c
+        → Written ((rows ++ waiting) ++ r ∷ []) [] true pool (level c kids ∷ around) Nil (drop (row_size r) left)
+    with_enter r c none is = record {
       rows_stand =
           one_row_shown (rows ++ waiting) pool r _ (settled none)
           ∙ ap (λ x. value_with ((rows_around around ++ rows_of kids) ++ x ∷ []) (drop (row_size r) left)) is
-          ∙ ap (λ n. value_with ((rows_around around ++ rows_of kids) ++ start_row c ∷ []) (drop n left)) zero
-          ∙ ap (λ out. value_with out left) (sym (append-nil ((rows_around around ++ rows_of kids) ++ start_row c ∷ [])));
+          ∙ ap (λ out. value_with out (drop (row_size r) left)) (sym (append-nil ((rows_around around ++ rows_of kids) ++ start_row c ∷ [])));
       waiting_stand = refl;
       is_bare = refl;
     }

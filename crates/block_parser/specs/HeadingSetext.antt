@@ -4,7 +4,7 @@ use Rattle.markdown_options.specs.declared.configuration.Constructs.{Constructs}
 use Rattle.markdown_options.specs.declared.line_ending.LineEnding.{LineEnding}
 use Rattle.definition_block.specs.Definitions.{cut}
 use Rattle.definition_text.specs.BlockLines.{BlockLine, own_lines}
-use Rattle.definition_block.specs.Tree.{Blocks, Heading, join, ended, Text, Indented, Fenced, OpenHtml, Opening, Leaf, Inside, Tree, tree, nothing, text_here}
+use Rattle.definition_block.specs.Tree.{Blocks, Heading, join, ended, Text, Indented, Fenced, OpenHtml, OpenTable, Opening, Leaf, Inside, Tree, tree, nothing, text_here}
 
 -- the definitions at the front of a paragraph, and a heading of what is left of it
 abbrev pub heading_blocks : Constructs → ℕ → List BlockLine → Option LineEnding → Blocks
@@ -21,4 +21,5 @@ IsText (Leaf (Text ls)) = Unit {0}
 IsText (Leaf (Indented ls pending)) = ⊥
 IsText (Leaf (Fenced fence opening ls)) = ⊥
 IsText (Leaf (OpenHtml kind ls)) = ⊥
+IsText (Leaf (OpenTable ls)) = ⊥
 IsText (Inside c kids inner) = ⊥

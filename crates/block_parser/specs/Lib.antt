@@ -4,5 +4,6 @@ pub mod Shows
 pub mod Leaves
 pub mod View
 pub mod HeadingSetext
+pub mod GfmTable
 pub mod Fences
 pub mod Frontmatter

@@ -1,11 +1,11 @@
 -- What rows show of a tree that is being read.
 use Rattle.std.specs.Prelude.{◌≡◌, ℕ, Bool, true, false, List, [], ◌∷◌, ◌++◌, Option, None, length, map}
 use Rattle.markdown_options.specs.declared.line_ending.LineEnding.{LineEnding}
-use Rattle.definition_block.specs.declared.container.Container.{Container}
+use Rattle.definition_block.specs.Container.{Container}
 use Rattle.block_rows.specs.declared.row.Row.{Row}
 use Rattle.definition_block.specs.CodeFenced.{Fence}
 use Rattle.definition_text.specs.BlockLines.{BlockLine, spaced_line, last_ending, last_ending_or}
-use Rattle.definition_block.specs.Tree.{Blocks, Nil, Cons, front, trailing, OpenLeaf, Text, Indented, Fenced, OpenHtml}
+use Rattle.definition_block.specs.Tree.{Blocks, Nil, Cons, front, trailing, OpenLeaf, Text, Indented, Fenced, OpenHtml, OpenTable}
 use Rattle.block_rows.specs.Rows.{BlockRow, rows_of, row_value, rows_value, value_with}
 use Rattle.block_parser.specs.Spine.{Level, Spine, rows_around, containers_of}
 
@@ -15,12 +15,14 @@ pub data LeafState : Type 0 where
   InIndented : ℕ → Option LineEnding → LeafState
   InFenced : Fence → Option LineEnding → LeafState
   InHtml : ℕ → Option LineEnding → LeafState
+  InTable : Option LineEnding → LeafState
 
 abbrev pub state_of : OpenLeaf → LeafState
 state_of (Text ls) = InText
 state_of (Indented ls pending) = InIndented (length ls) (last_ending ls)
 state_of (Fenced fence opening ls) = InFenced fence (last_ending_or opening ls)
 state_of (OpenHtml kind ls) = InHtml kind (last_ending ls)
+state_of (OpenTable ls) = InTable (last_ending ls)
 
 -- the lines of an open leaf; fenced code has its info as one before them
 abbrev pub leaf_lines : OpenLeaf → List BlockLine
@@ -28,6 +30,7 @@ leaf_lines (Text ls) = ls
 leaf_lines (Indented ls pending) = ls ++ pending
 leaf_lines (Fenced fence opening ls) = spaced_line fence.info None ∷ ls
 leaf_lines (OpenHtml kind ls) = ls
+leaf_lines (OpenTable ls) = ls
 
 -- a row that takes no lines
 abbrev pub lone : Row → BlockRow

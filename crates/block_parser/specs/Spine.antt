@@ -1,6 +1,6 @@
 -- A tree that is being read, seen from its innermost container.
 use Rattle.std.specs.Prelude.{List, [], ◌∷◌, ◌++◌}
-use Rattle.definition_block.specs.declared.container.Container.{Container}
+use Rattle.definition_block.specs.Container.{Container}
 use Rattle.definition_block.specs.Tree.{Blocks, join, holds, OpenLeaf, Opening, Leaf, Inside, Tree}
 use Rattle.block_rows.specs.Rows.{BlockRow, start_row, rows_of}
 

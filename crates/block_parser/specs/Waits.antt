@@ -1,7 +1,6 @@
 -- The endings that wait at the end of the rows.
 use Rattle.std.specs.Prelude.{Bool, true, false, ◌-◌, List, [], ◌∷◌, length, take, drop}
-use Rattle.definition_block.specs.declared.container.Container.{Container}
-use Rattle.definition_block.specs.declared.container.Container.TheVariants.{Quote, Item}
+use Rattle.definition_block.specs.Container.{Container, Quote, Item, Footnote}
 use Rattle.block_rows.specs.declared.row.Row.{Row}
 use Rattle.block_rows.specs.declared.row.Row.TheVariants as row
 
@@ -9,10 +8,12 @@ use Rattle.block_rows.specs.declared.row.Row.TheVariants as row
 abbrev pub inside : Container → List Row → List Row
 inside Quote waiting = take (length waiting - 1) waiting
 inside (Item item) waiting = []
+inside (Footnote label) waiting = []
 
 abbrev pub outside : Container → List Row → List Row
 outside Quote waiting = drop (length waiting - 1) waiting
 outside (Item item) waiting = waiting
+outside (Footnote label) waiting = waiting
 
 -- whether these are the ending of one blank line
 abbrev pub is_one_blank_row : List Row → Bool
@@ -22,3 +23,4 @@ is_one_blank_row rows = false
 abbrev pub enter_row : Container → Row
 enter_row Quote = row.EnterQuote
 enter_row (Item item) = row.EnterItem item.marker item.number
+enter_row (Footnote label) = row.EnterFootnote

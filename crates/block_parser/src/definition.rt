@@ -2,12 +2,13 @@
 //!
 //!     paragraph ::= definition* line*
 //!
-//! Definitions are cut off a paragraph that ends, or that an underline follows.
+//! Definitions are cut off a paragraph that ends, or that an underline or a row of delimiters
+//! follows.
 ghost use Rattle.std.specs.Prelude.{◌≡◌};
 ghost use Rattle.definition_text.specs.BlockLines.{last_ending};
 ghost use Rattle.block_rows.specs.Rows.{piece_lines};
 
-use crate::parser::{NOTHING, Parser};
+use crate::parser::Parser;
 use block_definitions::{first_definition, has_more, may_begin};
 use block_rows::{Piece, Row, join_lines};
 use markdown_options::{Constructs, LineEnding};
@@ -39,7 +40,7 @@ impl<'a, A: Allocator> Parser<'a, A> {
             &self.content.as_bytes()[at..],
             &self.pieces[self.lines_in_rows..],
         ) {
-            self.define(end.lines)?;
+            self.take_lines(Row::Definition(end.lines), end.lines)?;
             at += end.bytes;
         }
         Ok(())
@@ -52,23 +53,6 @@ impl<'a, A: Allocator> Parser<'a, A> {
             HasRead self.now (spine around kids (TextLeaf ls)) → cut on.now ls ≡ cut_into Nil ls }
     {
         on.definition && may_begin(&self.pieces[self.lines_in_rows..])
-    }
-
-    /// The first lines of the open paragraph, so many, are a definition.
-    fn define(&mut self, count: usize) -> Result<(), AllocError>
-        requires { self.old.lines_in_rows + count ≤ vec_len self.old.pieces }
-        ensures read { OnOk result ((ls : List BlockLine) (b : Block) → block_rows b ≡ row_value (row_variant.Definition count) ls ∷ [] → is_ending b ≡ false →
-            Becomes self.old self.new (TextLeaf ls) (tree (ended b (last_ending (take count ls))) (OpenedLeaf (TextLeaf (drop count ls))))) }
-        ensures containers { self.new.open ≡ self.old.open }
-        ensures content { self.new.content ≡ self.old.content }
-        ensures pieces { self.new.pieces ≡ self.old.pieces }
-        ensures count { OnOk result (self.new.lines_in_rows ≡ self.old.lines_in_rows + count) }
-    {
-        let ending = last_ending(&self.pieces[self.lines_in_rows..self.lines_in_rows + count]);
-        self.rows.block(Row::Definition(count))?;
-        self.lines_in_rows += count;
-        self.leaf = NOTHING;
-        self.rows.ending(ending)
     }
 
     /// Whether something is left of the open paragraph after the definitions at its front.

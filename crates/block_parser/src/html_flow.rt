@@ -80,9 +80,8 @@ impl<'a, A: Allocator> Parser<'a, A> {
 pub(crate) fn html_start(on: &Constructs, paragraph: bool, rest: Cursor<'_>) -> Option<HtmlKind>
     ensures { kind_number result ≡ html_starts on.now paragraph (rest_of rest.entry) }
 {
-    let (columns, bare) = rest.split_bare();
-    if on.html_flow && is_small(on, columns) {
-        html_kind(bare.text().as_bytes(), paragraph)
+    if on.html_flow && is_small(on, rest.indent()) {
+        html_kind(rest.bare_text().as_bytes(), paragraph)
     } else {
         None
     }
@@ -92,8 +91,7 @@ pub(crate) fn html_start(on: &Constructs, paragraph: bool, rest: Cursor<'_>) -> 
 fn html_ends_here(kind: HtmlKind, rest: Cursor<'_>) -> bool
     ensures { result ≡ html_ends_on (number_of kind) (rest_of rest.entry) }
 {
-    let (_, bare) = rest.split_bare();
-    html_ends(kind, bare.text().as_bytes())
+    html_ends(kind, rest.bare_text().as_bytes())
 }
 
 /// Whether a block of this kind ends before this line, a blank one.

@@ -23,4 +23,8 @@ pub enum OpenLeaf<'a> {
         kind: HtmlKind,
         ending: Option<LineEnding>,
     },
+    /// A table.
+    Table {
+        ending: Option<LineEnding>,
+    },
 }

@@ -5,6 +5,8 @@ mod code_fenced;
 mod code_indented;
 mod definition;
 mod frontmatter;
+mod gfm_footnote_definition;
+mod gfm_table;
 mod heading_atx;
 mod heading_setext;
 mod html_flow;

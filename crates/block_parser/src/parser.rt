@@ -8,6 +8,7 @@ ghost use Rattle.block_parser.specs.Leaves.{lines_needed};
 
 use crate::code_fenced::opening_fence;
 use crate::code_indented::begins_code;
+use crate::definition::last_ending;
 use crate::frontmatter::without_frontmatter;
 use crate::html_flow::html_start;
 use crate::leaf::OpenLeaf;
@@ -17,7 +18,7 @@ use block_starts::Cursor;
 use block_starts::container::{continues, kind_after, starts};
 use block_starts::heading_atx::heading_atx;
 use block_starts::thematic_break::is_break;
-use definition_block::Container;
+use definition_block::{AlignKind, Container};
 use definition_text::{Beside, Kind};
 use markdown_options::{Constructs, LineEnding};
 use std::alloc::{AllocError, Allocator};
@@ -37,10 +38,12 @@ pub(crate) struct Parser<'a, A: Allocator> {
     pub(crate) pieces: Vec<Piece<'a>, A>,
     /// The content of a paragraph that definitions are read off.
     pub(crate) content: String<A>,
+    /// How the columns are aligned by the row of delimiters that was read last.
+    pub(crate) aligns: Vec<AlignKind, A>,
     /// How many of the lines the rows take. The others are those of the open leaf.
     pub(crate) lines_in_rows: usize,
     /// The containers that are open, the outermost first.
-    pub(crate) open: Vec<Container, A>,
+    pub(crate) open: Vec<Container<'a>, A>,
     pub(crate) leaf: OpenLeaf<'a>,
     /// The text from the line on that is read.
     pub(crate) rest: &'a str,
@@ -67,9 +70,12 @@ impl<'a, A: Allocator> Parser<'a, A> {
     ghost use Rattle.block_rows.specs.Rows.{block_rows, row_value, row_size};
     ghost use Rattle.block_parser.specs.Spine.{Level, Spine, level, spine, spine_at, spine_of, without_innermost};
     ghost use Rattle.block_parser.specs.Shows.{leaf_lines};
-    ghost use Rattle.block_parser.specs.View.{Closes, HasRead, Adds, Grows, Descent, Entered};
-    ghost use Rattle.std.specs.Prelude.{◌≤◌, ◌<◌, ◌+◌, ◌-◌, ◌∷◌, [], length, vec_len};
-    ghost use Rattle.block_starts.specs.View.{rest_of};
+    ghost use Rattle.block_parser.specs.View.{Becomes, Closes, HasRead, Adds, Grows, Descent, Entered, beside_at};
+    ghost use Rattle.definition_block.specs.Container.{Container as Holder};
+    ghost use Rattle.definition_text.specs.BlockLines.{BlockLine, last_ending};
+    ghost use Rattle.block_parser.specs.Waits.{enter_row};
+    ghost use Rattle.std.specs.Prelude.{◌≤◌, ◌<◌, ◌+◌, ◌-◌, ◌∷◌, [], length, vec_len, take, drop};
+    ghost use Rattle.block_starts.specs.View.{rest_of, container_view, container_views};
 
     /// Reads a line after a character of a kind: the containers that go on, then the leaf that takes
     /// the rest, or what is new.
@@ -96,6 +102,7 @@ impl<'a, A: Allocator> Parser<'a, A> {
             OpenLeaf::Indented { .. } => self.indented_line(on, rest, beside),
             OpenLeaf::Fenced { fence, .. } => self.fenced_line(on, fence, rest, beside),
             OpenLeaf::Html { kind, .. } => self.html_line(on, kind, rest, beside),
+            OpenLeaf::Table { .. } => self.start_line(on, depth, rest, beside),
         }
     }
 
@@ -112,24 +119,38 @@ impl<'a, A: Allocator> Parser<'a, A> {
             Descent on.now beside (rest_of line.entry) t (vec_len self.now.open) result.0 (rest_of result.1) result.2 }
     {
         let mut rest = line;
-        let mut here = beside;
+        let mut outer = line;
         for depth in 0..self.open.len() {
-            let container = self.open[depth];
-            match continues(on, container, self.began_blank(depth), rest) {
+            match continues(on, self.open[depth], self.began_blank(depth), rest) {
                 Some(after) => {
-                    here.before = kind_after(container, rest);
+                    outer = rest;
                     rest = after;
                 }
-                None => return (depth, rest, here),
+                None => return (depth, rest, self.beside_at(depth, outer, beside)),
             }
         }
-        (self.open.len(), rest, here)
+        let depth = self.open.len();
+        (depth, rest, self.beside_at(depth, outer, beside))
+    }
+
+    /// What stands beside a rest that so many containers leave, the last of them of this one.
+    fn beside_at(&self, depth: usize, outer: Cursor<'a>, beside: Beside) -> Beside
+        requires { depth ≤ vec_len self.now.open }
+        ensures { result ≡ beside_at (container_views self.now.open.items) depth (rest_of outer.entry) beside }
+    {
+        if depth == 0 {
+            return beside;
+        }
+        Beside {
+            before: kind_after(self.open[depth - 1], outer),
+            ending: beside.ending,
+        }
     }
 
     /// Whether a container, at a depth, began with a blank line, and nothing followed.
     fn began_blank(&self, depth: usize) -> bool
         requires { depth < vec_len self.now.open }
-        ensures { (around : List Level) (kids inner_kids : Blocks) (c : Container) (inner : Opening) → depth ≡ length around →
+        ensures { (around : List Level) (kids inner_kids : Blocks) (c : Holder) (inner : Opening) → depth ≡ length around →
             HasRead self.now (spine_at around kids (Inside c inner_kids inner)) → result ≡ began_blank inner_kids inner }
     {
         if depth + 1 != self.open.len() {
@@ -147,6 +168,7 @@ impl<'a, A: Allocator> Parser<'a, A> {
             OpenLeaf::Indented { .. } => false,
             OpenLeaf::Fenced { .. } => false,
             OpenLeaf::Html { .. } => false,
+            OpenLeaf::Table { .. } => false,
         }
     }
 
@@ -159,6 +181,7 @@ impl<'a, A: Allocator> Parser<'a, A> {
             OpenLeaf::Indented { .. } => false,
             OpenLeaf::Fenced { .. } => false,
             OpenLeaf::Html { .. } => false,
+            OpenLeaf::Table { .. } => false,
         }
     }
 
@@ -255,8 +278,14 @@ impl<'a, A: Allocator> Parser<'a, A> {
             self.close_to(on, depth)?;
             return self.thematic_break(beside.ending);
         }
+        if self.makes_table(on, depth, rest)? {
+            return self.start_table(on, rest, beside);
+        }
         if paragraph {
             return self.text_line(rest, beside);
+        }
+        if self.is_row(depth) {
+            return self.table_row(rest, beside);
         }
         self.close_to(on, depth)?;
         self.text_line(rest, beside)
@@ -270,9 +299,21 @@ impl<'a, A: Allocator> Parser<'a, A> {
     }
 
     /// A container starts, where no leaf is open.
-    fn enter(&mut self, container: Container) -> Result<(), AllocError>
+    fn enter(&mut self, container: Container<'a>) -> Result<(), AllocError>
         ensures { OnOk result ((around : List Level) (kids : Blocks) → HasRead self.old (spine around kids (TextLeaf [])) →
-            HasRead self.new (spine (level container kids ∷ around) Nil (TextLeaf []))) }
+            HasRead self.new (spine (level (container_view container.entry) kids ∷ around) Nil (TextLeaf []))) }
+    {
+        match container {
+            Container::Quote | Container::Item(_) => self.enter_alone(container),
+            Container::Footnote(label) => self.enter_footnote(label),
+        }
+    }
+
+    /// A container without a line of its own starts, where no leaf is open.
+    fn enter_alone(&mut self, container: Container<'a>) -> Result<(), AllocError>
+        requires { row_size (enter_row (container_view container)) ≡ 0 }
+        ensures { OnOk result ((around : List Level) (kids : Blocks) → HasRead self.old (spine around kids (TextLeaf [])) →
+            HasRead self.new (spine (level (container_view container.entry) kids ∷ around) Nil (TextLeaf []))) }
     {
         self.rows.enter(container)?;
         self.open.push(container)?;
@@ -314,7 +355,26 @@ impl<'a, A: Allocator> Parser<'a, A> {
             OpenLeaf::Indented { count, ending } => self.close_indented(count, ending),
             OpenLeaf::Fenced { ending, .. } => self.close_fenced(ending),
             OpenLeaf::Html { ending, .. } => self.close_html(ending),
+            OpenLeaf::Table { ending } => self.close_table(ending),
         }
+    }
+
+    /// The first lines of the open paragraph, so many, are a block: a row takes them.
+    pub(crate) fn take_lines(&mut self, row: Row, count: usize) -> Result<(), AllocError>
+        requires size { row_size row ≡ count }
+        requires within { self.old.lines_in_rows + count ≤ vec_len self.old.pieces }
+        ensures read { OnOk result ((ls : List BlockLine) (b : Block) → block_rows b ≡ row_value row ls ∷ [] → is_ending b ≡ false →
+            Becomes self.old self.new (TextLeaf ls) (tree (ended b (last_ending (take count ls))) (OpenedLeaf (TextLeaf (drop count ls))))) }
+        ensures containers { self.new.open ≡ self.old.open }
+        ensures content { self.new.content ≡ self.old.content }
+        ensures pieces { self.new.pieces ≡ self.old.pieces }
+        ensures count { OnOk result (self.new.lines_in_rows ≡ self.old.lines_in_rows + count) }
+    {
+        let ending = last_ending(&self.pieces[self.lines_in_rows..self.lines_in_rows + count]);
+        self.rows.block(row)?;
+        self.lines_in_rows += count;
+        self.leaf = NOTHING;
+        self.rows.ending(ending)
     }
 
     /// The open leaf ends: a row takes all lines that are left.
@@ -379,6 +439,7 @@ fn child_rows<'a, A: Allocator + Clone>(
         rows,
         pieces: Vec::new(alloc.clone()?),
         content: String::new(alloc.clone()?),
+        aligns: Vec::new(alloc.clone()?),
         lines_in_rows: 0,
         open: Vec::new(alloc),
         leaf: NOTHING,

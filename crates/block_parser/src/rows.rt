@@ -1,8 +1,9 @@
 //! The rows so far.
 ghost use Rattle.std.specs.Prelude.{◌≡◌, ◌+◌, ◌&&◌, ◌++◌, ◌∷◌, [], true, false, OnOk, OnErr, IfOk};
-ghost use Rattle.definition_block.specs.declared.container.Container.TheVariants as container_variant;
+ghost use Rattle.definition_block.specs.Container as container_variant;
 ghost use Rattle.block_rows.specs.declared.row.Row.TheVariants as row_variant;
 ghost use Rattle.block_rows.specs.Rows.{rows_size, row_size};
+ghost use Rattle.block_starts.specs.View.{container_view};
 ghost use Rattle.block_parser.specs.Waits.{inside, outside, is_one_blank_row, enter_row as row_of_start};
 
 use block_rows::Row;
@@ -69,11 +70,12 @@ impl<A: Allocator> Rows<A> {
     }
 
     /// A container starts.
-    pub(crate) fn enter(&mut self, container: Container) -> Result<(), AllocError>
-        ensures rows { OnOk result (self.new.rows.items ≡ (self.old.rows.items ++ self.old.waiting.items) ++ row_of_start container ∷ []) }
+    pub(crate) fn enter(&mut self, container: Container<'_>) -> Result<(), AllocError>
+        ensures rows { OnOk result (self.new.rows.items ≡ (self.old.rows.items ++ self.old.waiting.items) ++ row_of_start (container_view container.entry) ∷ []) }
         ensures waiting { OnOk result (self.new.waiting.items ≡ []) }
         ensures bare { OnOk result (self.new.bare ≡ true) }
-        ensures counted { rows_size self.new.rows.items ≡ rows_size self.old.rows.items }
+        ensures counted { OnOk result (rows_size self.new.rows.items ≡ rows_size self.old.rows.items + row_size (row_of_start (container_view container.entry))) }
+        ensures kept { OnErr result (rows_size self.new.rows.items ≡ rows_size self.old.rows.items) }
     {
         self.settle()?;
         self.rows.push(enter_row(container))?;
@@ -82,15 +84,16 @@ impl<A: Allocator> Rows<A> {
     }
 
     /// A container ends.
-    pub(crate) fn exit(&mut self, container: Container) -> Result<(), AllocError>
-        ensures rows { OnOk result (self.new.rows.items ≡ (self.old.rows.items ++ inside container self.old.waiting.items) ++ row_variant.Exit ∷ []) }
-        ensures waiting { OnOk result (self.new.waiting.items ≡ outside container self.old.waiting.items) }
+    pub(crate) fn exit(&mut self, container: Container<'_>) -> Result<(), AllocError>
+        ensures rows { OnOk result (self.new.rows.items ≡
+            (self.old.rows.items ++ inside (container_view container.entry) self.old.waiting.items) ++ row_variant.Exit ∷ []) }
+        ensures waiting { OnOk result (self.new.waiting.items ≡ outside (container_view container.entry) self.old.waiting.items) }
         ensures bare { OnOk result (self.new.bare ≡ false) }
         ensures counted { rows_size self.new.rows.items ≡ rows_size self.old.rows.items }
     {
         match container {
             Container::Quote => self.exit_quote()?,
-            Container::Item(_) => self.rows.push(Row::Exit)?,
+            Container::Item(_) | Container::Footnote(_) => self.rows.push(Row::Exit)?,
         }
         self.bare = false;
         Ok(())
@@ -148,8 +151,8 @@ fn is_one_blank(rows: &[Row]) -> bool
 }
 
 /// The row of a container's start.
-fn enter_row(container: Container) -> Row
-    ensures { result ≡ row_of_start container }
+fn enter_row(container: Container<'_>) -> Row
+    ensures { result ≡ row_of_start (container_view container.entry) }
 {
     match container {
         Container::Quote => Row::EnterQuote,
@@ -157,5 +160,6 @@ fn enter_row(container: Container) -> Row
             marker: item.marker,
             number: item.number,
         },
+        Container::Footnote(_) => Row::EnterFootnote,
     }
 }

@@ -4,10 +4,9 @@ use Rattle.std.specs.Prelude.{map}
 use Rattle.std.specs.List.{flat_map}
 use Rattle.std.proofs.lemmas.List.{append-nil, map-append}
 use Rattle.std.proofs.lemmas.List.Concat.{flat_map-append}
-use Rattle.definition_block.specs.declared.container.Container.{Container}
-use Rattle.definition_block.specs.declared.container.Container.TheVariants.{Quote, Item}
+use Rattle.definition_block.specs.Container.{Container, Quote, Item, Footnote}
 use Rattle.definition_text.specs.Columns.{code_byte}
-use Rattle.definition_block.specs.Blocks.{Block, Paragraph, Heading, Break, IndentedCode, FencedCode, Html, Definition, Holds, Items, Ending, Blank, Blocks, Nil, Cons}
+use Rattle.definition_block.specs.Blocks.{Block, Paragraph, Heading, Break, IndentedCode, FencedCode, Html, Table, Definition, Holds, Items, Ending, Blank, Blocks, Nil, Cons}
 use Rattle.definition_block.specs.Definitions.{block_definitions, definitions}
 use Rattle.block_rows.specs.Rows.{Exit, start_row, row_definitions, block_rows, rows_of}
 use Rattle.definition_inline.proofs.LinkRenaming.{renamed_definition}
@@ -16,6 +15,7 @@ use Rattle.definition_inline.proofs.LinkRenaming.{renamed_definition}
 none_entered : (c : Container) → row_definitions (start_row c) ≡ []
 none_entered Quote = refl
 none_entered (Item item) = refl
+none_entered (Footnote label) = refl
 
 mutual
   pub definitions_in : (b : Block) → flat_map row_definitions (block_rows b) ≡ map (renamed_definition code_byte) (block_definitions b)
@@ -25,6 +25,7 @@ mutual
   definitions_in (IndentedCode ls) = refl
   definitions_in (FencedCode info closed ls) = refl
   definitions_in (Html ls) = refl
+  definitions_in (Table ls) = refl
   definitions_in (Definition label destination title) = refl
   definitions_in (Holds c kids) =
       ap (λ x. x ++ flat_map row_definitions (rows_of kids ++ Exit ∷ [])) (none_entered c)

@@ -7,8 +7,7 @@ use Rattle.markdown_options.specs.declared.line_ending.LineEnding.{LineEnding}
 use Rattle.markdown_options.specs.declared.line_ending.LineEnding.TheVariants.{CarriageReturnLineFeed, CarriageReturn, LineFeed}
 use Rattle.markdown_options.specs.declared.configuration.Constructs.{Constructs}
 use Rattle.definition_text.specs.declared.beside.Beside.{Beside}
-use Rattle.definition_block.specs.declared.container.Container.{Container}
-use Rattle.definition_block.specs.declared.container.Container.TheVariants.{Quote, Item}
+use Rattle.definition_block.specs.Container.{Container, Quote, Item, Footnote}
 use Rattle.definition_text.specs.declared.beside.Kind.{Kind}
 use Rattle.definition_text.specs.declared.beside.Kind.TheVariants.{Whitespace}
 use Rattle.definition_text.specs.Lines.{TextLine, text_line, in_first_line, after_return, lines}
@@ -17,7 +16,8 @@ use Rattle.definition_text.specs.Indents.{small_indent}
 use Rattle.definition_block.specs.Started.{Started}
 use Rattle.definition_block.specs.BlockQuote.{after_byte, after_mark, quote_prefix}
 use Rattle.definition_block.specs.ListItem.{Marker, is_digit, number_of, bullet, delimiter, marker, gap, is_item, item_after, item_start, is_inside}
-use Rattle.definition_block.specs.Containers.{continues, quote_or, starts}
+use Rattle.definition_block.specs.GfmFootnoteDefinition.{is_footnote_label, label_before, with_colon, after_open, after_bracket, footnote_mark, footnote_of, footnote_start}
+use Rattle.definition_block.specs.Containers.{continues, quote_or, footnote_or, starts}
 use Rattle.definition_block.specs.CodeIndented.{starts_code_indented}
 use Rattle.definition_block.specs.CodeFenced.{Fence, fence_start, is_fence_end}
 use Rattle.definition_block.specs.MathFlow.{math_start}
@@ -25,11 +25,14 @@ use Rattle.definition_block.specs.HtmlFlow.{html_start, html_ends_here, ends_bef
 use Rattle.definition_block.specs.HeadingAtx.{Atx, heading_atx}
 use Rattle.definition_block.specs.HeadingSetext.{underline}
 use Rattle.definition_block.specs.ThematicBreak.{is_break}
-use Rattle.definition_text.specs.Content.{is_eol}
+use Rattle.definition_text.specs.Content.{Part, is_eol, closed_by, may_escape}
+use Rattle.definition_inline.specs.Label.{ends_label, label_end}
 use Rattle.definition_block.specs.Definitions.{cut}
+use Rattle.definition_block.specs.declared.align_kind.AlignKind.{AlignKind}
+use Rattle.definition_block.specs.GfmTable.{delimiter_row, is_head}
 use Rattle.block_rows.specs.ParagraphLines.{HaveNoEnding, AreLines}
 use Rattle.definition_text.specs.BlockLines.{BlockLine}
-use Rattle.definition_block.specs.Tree.{Blocks, OpenLeaf, Text, Indented, Fenced, OpenHtml, Opening, Leaf, Inside, Tree, nothing, empty_tree, open_text, has_text, with_line, rest_line, takes, html_with, or_heading, or_fence, or_html, begins, text_line_of, break_or_text, text_here, heading_of, underlined, turns, begun, taken, leaf_line, start, new, began_blank, goes_on, grow, beside_in, beside_line, step, steps}
+use Rattle.definition_block.specs.Tree.{Blocks, OpenLeaf, Text, Indented, Fenced, OpenHtml, OpenTable, Opening, Leaf, Inside, Tree, nothing, empty_tree, open_text, has_text, has_table, is_some_line, table_if, makes_table, with_line, rest_line, takes, html_with, or_heading, or_fence, or_html, begins, text_line_of, break_or_text, text_here, heading_of, underlined, turns, begun, taken, leaf_line, start, new, began_blank, goes_on, grow, beside_in, beside_line, step, steps}
 
 -- ---- codes without a line ending
 
@@ -64,7 +67,7 @@ clear_codes column (b ∷ bs) h =
     (λ _. (refl, clear-append (replicate n tab_column) (codes_from (column + 1 + n) bs) (clear_columns n) (clear_codes (column + 1 + n) bs h.1)))
     (λ _. (h.0, clear_codes (column + 1) bs h.1))
 
-clear_block : (rest : Rest) → HaveNoEnding rest → HaveNoEnding (block_codes rest)
+pub clear_block : (rest : Rest) → HaveNoEnding rest → HaveNoEnding (block_codes rest)
 clear_block rest h =
     let n = prefix_len is_tab_column rest in
     clear-append (take n rest) (bytes_of rest) (clear-take n rest h) (clear-filter is_byte rest h)
@@ -207,14 +210,66 @@ clear_quote_or : (other : Option Started) (o : Option Rest) → StartedClear oth
 clear_quote_or other None h k = h
 clear_quote_or other (Some rest) h k = k
 
+-- ---- footnote definitions
+
+abbrev PartClear : Option Part → Type 0
+PartClear None = Unit {0}
+PartClear (Some part) = HaveNoEnding part.rest
+
+clear_label_end : (escaped : Bool) (rest : Rest) → HaveNoEnding rest → SomeClear (label_end escaped rest)
+clear_label_end escaped [] h = tt
+clear_label_end escaped (c ∷ cs) h =
+    cond_both (ends_label escaped c) _ _ SomeClear (λ _. cond_both (eqb c 93) _ _ SomeClear (λ _. h) (λ _. tt))
+    (λ _. clear_label_end (may_escape escaped c) cs h.1)
+
+clear_closed : (rest : Rest) (o : Option Rest) → SomeClear o → PartClear (closed_by rest o)
+clear_closed rest None h = tt
+clear_closed rest (Some after) h = clear-drop 1 after h
+
+clear_label_before : (label : List ℕ) (o : Option Rest) → SomeClear o → PartClear (label_before label o)
+clear_label_before label None h = tt
+clear_label_before label (Some rest) h = h
+
+clear_colon : (o : Option Part) → PartClear o → PartClear (with_colon o)
+clear_colon None h = tt
+clear_colon (Some label) h =
+    cond_both (is_footnote_label label.text) _ _ PartClear
+    (λ _. clear_label_before label.text (after_byte 58 label.rest) (clear_after_byte 58 label.rest h)) (λ _. tt)
+
+clear_open : (o : Option Rest) → SomeClear o → PartClear (after_open o)
+clear_open None h = tt
+clear_open (Some rest) h = clear_colon (closed_by rest (label_end false rest)) (clear_closed rest (label_end false rest) (clear_label_end false rest h))
+
+clear_bracket : (o : Option Rest) → SomeClear o → PartClear (after_bracket o)
+clear_bracket None h = tt
+clear_bracket (Some rest) h = clear_open (after_byte 94 rest) (clear_after_byte 94 rest h)
+
+clear_footnote_of : (o : Option Part) → PartClear o → StartedClear (footnote_of o)
+clear_footnote_of None h = tt
+clear_footnote_of (Some mark) h = clear_bare mark.rest h
+
+clear_footnote : (on : Constructs) (rest : Rest) → HaveNoEnding rest → StartedClear (footnote_start on rest)
+clear_footnote on rest h =
+    let marked = bare rest in
+    cond_both (on.gfm_footnote_definition && small_indent on rest) _ _ StartedClear
+    (λ _. clear_footnote_of (footnote_mark marked) (clear_bracket (after_byte 91 marked) (clear_after_byte 91 marked (clear_bare rest h)))) (λ _. tt)
+
+clear_footnote_or : (other o : Option Started) → StartedClear other → StartedClear o → StartedClear (footnote_or other o)
+clear_footnote_or other None h k = h
+clear_footnote_or other (Some footnote) h k = k
+
 pub clear_start : (on : Constructs) (interrupts : Bool) (rest : Rest) → HaveNoEnding rest → StartedClear (starts on interrupts rest)
 clear_start on interrupts rest h =
-    clear_quote_or (item_start on interrupts rest) (quote_prefix on rest) (clear_item on interrupts rest h) (clear_quote on rest h)
+    clear_quote_or (footnote_or (item_start on interrupts rest) (footnote_start on rest)) (quote_prefix on rest)
+    (clear_footnote_or (item_start on interrupts rest) (footnote_start on rest) (clear_item on interrupts rest h) (clear_footnote on rest h))
+    (clear_quote on rest h)
 
 pub clear_continue : (on : Constructs) (c : Container) (began_blank : Bool) (rest : Rest) → HaveNoEnding rest → SomeClear (continues on c began_blank rest)
 clear_continue on Quote began_blank rest h = clear_quote on rest h
 clear_continue on (Item item) began_blank rest h =
     cond_both (is_inside item.size began_blank rest) _ _ SomeClear (λ _. clear-drop item.size rest h) (λ _. tt)
+clear_continue on (Footnote label) began_blank rest h =
+    cond_both (is_inside 4 false rest) _ _ SomeClear (λ _. clear-drop 4 rest h) (λ _. tt)
 
 -- ---- what is open after a line
 
@@ -245,6 +300,7 @@ module _ (on : Constructs) (e : LineEnding) (beside : Beside) where
       cond_both (is_blank rest) _ _ SomeOpenTo (λ _. tt) (λ _. cond_both (starts_code_indented on rest) _ _ SomeOpenTo (λ _. tt) (λ _. tt))
   open_takes (Fenced fence opening ls) rest = cond_both (is_fence_end on fence rest) _ _ SomeOpenTo (λ _. tt) (λ _. tt)
   open_takes (OpenHtml kind ls) rest = cond_both (ends_before_blank kind && is_blank rest) _ _ SomeOpenTo (λ _. tt) (λ _. open_html kind ls rest)
+  open_takes (OpenTable ls) rest = tt
 
   open_or_heading : (o : Option Atx) → SomeOpenTo (or_heading beside.ending o)
   open_or_heading None = tt
@@ -281,18 +337,25 @@ module _ (on : Constructs) (e : LineEnding) (beside : Beside) where
   open_with_line line (Leaf (Indented ls pending)) clear some h = tt
   open_with_line line (Leaf (Fenced fence opening ls)) clear some h = tt
   open_with_line line (Leaf (OpenHtml kind ls)) clear some h = tt
+  open_with_line line (Leaf (OpenTable ls)) clear some h = tt
   open_with_line line (Inside c kids inner) clear some h = open_with_line line inner clear some h
 
   open_text_line : (away : Opening) (rest : Rest) → HaveNoEnding rest → is_blank rest ≡ false → AreLinesTo (Some e) (open_text away)
       → OpenTo (text_line_of on away rest beside)
   open_text_line away rest clear some h =
-      cond_both (has_text away) _ _ OpenTo
+      cond_both (has_text away || has_table away) _ _ OpenTo
       (λ _. open_with_line (rest_line rest beside) away (clear_block rest clear) (some_code rest some) h)
       (λ _. (clear_block rest clear, some_code rest some, refl))
 
+  open_table : (o : Option (List AlignKind)) (ls : List BlockLine) (row : BlockLine) → SomeOpenTo (table_if on o ls row)
+  open_table None ls row = tt
+  open_table (Some columns) ls row =
+      cond_both (is_some_line (cut on ls).left && is_head (length columns) ls) _ _ SomeOpenTo (λ _. tt) (λ _. tt)
+
   open_break_or_text : (away : Opening) (rest : Rest) → HaveNoEnding rest → is_blank rest ≡ false → AreLinesTo (Some e) (open_text away)
       → OpenTo (break_or_text on away rest beside)
-  open_break_or_text away rest clear some h = cond_both (is_break on rest) _ _ OpenTo (λ _. tt) (λ _. open_text_line away rest clear some h)
+  open_break_or_text away rest clear some h = cond_both (is_break on rest) _ _ OpenTo (λ _. tt)
+      (λ _. open_taken (makes_table on away rest beside) _ (open_table (delimiter_row on rest) (text_here away) (rest_line rest beside)) (open_text_line away rest clear some h))
 
   open_leaf_line : (away : Opening) (rest : Rest) → HaveNoEnding rest → AreLinesTo (Some e) (open_text away) → OpenTo (leaf_line on away rest beside)
   open_leaf_line away rest clear h =

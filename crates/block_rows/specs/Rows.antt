@@ -2,29 +2,30 @@
 use Rattle.std.specs.Prelude.{ℕ, ◌+◌, true, false, Option, None, Some, List, [], ◌∷◌, ◌++◌, map, take, drop, replicate}
 use Rattle.std.specs.List.{fold, sum_by}
 use Rattle.std.specs.Option.{option_map}
-use Rattle.definition_block.specs.declared.container.Container.{Container}
-use Rattle.definition_block.specs.declared.container.Container.TheVariants.{Quote, Item}
+use Rattle.definition_block.specs.Container.{Container, Quote, Item, Footnote}
 use Rattle.block_rows.specs.declared.row.Row.{Row}
 use Rattle.block_rows.specs.declared.row.Row.TheVariants as row
 use Rattle.block_rows.specs.declared.row.Piece.{Piece}
 use Rattle.definition_text.specs.Lines.{TextLine, lines}
 use Rattle.definition_text.specs.Columns.{bytes_of, code_byte, tab_column}
 use Rattle.definition_text.specs.BlockLines.{BlockLine, block_line, spaced_line, own_lines}
-use Rattle.definition_block.specs.Tree.{Block, Paragraph, Heading, Break, IndentedCode, FencedCode, Html, Definition, Holds, Items, Ending, Blank, Blocks, Nil, Cons}
+use Rattle.definition_block.specs.Tree.{Block, Paragraph, Heading, Break, IndentedCode, FencedCode, Html, Table, Definition, Holds, Items, Ending, Blank, Blocks, Nil, Cons}
 use Rattle.definition_text.specs.Content.{content_codes, content_text}
 use Rattle.definition_block.specs.Definitions.{block_definitions}
 use Rattle.definition_inline.specs.Definition.{Definition as LinkDefinition, definition_at}
 
--- a block that holds no other, or an ending; the start of a quote; the start of an item, with the byte of its marker and its number; the end of the innermost container
+-- a block that holds no other, or an ending; the start of a quote; the start of an item, with the byte of its marker and its number; the start of a footnote definition, with its label; the end of the innermost container
 pub data BlockRow : Type 0 where
   Single : Block → BlockRow
   EnterQuote : BlockRow
   EnterItem : ℕ → Option ℕ → BlockRow
+  EnterFootnote : List ℕ → BlockRow
   Exit : BlockRow
 
 abbrev pub start_row : Container → BlockRow
 start_row Quote = EnterQuote
 start_row (Item item) = EnterItem item.marker item.number
+start_row (Footnote label) = EnterFootnote label
 
 -- a definition whose columns that are left of a tab are spaces
 abbrev pub spaced_definition : List ℕ → List ℕ → Option (List ℕ) → Block
@@ -39,6 +40,7 @@ abbrev mutual
   block_rows (IndentedCode ls) = Single (IndentedCode ls) ∷ []
   block_rows (FencedCode info closed ls) = Single (FencedCode info closed ls) ∷ []
   block_rows (Html ls) = Single (Html ls) ∷ []
+  block_rows (Table ls) = Single (Table ls) ∷ []
   block_rows (Definition label destination title) = Single (spaced_definition label destination title) ∷ []
   block_rows (Holds c kids) = start_row c ∷ (rows_of kids ++ Exit ∷ [])
   block_rows (Items items) = rows_of items
@@ -54,6 +56,7 @@ abbrev pub row_definitions : BlockRow → List LinkDefinition
 row_definitions (Single b) = block_definitions b
 row_definitions EnterQuote = []
 row_definitions (EnterItem marker number) = []
+row_definitions (EnterFootnote label) = []
 row_definitions Exit = []
 
 -- rows, and the lines that they leave
@@ -75,9 +78,11 @@ row_size (row.IndentedCode count) = count
 row_size (row.FencedCode count) = 1 + count
 row_size (row.UnclosedCode count) = 1 + count
 row_size (row.Html count) = count
+row_size (row.Table count) = count
 row_size (row.Definition count) = count
 row_size row.EnterQuote = 0
 row_size (row.EnterItem marker number) = 0
+row_size row.EnterFootnote = 1
 row_size row.Exit = 0
 row_size (row.Ending ending) = 0
 row_size (row.Blank ending) = 0
@@ -116,9 +121,11 @@ row_value (row.IndentedCode count) left = Single (IndentedCode (own_lines (take 
 row_value (row.FencedCode count) left = Single (FencedCode (first_codes left) true (take count (drop 1 left)))
 row_value (row.UnclosedCode count) left = Single (FencedCode (first_codes left) false (take count (drop 1 left)))
 row_value (row.Html count) left = Single (Html (own_lines (take count left)))
+row_value (row.Table count) left = Single (Table (own_lines (take count left)))
 row_value (row.Definition count) left = Single (definition_value (definition_on (take count left)))
 row_value row.EnterQuote left = EnterQuote
 row_value (row.EnterItem marker number) left = EnterItem marker number
+row_value row.EnterFootnote left = EnterFootnote (first_codes left)
 row_value row.Exit left = Exit
 row_value (row.Ending ending) left = Single (Ending ending)
 row_value (row.Blank ending) left = Single (Blank ending)

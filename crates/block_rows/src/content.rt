@@ -38,6 +38,7 @@ pub fn push_ending<A: Allocator>(
     ensures { OnOk result (string_bytes content.new ≡ string_bytes content.old ++ ending_text ending) }
 {
     match ending {
+        Some(LineEnding::LineFeed) => content.push('\n'),
         Some(ending) => content.push_str(ending.as_str()),
         None => Ok(()),
     }

@@ -43,6 +43,9 @@ pub enum Row {
     UnclosedCode(usize),
     /// An HTML block of so many lines, at least one (CommonMark 4.6).
     Html(usize),
+    /// A table of so many lines, at least two: its head, its row of delimiters, and the rows of its body
+    /// (GFM 4.10).
+    Table(usize),
     /// A link reference definition of so many lines, at least one: its label, destination and
     /// title are read off them again (CommonMark 4.7).
     Definition(usize),
@@ -50,6 +53,8 @@ pub enum Row {
     EnterQuote,
     /// A list item starts, with the byte of its marker and its number (CommonMark 5.2).
     EnterItem { marker: u8, number: Option<u32> },
+    /// A footnote definition starts. Its one line is its label (in neither standard).
+    EnterFootnote,
     /// The innermost container ends.
     Exit,
     /// The ending of a block's last line. The last line of a text may lack one.
@@ -69,8 +74,9 @@ impl Row {
             | Row::SetextHeading { count, .. }
             | Row::IndentedCode(count)
             | Row::Html(count)
+            | Row::Table(count)
             | Row::Definition(count) => count,
-            Row::Heading(_) | Row::WholeParagraph(_) => 1,
+            Row::Heading(_) | Row::WholeParagraph(_) | Row::EnterFootnote => 1,
             Row::FencedCode(count) | Row::UnclosedCode(count) => 1 + count,
             Row::Break
             | Row::EnterQuote

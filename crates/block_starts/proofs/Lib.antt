@@ -3,3 +3,4 @@ pub mod Views
 pub mod ThematicBreakLemmas
 pub mod MarkLemmas
 pub mod ContainerLemmas
+mod LabelLemmas

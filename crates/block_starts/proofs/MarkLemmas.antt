@@ -1,15 +1,19 @@
 -- Rests without a marker, and lines of items.
-use Rattle.std.proofs.Common.{◌≡◌, ℕ, ◌<◌, ◌≤◌, ◌^◌, ◌+◌, [], ◌∷◌, Bool, true, false, ◌&&◌, ◌||◌, not, None, inl, inr, eqb, leb, refl, sym, ap, ◌∙◌, length, drop, min, arith}
-use Rattle.std.specs.List.{list_all}
+use Rattle.std.proofs.Common.{◌≡◌, ℕ, ◌<◌, ◌≤◌, ◌^◌, ◌+◌, [], ◌∷◌, Bool, true, false, ◌&&◌, ◌||◌, not, Option, None, Some, inl, inr, eqb, leb, refl, sym, ap, ◌∙◌, length, drop, min, arith}
+use Rattle.std.specs.List.{list_all, prefix_len}
 use Rattle.std.proofs.Math.Nat.{pow-le-pow_right}
-use Rattle.std.proofs.lemmas.Bool.{cases_Bool, cond-true, cond-false, ne_eqb, and_parts, or_from, leb-true}
+use Rattle.std.proofs.lemmas.Bool.{cases_Bool, cond-true, cond-false, cond_both, eq-eqb, ne_eqb, and_parts, or_parts, or_from, leb-true}
 use Rattle.std.proofs.lemmas.List.{drop_min}
 use Rattle.markdown_options.specs.declared.configuration.Constructs.{Constructs}
 use Rattle.definition_text.specs.Columns.{Rest, bare, indent, is_white, is_blank}
 use Rattle.definition_text.specs.Indents.{outdented, small_indent}
 use Rattle.definition_block.specs.BlockQuote.{after_byte, after_mark, quote_prefix}
-use Rattle.definition_block.specs.ListItem.{bullet, delimiter, is_inside}
-use Rattle.block_starts.specs.Marks.{NoMark, is_mark}
+use Rattle.definition_block.specs.Started.{Started}
+use Rattle.definition_block.specs.ThematicBreak.{is_break}
+use Rattle.definition_block.specs.ListItem.{is_digit, bullet, delimiter, marker, item_after, item_start, is_inside}
+use Rattle.definition_block.specs.GfmFootnoteDefinition.{after_bracket, footnote_mark, footnote_of, footnote_start}
+use Rattle.definition_block.specs.Containers.{quote_or, footnote_or, starts}
+use Rattle.block_starts.specs.Marks.{NoMark, is_mark, begins_container, may_start}
 
 -- ---- no marker
 
@@ -68,3 +72,53 @@ eight_digits n i lt le =
     let fits : i ≤ 8 = omega arith in
     let e : 10 ^ i ≤ 10 ^ 8 = pow-le-pow_right ten {i = i} {j = 8} fits in
     omega (arith, e)
+
+-- ---- footnote definitions
+
+no_bracket : (c : ℕ) → begins_container c ≡ true → eqb c 91 ≡ false
+no_bracket c h = ne_eqb c 91 (λ e. let wrong : true ≡ false = sym h ∙ ap begins_container e in cc)
+
+no_footnote_mark : (rest : Rest) → may_start rest ≡ true → footnote_mark rest ≡ None
+no_footnote_mark [] h = refl
+no_footnote_mark (c ∷ cs) h = ap after_bracket (cond-false (eqb c 91) _ _ (no_bracket c h))
+
+-- where a quote or an item may start, no footnote definition does
+pub no_footnote : (on : Constructs) (rest : Rest) → may_start (bare rest) ≡ true → footnote_start on rest ≡ None
+no_footnote on rest h =
+    cond_both (on.gfm_footnote_definition && small_indent on rest) (footnote_of (footnote_mark (bare rest))) None (λ o. o ≡ None)
+    (λ _. ap footnote_of (no_footnote_mark (bare rest) h)) (λ _. refl)
+
+other_start : (rest : Rest) → may_start rest ≡ false → (after_byte 62 rest ≡ None) × (marker rest ≡ None)
+other_start [] h = (refl, refl)
+other_start (c ∷ cs) h =
+    let last = or_parts (eqb c 62 || eqb c 45 || eqb c 43 || eqb c 42) (is_digit c) h in
+    let star = or_parts (eqb c 62 || eqb c 45 || eqb c 43) (eqb c 42) last.0 in
+    let plus = or_parts (eqb c 62 || eqb c 45) (eqb c 43) star.0 in
+    let dash = or_parts (eqb c 62) (eqb c 45) plus.0 in
+    let digits : prefix_len is_digit (c ∷ cs) ≡ 0 = cond-false (is_digit c) _ _ last.1 in (
+      cond-false (eqb c 62) _ _ dash.0,
+      cond-true (eqb (prefix_len is_digit (c ∷ cs)) 0) _ _ (eq-eqb (prefix_len is_digit (c ∷ cs)) 0 digits)
+          ∙ cond-false (eqb c 45 || eqb c 43 || eqb c 42) _ _ (or_from (eqb c 45 || eqb c 43) (eqb c 42) (or_from (eqb c 45) (eqb c 43) dash.1 plus.1) star.1),
+    )
+
+-- where neither may, nothing else does
+pub only_footnote : (on : Constructs) (interrupts : Bool) (rest : Rest) → may_start (bare rest) ≡ false → footnote_start on rest ≡ starts on interrupts rest
+only_footnote on interrupts rest h =
+    let none = other_start (bare rest) h in
+    let no_quote : quote_prefix on rest ≡ None =
+    cond_both (on.block_quote && small_indent on rest) (after_mark (after_byte 62 (bare rest))) None (λ o. o ≡ None) (λ _. ap after_mark none.0) (λ _. refl) in
+    let no_item : item_start on interrupts rest ≡ None =
+    cond_both (on.list_item && small_indent on rest && not (is_break on rest)) (item_after (indent rest) interrupts (marker (bare rest))) None (λ o. o ≡ None)
+    (λ _. ap (item_after (indent rest) interrupts) none.1) (λ _. refl) in
+    sym (ap (quote_or (footnote_or (item_start on interrupts rest) (footnote_start on rest))) no_quote
+    ∙ ap (λ o. footnote_or o (footnote_start on rest)) no_item ∙ alone (footnote_start on rest))
+  where
+    alone : (o : Option Started) → footnote_or None o ≡ o
+    alone None = refl
+    alone (Some s) = refl
+
+-- without a footnote definition a quote or an item starts
+pub no_footnote_starts : (on : Constructs) (interrupts : Bool) (rest : Rest) → may_start (bare rest) ≡ true
+    → quote_or (item_start on interrupts rest) (quote_prefix on rest) ≡ starts on interrupts rest
+no_footnote_starts on interrupts rest h =
+    ap (λ o. quote_or (footnote_or (item_start on interrupts rest) o) (quote_prefix on rest)) (sym (no_footnote on rest h))

@@ -1,6 +1,8 @@
 pub mod Marks
+pub mod Labels
 pub mod View
 pub mod ListItem
+pub mod GfmFootnoteDefinition
 pub mod HeadingAtx
 pub mod CodeFenced
 pub mod HtmlFlow

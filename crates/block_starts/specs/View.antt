@@ -1,6 +1,8 @@
 -- What a cursor stands for.
-use Rattle.std.specs.Prelude.{◌++◌, replicate, Option, None, Some}
-use Rattle.definition_block.specs.declared.container.Container.{Container}
+use Rattle.std.specs.Prelude.{◌++◌, List, map, replicate, Option, None, Some}
+use Rattle.definition_block.specs.declared.container.Container.{Container as CodeContainer}
+use Rattle.definition_block.specs.declared.container.Container.TheVariants as code
+use Rattle.definition_block.specs.Container.{Container, Quote, Item, Footnote}
 use Rattle.definition_text.specs.Columns.{Rest, tab_column, codes_from}
 use Rattle.definition_block.specs.Started.{Started, started}
 use Rattle.block_starts.specs.declared.cursor.Cursor.{Cursor}
@@ -13,6 +15,14 @@ abbrev pub rest_if : Option Cursor → Option Rest
 rest_if None = None
 rest_if (Some cursor) = Some (rest_of cursor)
 
-abbrev pub started_if : Option (Container × Cursor) → Option Started
+abbrev pub container_view : CodeContainer → Container
+container_view code.Quote = Quote
+container_view (code.Item item) = Item item
+container_view (code.Footnote label) = Footnote label.now
+
+abbrev pub container_views : List CodeContainer → List Container
+container_views cs = map container_view cs
+
+abbrev pub started_if : Option (CodeContainer × Cursor) → Option Started
 started_if None = None
-started_if (Some s) = Some (started s.0 (rest_of s.1))
+started_if (Some s) = Some (started (container_view s.0) (rest_of s.1))

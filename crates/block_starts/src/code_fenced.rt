@@ -34,9 +34,8 @@ pub struct Fence<'a> {
 pub fn fence_start<'a>(on: &Constructs, rest: Cursor<'a>) -> Option<Fence<'a>>
     ensures { fence_if result ≡ fence_at on.now (rest_of rest.entry) }
 {
-    let (columns, bare) = rest.split_bare();
-    if on.code_fenced && is_small(on, columns) {
-        fence_of(columns, bare.text())
+    if on.code_fenced && is_small(on, rest.indent()) {
+        fence_of(rest.indent(), rest.bare_text())
     } else {
         None
     }
@@ -97,8 +96,7 @@ fn word_len(bytes: &[u8]) -> usize
 pub fn is_fence_end(on: &Constructs, fence: &Fence<'_>, rest: Cursor<'_>) -> bool
     ensures { result ≡ is_end_of_fence on.now (fence_view fence.now) (rest_of rest.entry) }
 {
-    let (columns, bare) = rest.split_bare();
-    is_small(on, columns) && is_run(fence.run, fence.byte, bare.text().as_bytes())
+    is_small(on, rest.indent()) && is_run(fence.run, fence.byte, rest.bare_text().as_bytes())
 }
 
 /// A line of the content, which loses up to the fence's indent.

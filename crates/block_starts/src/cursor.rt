@@ -9,10 +9,13 @@ ghost use Rattle.definition_block.specs.ListItem.{is_digit};
 ghost use Rattle.definition_block.specs.ThematicBreak.{is_break_text};
 ghost use Rattle.block_starts.specs.Marks.{NoMark, begins_container, is_mark, may_start};
 ghost use Rattle.block_starts.specs.Widths.{width};
+ghost use Rattle.definition_text.specs.Content.{may_escape};
+ghost use Rattle.definition_inline.specs.Label.{ends_label};
+ghost use Rattle.block_starts.specs.Labels.{NoLabel, IsLabelBefore, label_len};
 ghost use Rattle.block_starts.specs.ThematicBreak.{BreaksWithin};
 
 use crate::thematic_break::break_tail;
-use text_bytes::is_space_or_tab;
+use text_bytes::{is_space, is_space_or_tab};
 
 /// The rest of a line.
 #[derive(Clone, Copy)]
@@ -87,11 +90,12 @@ impl<'a> Cursor<'a> {
         self.white == self.text.len()
     }
 
-    /// Whether the bytes that are left are few enough for a thematic break. More are none.
+    /// Whether the bytes after the spaces and tabs ahead are few enough for a thematic break. More
+    /// are none.
     pub(crate) fn may_break(self) -> bool
-        ensures { result ≡ false → is_break_text (bytes_of (rest_of self.entry)) ≡ false }
+        ensures { result ≡ false → is_break_text (bytes_of (bare (rest_of self.entry))) ≡ false }
     {
-        plain(self.text).len() <= self.tail
+        self.dark().len() <= self.tail
     }
 
     /// The columns of spaces and tabs ahead.
@@ -109,6 +113,21 @@ impl<'a> Cursor<'a> {
         ensures fits { result.0 < 2 ^ 63 }
     {
         (self.indent(), self.bare())
+    }
+
+    /// The bytes after the spaces and tabs ahead.
+    pub fn bare_text(self) -> &'a str
+        ensures { result.now ≡ bytes_of (bare (rest_of self.entry)) }
+    {
+        self.dark()
+    }
+
+    /// The same, as bytes of the text.
+    fn dark(self) -> &'a str
+        ensures same { result.now ≡ drop self.entry.white self.entry.text.now }
+        ensures view { result.now ≡ bytes_of (bare (rest_of self.entry)) }
+    {
+        plain(without_white(self.text, self.white))
     }
 
     /// The rest after its spaces and tabs.
@@ -154,7 +173,7 @@ impl<'a> Cursor<'a> {
         }
     }
 
-    /// Whether a container's marker may stand after the spaces and tabs ahead.
+    /// Whether the marker of a quote or an item may stand after the spaces and tabs ahead.
     pub(crate) fn may_start(self) -> bool
         ensures { result ≡ may_start (bare (rest_of self.entry)) }
     {
@@ -175,6 +194,21 @@ impl<'a> Cursor<'a> {
         }
         let rest = Cursor::at(self.column + 1, &self.text[1..], self.tail);
         Some((byte, rest))
+    }
+
+    /// The text before the `]` that closes a label, and the rest after it, where no white space
+    /// stands before it.
+    pub(crate) fn split_label(self) -> Option<(&'a str, Cursor<'a>)>
+        ensures { MatchOption result (NoLabel (rest_of self.entry)) (λ s. IsLabelBefore (rest_of self.entry) s.0.now (rest_of s.1)) }
+    {
+        if self.owed > 0 {
+            return None;
+        }
+        let Some(end) = label_len(self.text.as_bytes()) else {
+            return None;
+        };
+        let rest = Cursor::at(self.column + end + 1, &self.text[end + 1..], self.tail);
+        Some((&self.text[..end], rest))
     }
 
     /// The digits ahead, and the rest after them.
@@ -220,7 +254,38 @@ fn digits(bytes: &[u8]) -> usize
     bytes.len()
 }
 
-/// Whether a container's marker may begin with a byte.
+/// How many bytes stand before the `]` that closes a label, where no white space does.
+fn label_len(bytes: &[u8]) -> Option<usize>
+    ensures { result ≡ label_len false bytes.now }
+{
+    let mut escaped = false;
+    for (i, b) in bytes.iter().enumerate() {
+        if is_space(*b) {
+            return None;
+        }
+        if ends_label(escaped, *b) {
+            return if *b == b']' { Some(i) } else { None };
+        }
+        escaped = may_escape(escaped, *b);
+    }
+    None
+}
+
+/// Whether a byte is a bracket that no backslash escapes.
+fn ends_label(escaped: bool, byte: u8) -> bool
+    ensures { result ≡ ends_label escaped byte }
+{
+    (byte == b'[' || byte == b']') && !escaped
+}
+
+/// Whether a byte is a backslash that may escape the next one.
+fn may_escape(escaped: bool, byte: u8) -> bool
+    ensures { result ≡ may_escape escaped byte }
+{
+    byte == b'\\' && !escaped
+}
+
+/// Whether the marker of a quote or an item may begin with a byte.
 fn begins_container(byte: u8) -> bool
     ensures { result ≡ begins_container byte }
 {
@@ -231,7 +296,10 @@ fn begins_container(byte: u8) -> bool
 fn is_mark(byte: u8) -> bool
     ensures { result ≡ is_mark byte }
 {
-    matches!(byte, b'>' | b'-' | b'+' | b'*' | b'.' | b')')
+    matches!(
+        byte,
+        b'>' | b'-' | b'+' | b'*' | b'.' | b')' | b'[' | b'^' | b':'
+    )
 }
 
 /// How many spaces and tabs a text at a column begins with, and how many columns these have.

@@ -27,9 +27,8 @@ pub struct Atx<'a> {
 pub fn heading_atx<'a>(on: &Constructs, rest: Cursor<'a>) -> Option<Atx<'a>>
     ensures { atx_if result ≡ heading_at on.now (rest_of rest.entry) }
 {
-    let (columns, bare) = rest.split_bare();
-    if on.heading_atx && is_small(on, columns) {
-        atx_of(bare.text())
+    if on.heading_atx && is_small(on, rest.indent()) {
+        atx_of(rest.bare_text())
     } else {
         None
     }

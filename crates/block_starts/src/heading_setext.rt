@@ -14,9 +14,8 @@ use text_bytes::is_run;
 pub fn underline(on: &Constructs, rest: Cursor<'_>) -> Option<u8>
     ensures { result ≡ underline_at on.now (rest_of rest.entry) }
 {
-    let (columns, bare) = rest.split_bare();
-    if on.heading_setext && is_small(on, columns) {
-        underline_of(bare.text().as_bytes())
+    if on.heading_setext && is_small(on, rest.indent()) {
+        underline_of(rest.bare_text().as_bytes())
     } else {
         None
     }

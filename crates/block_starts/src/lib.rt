@@ -6,6 +6,7 @@ pub mod code_fenced;
 pub mod code_indented;
 pub mod container;
 pub mod cursor;
+pub mod gfm_footnote_definition;
 pub mod heading_atx;
 pub mod heading_setext;
 pub mod html_flow;

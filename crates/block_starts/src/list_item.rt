@@ -10,7 +10,7 @@ ghost use Rattle.definition_block.specs.ListItem.{is_digit, number_of as number_
 ghost use Rattle.definition_block.specs.ListItem.{gap as gap_of, is_first as is_first_number};
 ghost use Rattle.definition_block.specs.ListItem.{is_item as is_item_after, item as item_of, item_start as item_starts};
 ghost use Rattle.definition_block.specs.ListItem.{is_inside as is_inside_item, item_continues as item_goes_on};
-ghost use Rattle.block_starts.specs.View.{rest_of, rest_if, started_if};
+ghost use Rattle.block_starts.specs.View.{rest_of, rest_if, container_view, started_if};
 ghost use Rattle.block_starts.specs.ListItem.{marker_view, marker_if};
 ghost use Rattle.definition_block.specs.Started.{started};
 
@@ -36,7 +36,7 @@ pub fn item_start<'a>(
     on: &Constructs,
     interrupts: bool,
     rest: Cursor<'a>,
-) -> Option<(Container, Cursor<'a>)>
+) -> Option<(Container<'a>, Cursor<'a>)>
     ensures { started_if result ≡ item_starts on.now interrupts (rest_of rest.entry) }
 {
     let (columns, bare) = rest.split_bare();
@@ -149,10 +149,10 @@ fn is_first(number: Option<u32>) -> bool
 }
 
 /// The item of a marker after so many columns.
-fn make_item(columns: usize, marker: Marker<'_>) -> (Container, Cursor<'_>)
+fn make_item<'a>(columns: usize, marker: Marker<'a>) -> (Container<'a>, Cursor<'a>)
     requires columns { columns < 2 ^ 63 }
     requires size { marker.size ≤ 10 }
-    ensures { started (result.0) (rest_of result.1) ≡ item_of columns (marker_view marker.entry) }
+    ensures { started (container_view result.0) (rest_of result.1) ≡ item_of columns (marker_view marker.entry) }
 {
     let gap = gap(marker.rest);
     let item = Item {

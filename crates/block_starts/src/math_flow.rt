@@ -20,9 +20,8 @@ const MATH_INFO: &str = "math math-display";
 pub fn math_start<'a>(on: &Constructs, rest: Cursor<'a>) -> Option<Fence<'a>>
     ensures { fence_if result ≡ math_at on.now (rest_of rest.entry) }
 {
-    let (columns, bare) = rest.split_bare();
-    if on.math_flow && is_small(on, columns) {
-        math_fence_of(columns, bare.text())
+    if on.math_flow && is_small(on, rest.indent()) {
+        math_fence_of(rest.indent(), rest.bare_text())
     } else {
         None
     }

@@ -20,11 +20,10 @@ use text_bytes::is_space_or_tab;
 pub fn is_break(on: &Constructs, rest: Cursor<'_>) -> bool
     ensures { result ≡ is_break_line on.now (rest_of rest.entry) }
 {
-    let (columns, bare) = rest.split_bare();
     on.thematic_break
-        && is_small(on, columns)
-        && bare.may_break()
-        && is_break_text(bare.text().as_bytes())
+        && is_small(on, rest.indent())
+        && rest.may_break()
+        && is_break_text(rest.bare_text().as_bytes())
 }
 
 /// Whether a text is a break: the first byte says of which marker.

@@ -3,7 +3,7 @@ use Rattle.std.specs.Prelude.{ℕ, suc, zero, ◌+◌, ◌-◌, if◌then◌else
 use Rattle.std.specs.List.{count_by}
 use Rattle.markdown_options.specs.declared.configuration.Constructs.{Constructs}
 use Rattle.definition_text.specs.BlockLines.{BlockLine, last_ending, own_lines}
-use Rattle.definition_block.specs.Blocks.{Block, Paragraph, Heading, Break, IndentedCode, FencedCode, Html, Definition, Holds, Items, Ending, Blank, Blocks, Nil, Cons, join, ended}
+use Rattle.definition_block.specs.Blocks.{Block, Paragraph, Heading, Break, IndentedCode, FencedCode, Html, Table, Definition, Holds, Items, Ending, Blank, Blocks, Nil, Cons, join, ended}
 use Rattle.definition_text.specs.Content.{is_eol, content_of}
 use Rattle.definition_inline.specs.Definition.{Definition as LinkDefinition, definition, definition_at}
 
@@ -54,6 +54,7 @@ abbrev mutual
   block_definitions (IndentedCode ls) = []
   block_definitions (FencedCode info closed ls) = []
   block_definitions (Html ls) = []
+  block_definitions (Table ls) = []
   block_definitions (Definition label destination title) = definition label destination title [] ∷ []
   block_definitions (Holds c kids) = definitions kids
   block_definitions (Items items) = definitions items

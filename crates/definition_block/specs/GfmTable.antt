@@ -1,10 +1,11 @@
--- Tables: the cells of a line, and the row of delimiters under a head (GFM 4.10).
-use Rattle.std.specs.Prelude.{ℕ, Bool, true, false, not, if◌then◌else◌, ◌==◌, ◌&&◌, ◌||◌, List, [], ◌∷◌, Option, None, Some, codes, drop}
+-- Tables: the cells of a line, the row of delimiters under a head, and the head above it (GFM 4.10).
+use Rattle.std.specs.Prelude.{ℕ, Bool, true, false, not, if◌then◌else◌, ◌==◌, ◌&&◌, ◌||◌, List, [], ◌∷◌, Option, None, Some, codes, drop, length}
 use Rattle.std.specs.List.{list_any}
 use Rattle.std.specs.Option.{option_map}
 use Rattle.markdown_options.specs.declared.configuration.Constructs.{Constructs}
 use Rattle.definition_text.specs.declared.beside.Kind.{Kind}
 use Rattle.definition_text.specs.declared.beside.Kind.TheVariants.{Whitespace, Punctuation}
+use Rattle.definition_text.specs.BlockLines.{BlockLine}
 use Rattle.definition_text.specs.Columns.{Rest, is_blank, trimmed, bare, bytes_of}
 use Rattle.definition_text.specs.Indents.{small_indent}
 use Rattle.definition_text.specs.Runs.{run, after_run}
@@ -52,6 +53,10 @@ without_blank_last (c ∷ d ∷ cs) = c ∷ without_blank_last (d ∷ cs)
 -- the cells of a line after a character of this kind: its parts, but for a blank one before the first bar and a blank one after the last (GFM 4.10)
 abbrev pub cells : Kind → List ℕ → List Cell
 cells before codes = without_blank_last (without_blank_first (parts before false codes))
+
+-- the cells of a line of a block
+abbrev pub line_cells : BlockLine → List Cell
+line_cells line = cells line.before line.codes
 
 -- ---- delimiters
 
@@ -102,3 +107,11 @@ delimiters text = if list_any is_bar_or_colon text then some_alignments (alignme
 -- the same for a line (GFM 4.10)
 abbrev pub delimiter_row : Constructs → Rest → Option (List AlignKind)
 delimiter_row on rest = if on.gfm_table && small_indent on rest then delimiters (bytes_of (bare rest)) else None
+
+-- ---- the head
+
+-- whether the last of some lines has so many cells
+abbrev pub is_head : ℕ → List BlockLine → Bool
+is_head count [] = false
+is_head count (line ∷ []) = length (line_cells line) == count
+is_head count (line ∷ next ∷ others) = is_head count (next ∷ others)

@@ -1,7 +1,9 @@
+pub mod Container
 pub mod Started
 pub mod BlockQuote
 pub mod ThematicBreak
 pub mod ListItem
+pub mod GfmFootnoteDefinition
 pub mod Containers
 pub mod CodeIndented
 pub mod CodeFenced

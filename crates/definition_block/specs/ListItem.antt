@@ -3,7 +3,7 @@ use Rattle.std.specs.Prelude.{ℕ, ◌+◌, ◌-◌, ◌*◌, Bool, true, not, i
 use Rattle.std.specs.Char.{is_ascii_digit}
 use Rattle.std.specs.List.{prefix_len, fold}
 use Rattle.markdown_options.specs.declared.configuration.Constructs.{Constructs}
-use Rattle.definition_block.specs.declared.container.Container.TheVariants as container
+use Rattle.definition_block.specs.Container.{Item as ItemContainer}
 use Rattle.definition_text.specs.Columns.{Rest, bare, indent, is_blank}
 use Rattle.definition_text.specs.Indents.{small_indent}
 use Rattle.definition_block.specs.ThematicBreak.{is_break}
@@ -63,7 +63,7 @@ is_item interrupts m =
 -- the item of a marker after so many columns; of an empty rest no column can be taken
 abbrev pub item : ℕ → Marker → Started
 item columns m =
-    started (container.Item (record { marker = m.byte; number = m.number; size = columns + m.size + gap m.rest })) (drop (gap m.rest) m.rest)
+    started (ItemContainer (record { marker = m.byte; number = m.number; size = columns + m.size + gap m.rest })) (drop (gap m.rest) m.rest)
 
 abbrev pub item_after : ℕ → Bool → Option Marker → Option Started
 item_after columns interrupts None = None

@@ -1,8 +1,7 @@
 -- Lists: neighbouring items are put together after the lines are read (CommonMark 5.3).
 use Rattle.std.specs.Prelude.{ℕ, suc, Bool, false, if◌then◌else◌, ◌==◌, ◌&&◌, ◌||◌, not, leb}
-use Rattle.definition_block.specs.declared.container.Container.{Container}
-use Rattle.definition_block.specs.declared.container.Container.TheVariants.{Quote, Item}
-use Rattle.definition_block.specs.Tree.{Block, Paragraph, Heading, Break, IndentedCode, FencedCode, Html, Definition, Holds, Items, Ending, Blank, Blocks, Nil, Cons, join, one, is_ending}
+use Rattle.definition_block.specs.Container.{Container, Quote, Item, Footnote}
+use Rattle.definition_block.specs.Tree.{Block, Paragraph, Heading, Break, IndentedCode, FencedCode, Html, Table, Definition, Holds, Items, Ending, Blank, Blocks, Nil, Cons, join, one, is_ending}
 
 -- ---- neighbours
 
@@ -45,6 +44,7 @@ is_loose items = has_gap items || has_gap_inside items
 abbrev pub container_marker : Container → ℕ
 container_marker Quote = 0
 container_marker (Item item) = item.marker
+container_marker (Footnote label) = 0
 
 abbrev pub item_marker : Block → ℕ
 item_marker (Holds c kids) = container_marker c
@@ -83,6 +83,7 @@ abbrev mutual
   grouped_block (IndentedCode ls) = IndentedCode ls
   grouped_block (FencedCode info closed ls) = FencedCode info closed ls
   grouped_block (Html ls) = Html ls
+  grouped_block (Table ls) = Table ls
   grouped_block (Definition label destination title) = Definition label destination title
   grouped_block (Holds c kids) = Holds c (grouped kids)
   grouped_block (Items kids) = Items kids

@@ -1,5 +1,5 @@
 -- Containers that start on a line (CommonMark 5).
-use Rattle.definition_block.specs.declared.container.Container.{Container}
+use Rattle.definition_block.specs.Container.{Container}
 use Rattle.definition_text.specs.Columns.{Rest}
 
 -- a container, and the rest of the line after what starts it

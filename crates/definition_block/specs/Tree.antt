@@ -1,20 +1,21 @@
 -- The block tree of a text, line by line (CommonMark 4, 5 and appendix, phase 1).
-use Rattle.std.specs.Prelude.{ℕ, suc, zero, Bool, true, false, if◌then◌else◌, ◌&&◌, not, List, [], ◌∷◌, ◌++◌, Option, None, Some, length}
+use Rattle.std.specs.Prelude.{ℕ, suc, zero, Bool, true, false, if◌then◌else◌, ◌&&◌, ◌||◌, ◌-◌, not, List, [], ◌∷◌, ◌++◌, Option, None, Some, length, take, drop}
 use Rattle.markdown_options.specs.declared.line_ending.LineEnding.{LineEnding}
 use Rattle.markdown_options.specs.declared.configuration.Constructs.{Constructs}
 use Rattle.definition_text.specs.declared.beside.Beside.{Beside}
 use Rattle.definition_text.specs.declared.beside.Kind.{Kind}
 use Rattle.definition_text.specs.declared.beside.Kind.TheVariants.{Whitespace, Punctuation}
-use Rattle.definition_block.specs.declared.container.Container.{Container}
-use Rattle.definition_block.specs.declared.container.Container.TheVariants.{Quote, Item}
+use Rattle.definition_block.specs.Container.{Container, Quote, Item, Footnote}
 use Rattle.definition_text.specs.Lines.{TextLine, lines}
 pub use Rattle.definition_text.specs.BlockLines.{BlockLine, block_line, spaced_line, last_ending_or, last_ending, own_lines}
-pub use Rattle.definition_block.specs.Blocks.{Block, Paragraph, Heading, Break, IndentedCode, FencedCode, Html, Definition, Holds, Items, Ending, Blank, Blocks, Nil, Cons, join, one, ended}
+pub use Rattle.definition_block.specs.Blocks.{Block, Paragraph, Heading, Break, IndentedCode, FencedCode, Html, Table, Definition, Holds, Items, Ending, Blank, Blocks, Nil, Cons, join, one, ended}
+use Rattle.definition_text.specs.Content.{Part}
 use Rattle.definition_text.specs.Columns.{Rest, whole, is_white, is_blank, bare, block_codes}
 use Rattle.definition_text.specs.Indents.{outdented}
 use Rattle.definition_block.specs.Started.{Started}
 use Rattle.definition_block.specs.BlockQuote.{after_byte}
 use Rattle.definition_block.specs.Containers.{continues, starts}
+use Rattle.definition_block.specs.GfmFootnoteDefinition.{footnote_mark}
 use Rattle.definition_block.specs.CodeIndented.{starts_code_indented}
 use Rattle.definition_block.specs.CodeFenced.{Fence, fence_start, is_fence_end, fence_line}
 use Rattle.definition_block.specs.MathFlow.{math_start}
@@ -24,15 +25,18 @@ use Rattle.definition_block.specs.HeadingAtx.{Atx, heading_atx}
 use Rattle.definition_block.specs.HeadingSetext.{underline}
 use Rattle.definition_block.specs.ThematicBreak.{is_break}
 use Rattle.definition_block.specs.Definitions.{Cut, cut}
+use Rattle.definition_block.specs.declared.align_kind.AlignKind.{AlignKind}
+use Rattle.definition_block.specs.GfmTable.{delimiter_row, is_head}
 
 -- ---- what is open
 
--- A leaf block that is open: a paragraph with its lines, none where no leaf is open; indented code with its lines, and the blank lines after them, which may turn out to be no part of it; fenced code with its fence, the ending of the fence's line, and its lines; an HTML block with its kind and its lines.
+-- A leaf block that is open: a paragraph with its lines, none where no leaf is open; indented code with its lines, and the blank lines after them, which may turn out to be no part of it; fenced code with its fence, the ending of the fence's line, and its lines; an HTML block with its kind and its lines; a table with its lines.
 pub data OpenLeaf : Type 0 where
   Text : List BlockLine → OpenLeaf
   Indented : List BlockLine → List BlockLine → OpenLeaf
   Fenced : Fence → Option LineEnding → List BlockLine → OpenLeaf
   OpenHtml : ℕ → List BlockLine → OpenLeaf
+  OpenTable : List BlockLine → OpenLeaf
 
 -- what is open: a leaf, or a container with the children that it has so far, and what is open in it
 pub data Opening : Type 0 where
@@ -75,6 +79,7 @@ close_leaf on (Text ls) = with_paragraph (cut on ls)
 close_leaf on (Indented ls pending) = join (ended (IndentedCode (own_lines ls)) (last_ending ls)) (blanks pending)
 close_leaf on (Fenced fence ending ls) = ended (FencedCode fence.info false ls) (last_ending_or ending ls)
 close_leaf on (OpenHtml kind ls) = ended (Html (own_lines ls)) (last_ending ls)
+close_leaf on (OpenTable ls) = ended (Table (own_lines ls)) (last_ending ls)
 
 abbrev pub is_ending : Block → Bool
 is_ending (Ending ending) = true
@@ -105,10 +110,11 @@ last_of Nil = Nil
 last_of (Cons b Nil) = if is_ending b then one b else Nil
 last_of (Cons b (Cons c bs)) = last_of (Cons c bs)
 
--- A container ends right before the ending of its last line. Each line of a quote has its marker; blank lines at an item's end are not its own.
+-- A container ends right before the ending of its last line. Each line of a quote has its marker; blank lines at the end of an item or a footnote definition are not its own.
 abbrev pub holds : Container → Blocks → Blocks
 holds Quote kids = Cons (Holds Quote (without_last kids)) (last_of kids)
 holds (Item item) kids = Cons (Holds (Item item) (front kids)) (trailing kids)
+holds (Footnote label) kids = Cons (Holds (Footnote label) (front kids)) (trailing kids)
 
 -- the children that are finished where this is closed
 abbrev pub close : Constructs → Opening → Blocks
@@ -123,6 +129,7 @@ leaf_text (Text ls) = ls
 leaf_text (Indented ls pending) = []
 leaf_text (Fenced fence ending ls) = []
 leaf_text (OpenHtml kind ls) = []
+leaf_text (OpenTable ls) = []
 
 abbrev pub open_text : Opening → List BlockLine
 open_text (Leaf leaf) = leaf_text leaf
@@ -136,12 +143,22 @@ is_some_line (line ∷ others) = true
 abbrev pub has_text : Opening → Bool
 has_text now = is_some_line (open_text now)
 
--- one more line of the open paragraph
+-- whether a table is open, and this line is in all of its containers
+abbrev pub is_table_leaf : OpenLeaf → Bool
+is_table_leaf (OpenTable ls) = true
+is_table_leaf leaf = false
+
+abbrev pub has_table : Opening → Bool
+has_table (Leaf leaf) = is_table_leaf leaf
+has_table (Inside c kids inner) = false
+
+-- one more line of the open paragraph, or of the open table
 abbrev pub leaf_with_line : BlockLine → OpenLeaf → OpenLeaf
 leaf_with_line line (Text ls) = Text (ls ++ line ∷ [])
 leaf_with_line line (Indented ls pending) = Indented ls pending
 leaf_with_line line (Fenced fence ending ls) = Fenced fence ending ls
 leaf_with_line line (OpenHtml kind ls) = OpenHtml kind ls
+leaf_with_line line (OpenTable ls) = OpenTable (ls ++ line ∷ [])
 
 abbrev pub with_line : BlockLine → Opening → Opening
 with_line line (Leaf leaf) = Leaf (leaf_with_line line leaf)
@@ -180,6 +197,7 @@ takes on (Text ls) rest beside = None
 takes on (Indented ls pending) rest beside = indented_takes on ls pending rest beside
 takes on (Fenced fence opening ls) rest beside = fenced_takes on fence opening ls rest beside
 takes on (OpenHtml kind ls) rest beside = html_takes kind ls rest beside
+takes on (OpenTable ls) rest beside = None
 
 abbrev pub or_heading : Option LineEnding → Option Atx → Option Tree
 or_heading ending None = None
@@ -207,16 +225,11 @@ begins on paragraph rest beside =
 abbrev pub after : Constructs → Opening → Tree → Tree
 after on away t = tree (join (close on away) t.done) t.now
 
--- a line of text goes on the open paragraph, also where it isn't in all of its containers, or starts one (CommonMark 4.8)
+-- a line of text goes on the open paragraph, also where it isn't in all of its containers, or is a row of the open table, or starts a paragraph (CommonMark 4.8 and GFM 4.10)
 abbrev pub text_line_of : Constructs → Opening → Rest → Beside → Tree
 text_line_of on away rest beside =
-    if has_text away then tree Nil (with_line (rest_line rest beside) away)
+    if has_text away || has_table away then tree Nil (with_line (rest_line rest beside) away)
     else after on away (tree Nil (Leaf (Text (rest_line rest beside ∷ []))))
-
--- a rest in which no other leaf begins: a break, or text
-abbrev pub break_or_text : Constructs → Opening → Rest → Beside → Tree
-break_or_text on away rest beside =
-    if is_break on rest then after on away (tree (ended Break beside.ending) nothing) else text_line_of on away rest beside
 
 -- the lines of the open paragraph, where this line is in all of its containers
 abbrev pub text_here : Opening → List BlockLine
@@ -238,6 +251,23 @@ underlined on (Some rank) ls ending = let parts = cut on ls in heading_of rank p
 abbrev pub turns : Constructs → Opening → Rest → Option LineEnding → Option Tree
 turns on away rest ending = underlined on (underline on rest) (text_here away) ending
 
+-- the definitions and the lines before the last one of a paragraph, and an open table with that one as its head
+abbrev pub table_of : Blocks → List BlockLine → BlockLine → Tree
+table_of definitions ls row =
+    let head = length ls - 1 in
+    tree (join definitions (paragraph_of (take head ls))) (Leaf (OpenTable (drop head ls ++ row ∷ [])))
+
+-- what a row of delimiters makes of a paragraph's lines, where there is one, and something is left of them after their definitions, of which the last has as many cells
+abbrev pub table_if : Constructs → Option (List AlignKind) → List BlockLine → BlockLine → Option Tree
+table_if on None ls row = None
+table_if on (Some columns) ls row =
+    let parts = cut on ls in
+    if is_some_line parts.left && is_head (length columns) ls then Some (table_of parts.definitions parts.left row) else None
+
+-- what a row of delimiters makes of the open paragraph: a table (GFM 4.10)
+abbrev pub makes_table : Constructs → Opening → Rest → Beside → Option Tree
+makes_table on away rest beside = table_if on (delimiter_row on rest) (text_here away) (rest_line rest beside)
+
 abbrev pub begun : Constructs → Option Tree → Opening → Tree → Tree
 begun on None away other = other
 begun on (Some t) away other = after on away t
@@ -246,6 +276,12 @@ begun on (Some t) away other = after on away t
 abbrev pub taken : Option Tree → Tree → Tree
 taken None other = other
 taken (Some t) other = t
+
+-- a rest in which no other leaf begins: a break, a table, or text
+abbrev pub break_or_text : Constructs → Opening → Rest → Beside → Tree
+break_or_text on away rest beside =
+    if is_break on rest then after on away (tree (ended Break beside.ending) nothing)
+    else taken (makes_table on away rest beside) (text_line_of on away rest beside)
 
 -- the rest of a line that starts no container, where `away` is what the line isn't in: a blank one closes it (CommonMark 4.9)
 abbrev pub leaf_line : Constructs → Opening → Rest → Beside → Tree
@@ -263,10 +299,16 @@ abbrev pub kind_after_mark : Option Rest → Kind
 kind_after_mark None = Punctuation
 kind_after_mark (Some rest) = if begins_with_white rest then Whitespace else Punctuation
 
+-- the kind of the character before the content of a footnote definition: white space, or the colon after its label
+abbrev pub kind_after_label : Option Part → Kind
+kind_after_label None = Whitespace
+kind_after_label (Some mark) = if begins_with_white mark.rest then Whitespace else Punctuation
+
 -- the kind of the character before what a container leaves of a rest: white space stands before the content of an item (CommonMark 5.1 and 5.2)
 abbrev pub kind_after : Container → Rest → Kind
 kind_after Quote rest = kind_after_mark (after_byte 62 (bare rest))
 kind_after (Item item) rest = Whitespace
+kind_after (Footnote label) rest = kind_after_label (footnote_mark (bare rest))
 
 -- what stands beside that
 abbrev pub beside_in : Container → Rest → Beside → Beside

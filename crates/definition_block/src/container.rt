@@ -14,9 +14,11 @@ pub struct Item {
 
 /// A block that holds other blocks and has a prefix on each of its lines.
 #[derive(Clone, Copy, Debug, PartialEq, Eq)]
-pub enum Container {
+pub enum Container<'a> {
     /// A block quote (CommonMark 5.1).
     Quote,
     /// A list item (CommonMark 5.2).
     Item(Item),
+    /// A footnote definition, with its label as it is written (in neither standard).
+    Footnote(&'a str),
 }

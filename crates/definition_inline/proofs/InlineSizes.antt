@@ -1,20 +1,22 @@
 -- No construct takes a code past the end of the content, and those that hold no other take one at least.
-use Rattle.std.proofs.Common.{◌≡◌, ℕ, zero, suc, ◌+◌, ◌-◌, ◌<◌, ◌≤◌, Bool, true, false, cond, not, ◌&&◌, ◌||◌, List, [], ◌∷◌, map, Option, None, Some, sym, length, drop, take, arith, subst, length-drop}
-use Rattle.std.specs.Prelude.{◌==◌, nat_le, codes}
+use Rattle.std.proofs.Common.{◌≡◌, ℕ, zero, suc, ◌+◌, ◌-◌, ◌<◌, ◌≤◌, Bool, true, false, cond, not, ◌&&◌, ◌||◌, List, [], ◌∷◌, map, Option, None, Some, sym, ap, length, drop, take, arith, subst, length-drop}
+use Rattle.std.specs.Prelude.{◌==◌, ◌++◌, nat_le, codes, reverse, slice_index_or}
 use Rattle.std.specs.List.{prefix_len}
 use Rattle.std.specs.Option.{option_or}
-use Rattle.std.specs.Char.{is_ascii_digit, is_ascii_hexdigit, is_ascii_alphanumeric}
+use Rattle.std.specs.Char.{is_ascii_digit, is_ascii_hexdigit, is_ascii_alphanumeric, to_ascii_lowercase}
 use Rattle.std.proofs.lemmas.Bool.{cond_both, and_parts, leb-true, eqb-true}
-use Rattle.std.proofs.lemmas.List.{length-take, length-map}
+use Rattle.std.proofs.lemmas.List.{length-take, length-map, length-reverse}
+use Rattle.std.proofs.lemmas.Slice.Eq.{bytes_eq-Decides}
 use mathlib.Core.Bool.{true≢false}
 use Rattle.std.proofs.lemmas.List.Sums.{prefix_len-le-length}
 use Rattle.markdown_options.specs.declared.configuration.Constructs.{Constructs}
 use Rattle.definition_text.specs.Columns.{is_white, indent, bare}
-use Rattle.definition_text.specs.Bytes.{begins_with, after_all, begins_with_letter, without_slash}
+use Rattle.definition_text.specs.Bytes.{begins_with, after_all, begins_with_letter, lower, without_slash}
+use Rattle.definition_text.specs.InlineCode.{InlineCode, codes_of}
 use Rattle.definition_text.specs.Runs.{run, after_run}
 use Rattle.definition_text.specs.Content.{Part, part, before, up_to}
 use Rattle.definition_inline.specs.HtmlTags.{followed_by, is_tag_space, tag_space, is_tag_name_byte, after_tag_name, begins_attribute, is_attribute_byte, is_unquoted, quoted, unquoted, value, value_or, specification, attribute, has_attribute, attributes, tag_end, open_end, closing_end, open_rest, closing_rest, open_tag, closing_tag}
-use Rattle.definition_inline.specs.Inline.{Reference, Escape, Autolink, EscapedBreak, LineEnd, Leaf, leaf, or_else}
+use Rattle.definition_inline.specs.Inline.{Reference, Escape, Autolink, Literal, Www, Protocol, EscapedBreak, LineEnd, Leaf, leaf, or_else}
 use Rattle.definition_inline.specs.CharacterEscape.{escape_at}
 use Rattle.definition_inline.specs.CharacterReference.{CharacterReference, before_semicolon, terminated, numbered, named, number_reference, reference_after, reference_form, reference_text, reference_leaf, reference_of, reference_at}
 use Rattle.definition_inline.specs.CodeText.{run_of, raw_leaf, raw_at, code_text_at}
@@ -25,7 +27,8 @@ use Rattle.definition_inline.specs.HardBreak.{ends_here, line_end_at, escaped_br
 use Rattle.definition_inline.specs.Label.{label_at}
 use Rattle.definition_inline.specs.Resource.{LinkResource, resource_at}
 use Rattle.definition_inline.specs.LabelEnd.{Ended, ended, is_label_text, by_text, by_label, by_resource, label_end_at}
-use Rattle.definition_inline.specs.Scan.{InlineContext, leaf_at}
+use Rattle.definition_inline.specs.GfmAutolinkLiteral.{LiteralStart, literal_start, or_start, www_start, protocol_start, begins_caselessly, may_precede_www, may_precede_protocol, begins_name, has_low_line, domain, is_cut, cut_more, without_tail, ends_literal, literal_run, literal_name, named_literal, literal_after, literal_start_at, literal_at}
+use Rattle.definition_inline.specs.Scan.{InlineContext, leaf_at, leaf_here}
 
 -- what holds of a value, where there is one
 abbrev WhereSome : {A : Type 0} → (A → Type 0) → Option A → Type 0
@@ -404,6 +407,87 @@ fit_leaf context content =
 -- a construct takes a code at least, and none past the end of the content
 pub leaf_fits : (context : InlineContext) (content : List ℕ) (l : Leaf) → leaf_at context content ≡ Some l → Fits (length content) l
 leaf_fits context content l is = subst (MayFit (length content)) is (fit_leaf context content)
+
+-- ---- literals
+
+tail_fits : (k : ℕ) (cs : List ℕ) → length (without_tail k cs) ≤ length cs
+tail_fits zero [] = omega arith
+tail_fits (suc k) [] = omega arith
+tail_fits zero (c ∷ cs) =
+    cond_both (is_cut c cs) (without_tail (cut_more c cs) cs) (c ∷ cs) (λ (l : List ℕ). length l ≤ length (c ∷ cs))
+    (λ _. omega (arith, tail_fits (cut_more c cs) cs)) (λ _. omega arith)
+tail_fits (suc k) (c ∷ cs) = omega (arith, tail_fits k cs)
+
+run_fits : (cs : List ℕ) → length (literal_run cs) ≤ length cs
+run_fits [] = omega arith
+run_fits (c ∷ cs) =
+    cond_both (ends_literal c cs) [] (c ∷ literal_run cs) (λ (l : List ℕ). length l ≤ length (c ∷ cs)) (λ _. omega arith) (λ _. omega (arith, run_fits cs))
+
+name_fits : (cs : List ℕ) → length (literal_name cs) ≤ length cs
+name_fits cs =
+    let run = literal_run cs in
+    omega (arith, run_fits cs, length-reverse run, tail_fits 0 (reverse run), length-reverse (without_tail 0 (reverse run)))
+
+-- a text that comes first, in either case, is no longer than the content
+text_fits : (text content : List ℕ) → begins_caselessly text content ≡ true → length text ≤ length content
+text_fits text content h =
+    let same : lower text ≡ lower (take (length text) content) = (bytes_eq-Decides (lower text) (lower (take (length text) content))).0 h in
+    omega
+    (arith, ap length same, length-map text to_ascii_lowercase, length-map (take (length text) content) to_ascii_lowercase, length-take (length text) content)
+
+-- what begins a literal
+abbrev StartFits : ℕ → Option LiteralStart → Type 0
+StartFits most o = WhereSome (λ (s : LiteralStart). (0 < s.size) × (s.size ≤ most)) o
+
+or_start_fits : (most : ℕ) (a b : Option LiteralStart) → StartFits most a → StartFits most b → StartFits most (or_start a b)
+or_start_fits most None b p q = q
+or_start_fits most (Some start) b p q = p
+
+start_if : (most : ℕ) (test : Bool) (s : LiteralStart) (other : Option LiteralStart) → (test ≡ true → (0 < s.size) × (s.size ≤ most)) → StartFits most other
+    → StartFits most (cond test (Some s) other)
+start_if most test s other p q = cond_both test (Some s) other (StartFits most) p (λ _. q)
+
+start_fits : (previous : Option ℕ) (content : List ℕ) → StartFits (length content) (literal_start_at previous content)
+start_fits previous content =
+    let most = length content in
+    or_start_fits most (www_start previous content) (protocol_start previous content)
+    (start_if most (may_precede_www previous && begins_caselessly (codes "www.") content) (literal_start Www 4) None
+    (λ e. (omega arith, text_fits (codes "www.") content (and_parts (may_precede_www previous) (begins_caselessly (codes "www.") content) e).1)) tt)
+    (cond_both (not (may_precede_protocol previous)) None _ (StartFits most) (λ _. tt)
+    (λ _. start_if most (begins_caselessly (codes "http://") content) (literal_start Protocol 7) _
+    (λ e. (omega arith, text_fits (codes "http://") content e))
+    (start_if most (begins_caselessly (codes "https://") content) (literal_start Protocol 8) None
+    (λ e. (omega arith, text_fits (codes "https://") content e)) tt)))
+
+fit_named : (start : LiteralStart) (content : List InlineCode) (last : InlineCode) (name : List ℕ) → 0 < start.size → start.size + length name ≤ length content
+    → MayFit (length content) (named_literal start content last name)
+fit_named start content last name some within =
+    fit_if (length content) _ (leaf (Literal start.kind (take start.size (codes_of content) ++ name) ∷ []) (start.size + length name))
+    (λ _. record { some = omega (arith, some); within = within })
+
+fit_after : (c : InlineCode) (cs : List InlineCode) (o : Option LiteralStart) → StartFits (length (c ∷ cs)) o → MayFit (length (c ∷ cs)) (literal_after c cs o)
+fit_after c cs None p = tt
+fit_after c cs (Some start) p =
+    let all = codes_of (c ∷ cs) in
+    let name = literal_name (drop start.size all) in
+    fit_named start (c ∷ cs) (slice_index_or (c ∷ cs) (start.size - 1) c) name p.0
+    (omega (arith, p.1, name_fits (drop start.size all), length-drop start.size all, length-map (c ∷ cs) (λ (k : InlineCode). k.code)))
+
+fit_literal : (on : Constructs) (content : List InlineCode) → MayFit (length content) (literal_at on content)
+fit_literal on [] = tt
+fit_literal on (c ∷ cs) =
+    cond_both on.gfm_autolink_literal (literal_after c cs (literal_start_at c.previous (codes_of (c ∷ cs)))) None (MayFit (length (c ∷ cs)))
+    (λ _. fit_after c cs (literal_start_at c.previous (codes_of (c ∷ cs)))
+    (subst (λ n. StartFits n (literal_start_at c.previous (codes_of (c ∷ cs)))) (length-map (c ∷ cs) (λ (k : InlineCode). k.code)) (start_fits c.previous (codes_of (c ∷ cs)))))
+    (λ _. tt)
+
+-- a construct that holds no other, or a literal, takes a code at least, and none past the end of the content
+pub here_fits : (context : InlineContext) (content : List InlineCode) (l : Leaf) → leaf_here context content ≡ Some l → Fits (length content) l
+here_fits context content l is =
+    subst (MayFit (length content)) is
+    (fit_or (length content) (leaf_at context (codes_of content)) (literal_at context.options.constructs content)
+    (subst (λ n. MayFit n (leaf_at context (codes_of content))) (length-map content (λ (k : InlineCode). k.code)) (fit_leaf context (codes_of content)))
+    (fit_literal context.options.constructs content))
 
 -- ---- what a `]` forms
 

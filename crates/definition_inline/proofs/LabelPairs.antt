@@ -11,9 +11,9 @@ use Rattle.definition_inline.specs.Inline.{Data, Leaf}
 use Rattle.definition_inline.specs.Attention.{Run, run_size, run_at, is_marker}
 use Rattle.definition_inline.specs.LabelEnd.{Ended}
 use Rattle.definition_inline.specs.Spans.{Token, Item, Delimiters}
-use Rattle.definition_inline.specs.Scan.{InlineContext, leaf_at, LabelStart, label_start_at, start_more, OpenLabel, Text, text, Reading, reading, read_tokens, with_tokens, unformed, ended_by, ended_step, label_end_step, data_step, last_step, Step, Next, step, scan, whole_text}
+use Rattle.definition_inline.specs.Scan.{InlineContext, leaf_here, LabelStart, label_start_at, start_more, OpenLabel, Text, text, Reading, reading, read_tokens, with_tokens, unformed, ended_by, ended_step, label_end_step, data_step, last_step, Step, Next, step, scan, whole_text}
 use Rattle.definition_inline.specs.LabelPairs.{Stretch, Plain, Start, End, is_label_end, ended_size, IsBare, AreStretches, AtEnd, AtLeaf, AtRun, AtLabelStart, AtLabelEnd, AtByte, open_label, ended_text, IsText, Nothing, More, Pair, LeftOver, IsRest, Last, OneMore, IsWhole, AllMatched, SomeLeft, Reads}
-use Rattle.definition_inline.proofs.InlineSizes.{leaf_fits}
+use Rattle.definition_inline.proofs.InlineSizes.{here_fits}
 use Rattle.definition_inline.proofs.Scanning.{scan_step, step_leaf, step_run, step_start, step_last}
 
 -- ---- what is read so far
@@ -93,16 +93,16 @@ module _ (context : InlineContext) (most : ℕ) (c : InlineCode) (cs : List Inli
   abbrev content : List ℕ
   content = codes_of (c ∷ cs)
 
-  leaf_place : (found : Leaf) → leaf_at context content ≡ Some found → Here
+  leaf_place : (found : Leaf) → leaf_here context (c ∷ cs) ≡ Some found → Here
   leaf_place found is =
-      let fits = leaf_fits context content found is in
+      let fits = here_fits context (c ∷ cs) found is in
       let some = fits.some in
       let size : 1 + (found.size - 1) ≡ found.size = omega arith in
       one_place context most c cs r (read_tokens (map Item found.parts) r) ss (found.size - 1) (Plain (map Item found.parts)) shorter le (step_leaf context r c cs found is)
       (more_open context r.open_labels r.now ss (map Item found.parts) so)
       (λ others stand. AtLeaf c cs found others is (subst (λ n. AreStretches context (drop n (c ∷ cs)) others) size stand))
 
-  run_place : (run : Run) → leaf_at context content ≡ None → run_at context.options (c ∷ cs) ≡ Some run → Here
+  run_place : (run : Run) → leaf_here context (c ∷ cs) ≡ None → run_at context.options (c ∷ cs) ≡ Some run → Here
   run_place run none is =
       let some : 0 < run.left = subst TakesSome is (run_takes context.options c cs) in
       let size : 1 + (run.left - 1) ≡ run.left = omega arith in
@@ -159,11 +159,11 @@ module _ (context : InlineContext) (most : ℕ) (c : InlineCode) (cs : List Inli
   bare_place None is bare = last_place bare is
   bare_place (Some start) is bare = start_place start bare is
 
-  no_leaf_place : (o : Option Run) → run_at context.options (c ∷ cs) ≡ o → leaf_at context content ≡ None → Here
+  no_leaf_place : (o : Option Run) → run_at context.options (c ∷ cs) ≡ o → leaf_here context (c ∷ cs) ≡ None → Here
   no_leaf_place None is none = bare_place (label_start_at context.options.constructs content) refl (record { no_leaf = none; no_run = is })
   no_leaf_place (Some run) is none = run_place run none is
 
-  pub any_place : (o : Option Leaf) → leaf_at context content ≡ o → Here
+  pub any_place : (o : Option Leaf) → leaf_here context (c ∷ cs) ≡ o → Here
   any_place None is = no_leaf_place (run_at context.options (c ∷ cs)) refl is
   any_place (Some found) is = leaf_place found is
 
@@ -172,7 +172,7 @@ module _ (context : InlineContext) (most : ℕ) (c : InlineCode) (cs : List Inli
 read : (most : ℕ) (context : InlineContext) → Shorter context most
 read most context [] r ss le so = ([], AtEnd, subst (λ xs. IsSo context r xs) (sym (append-nil ss)) so)
 read zero context (c ∷ cs) r ss le so = absurd (omega arith)
-read (suc most) context (c ∷ cs) r ss le so = any_place context most c cs r ss (read most context) (omega arith) so (leaf_at context (codes_of (c ∷ cs))) refl
+read (suc most) context (c ∷ cs) r ss le so = any_place context most c cs r ss (read most context) (omega arith) so (leaf_here context (c ∷ cs)) refl
 
 -- label starts that are open at the end are text
 left_over : (context : InlineContext) (label : OpenLabel) (labels : List OpenLabel) (ss others : List Stretch) (inner : Text) → IsOpen context labels label.outer ss

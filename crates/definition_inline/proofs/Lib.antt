@@ -7,4 +7,5 @@ pub mod DefinitionAlone
 pub mod NearestOpener
 pub mod ClosingRuns
 pub mod InlineSizes
+pub mod GfmAutolinkLiteral
 pub mod LabelPairs

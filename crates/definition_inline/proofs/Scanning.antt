@@ -6,7 +6,7 @@ use Rattle.definition_text.specs.InlineCode.{InlineCode, codes_of}
 use Rattle.definition_inline.specs.Inline.{Data, Leaf}
 use Rattle.definition_inline.specs.Attention.{Run, run_at}
 use Rattle.definition_inline.specs.Spans.{Item, Delimiters}
-use Rattle.definition_inline.specs.Scan.{InlineContext, leaf_at, LabelStart, label_start_at, start_more, text, Reading, reading, read_tokens, Next, last_step, leaf_step, run_step, label_step, step, and_then, scan}
+use Rattle.definition_inline.specs.Scan.{InlineContext, leaf_here, LabelStart, label_start_at, start_more, text, Reading, reading, read_tokens, Next, last_step, leaf_step, run_step, label_step, step, and_then, scan}
 use Rattle.definition_inline.specs.Strings.{string_leaf_at, or_byte, string_parts}
 
 -- the codes of what is left of a content
@@ -31,12 +31,12 @@ scan_step context r next c cs more is =
 
 -- a construct that holds no other
 pub step_leaf : (context : InlineContext) (r : Reading) (c : InlineCode) (cs : List InlineCode) (found : Leaf)
-    → leaf_at context (codes_of (c ∷ cs)) ≡ Some found → step context r c cs ≡ Next (found.size - 1) (read_tokens (map Item found.parts) r)
+    → leaf_here context (c ∷ cs) ≡ Some found → step context r c cs ≡ Next (found.size - 1) (read_tokens (map Item found.parts) r)
 step_leaf context r c cs found is = ap (leaf_step context c.code (codes_of (c ∷ cs)) r (run_at context.options (c ∷ cs))) is
 
 -- a run
 pub step_run : (context : InlineContext) (r : Reading) (c : InlineCode) (cs : List InlineCode) (run : Run)
-    → leaf_at context (codes_of (c ∷ cs)) ≡ None → run_at context.options (c ∷ cs) ≡ Some run
+    → leaf_here context (c ∷ cs) ≡ None → run_at context.options (c ∷ cs) ≡ Some run
     → step context r c cs ≡ Next (run.left - 1) (read_tokens (Delimiters run ∷ []) r)
 step_run context r c cs run none is =
     let content = codes_of (c ∷ cs) in
@@ -44,7 +44,7 @@ step_run context r c cs run none is =
 
 -- a label start
 pub step_start : (context : InlineContext) (r : Reading) (c : InlineCode) (cs : List InlineCode) (start : LabelStart)
-    → leaf_at context (codes_of (c ∷ cs)) ≡ None → run_at context.options (c ∷ cs) ≡ None → label_start_at context.options.constructs (codes_of (c ∷ cs)) ≡ Some start
+    → leaf_here context (c ∷ cs) ≡ None → run_at context.options (c ∷ cs) ≡ None → label_start_at context.options.constructs (codes_of (c ∷ cs)) ≡ Some start
     → step context r c cs
     ≡ Next (start_more start)
     (reading (text [] false) (record { start = start; from = drop (1 + start_more start) (codes_of (c ∷ cs)); outer = r.now } ∷ r.open_labels))
@@ -55,7 +55,7 @@ step_start context r c cs start none no_run is =
 
 -- a place at which none of these starts
 pub step_last : (context : InlineContext) (r : Reading) (c : InlineCode) (cs : List InlineCode)
-    → leaf_at context (codes_of (c ∷ cs)) ≡ None → run_at context.options (c ∷ cs) ≡ None → label_start_at context.options.constructs (codes_of (c ∷ cs)) ≡ None
+    → leaf_here context (c ∷ cs) ≡ None → run_at context.options (c ∷ cs) ≡ None → label_start_at context.options.constructs (codes_of (c ∷ cs)) ≡ None
     → step context r c cs ≡ last_step context c.code (codes_of (c ∷ cs)) r
 step_last context r c cs none no_run no_start =
     let content = codes_of (c ∷ cs) in

@@ -5,7 +5,7 @@ use Rattle.definition_inline.specs.Inline.{Data, Leaf}
 use Rattle.definition_inline.specs.Attention.{Run, run_at}
 use Rattle.definition_inline.specs.LabelEnd.{Ended}
 use Rattle.definition_inline.specs.Spans.{Token, Item, Delimiters}
-use Rattle.definition_inline.specs.Scan.{InlineContext, leaf_at, LabelStart, label_start_at, start_more, OpenLabel, Text, text, with_tokens, unformed, formed, ended_by}
+use Rattle.definition_inline.specs.Scan.{InlineContext, leaf_here, LabelStart, label_start_at, start_more, OpenLabel, Text, text, with_tokens, unformed, formed, ended_by}
 
 -- A stretch of a content: tokens; a label start with the codes after it; a `]` with the codes from it on, and what it forms, if anything.
 pub data Stretch : Type 0 where
@@ -24,15 +24,15 @@ ended_size (Some found) = found.size
 
 -- nothing of its own stands at a place: no construct that holds no other, no run
 pub record IsBare (context : InlineContext) (content : List InlineCode) : Type 0 where
-  pub no_leaf : leaf_at context (codes_of content) ≡ None
+  pub no_leaf : leaf_here context content ≡ None
   pub no_run : run_at context.options content ≡ None
 
 -- the stretches of a content, one after another: at each place the first of these that stands there
 pub data AreStretches (context : InlineContext) : List InlineCode → List Stretch → Type 0 where
   AtEnd : AreStretches context [] []
-  AtLeaf : (c : InlineCode) (cs : List InlineCode) (found : Leaf) (others : List Stretch) → leaf_at context (codes_of (c ∷ cs)) ≡ Some found
+  AtLeaf : (c : InlineCode) (cs : List InlineCode) (found : Leaf) (others : List Stretch) → leaf_here context (c ∷ cs) ≡ Some found
       → AreStretches context (drop found.size (c ∷ cs)) others → AreStretches context (c ∷ cs) (Plain (map Item found.parts) ∷ others)
-  AtRun : (c : InlineCode) (cs : List InlineCode) (run : Run) (others : List Stretch) → leaf_at context (codes_of (c ∷ cs)) ≡ None
+  AtRun : (c : InlineCode) (cs : List InlineCode) (run : Run) (others : List Stretch) → leaf_here context (c ∷ cs) ≡ None
       → run_at context.options (c ∷ cs) ≡ Some run
       → AreStretches context (drop run.left (c ∷ cs)) others → AreStretches context (c ∷ cs) (Plain (Delimiters run ∷ []) ∷ others)
   AtLabelStart : (c : InlineCode) (cs : List InlineCode) (start : LabelStart) (others : List Stretch) → IsBare context (c ∷ cs)

@@ -15,6 +15,7 @@ use Rattle.definition_inline.specs.MathText.{math_text_at}
 use Rattle.definition_inline.specs.Autolink.{autolink_at}
 use Rattle.definition_inline.specs.HtmlText.{html_text_at}
 use Rattle.definition_inline.specs.HardBreak.{escaped_break_at, line_end_at, line_spaces_at}
+use Rattle.definition_inline.specs.GfmAutolinkLiteral.{literal_at}
 use Rattle.definition_inline.specs.LabelEnd.{Ended, label_end_at}
 use Rattle.definition_inline.specs.Attention.{Run, run_at}
 use Rattle.definition_inline.specs.Spans.{Token, Item, Delimiters, emphasized}
@@ -39,6 +40,10 @@ leaf_at context content =
     (or_else (html_text_at context.options.constructs content)
     (or_else (line_end_at content)
     (line_spaces_at context.options.constructs content))))))))
+
+-- the same of codes that know what stands beside them, with a literal, which no other of these begins like (CommonMark 6 and GFM 6.9)
+abbrev pub leaf_here : InlineContext → List InlineCode → Option Leaf
+leaf_here context content = or_else (leaf_at context (codes_of content)) (literal_at context.options.constructs content)
 
 -- ---- labels
 
@@ -175,7 +180,7 @@ leaf_step context code content r run (Some found) = Next (found.size - 1) (read_
 abbrev pub step : InlineContext → Reading → InlineCode → List InlineCode → Step
 step context r c cs =
     let content = codes_of (c ∷ cs) in
-    leaf_step context c.code content r (run_at context.options (c ∷ cs)) (leaf_at context content)
+    leaf_step context c.code content r (run_at context.options (c ∷ cs)) (leaf_here context (c ∷ cs))
 
 -- ---- the whole
 

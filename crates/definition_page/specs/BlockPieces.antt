@@ -9,7 +9,8 @@ use Rattle.definition_text.specs.Columns.{code_byte, bytes_of}
 use Rattle.definition_page.specs.Tags.{Said, Words, Number, Attribute, attribute, Tag, tag, bare_tag}
 use Rattle.definition_page.specs.Pieces.{Piece, Open, Close, Void, Says, Eol, Fresh}
 use Rattle.definition_page.specs.InlinePieces.{Meaning, raw_html, element, inline_pieces}
-use Rattle.definition_page.specs.Page.{Page, Block, Paragraph, Heading, Break, IndentedCode, FencedCode, Html, Definition, Quote, ItemList, Item, Ending, Blank, Blocks, Nil, Cons}
+use Rattle.definition_page.specs.GfmTable.{table_pieces}
+use Rattle.definition_page.specs.Page.{Page, Block, Paragraph, Heading, Break, IndentedCode, FencedCode, Html, Table, Definition, Quote, ItemList, Item, Footnote, Ending, Blank, Blocks, Nil, Cons}
 
 -- where a block stands: at the top of the document or in a container, and whether in an item of a tight list, whose paragraphs have no tags (CommonMark 5.3)
 pub record Place : Type 0 where
@@ -74,16 +75,18 @@ check_pieces options (Some done) = Void (check_tag options done) ∷ []
 
 -- ---- siblings
 
--- whether an ending prints nothing, given the sibling right before: after a tight paragraph, and after a definition
+-- whether an ending prints nothing, given the sibling right before: after a tight paragraph, and after a definition of a link or a footnote
 abbrev pub is_silent : Place → Option Block → Bool
 is_silent place (Some (Paragraph check is)) = place.tight
 is_silent place (Some Definition) = true
+is_silent place (Some (Footnote label kids)) = true
 is_silent place b = false
 
 -- the last of these siblings that prints something of its own, or the one before them
 abbrev pub last_shown : Option Block → Blocks → Option Block
 last_shown before Nil = before
 last_shown before (Cons Definition bs) = last_shown before bs
+last_shown before (Cons (Footnote label kids) bs) = last_shown before bs
 last_shown before (Cons (Ending ending) bs) = last_shown before bs
 last_shown before (Cons (Blank ending) bs) = last_shown before bs
 last_shown before (Cons b bs) = last_shown (Some b) bs
@@ -119,6 +122,7 @@ abbrev mutual
       Fresh ∷ element (bare_tag (codes "pre")) (element (tag (codes "code") (info_attributes info)) (fenced_pieces place is_closed ls))
       ++ fresh_unless is_closed
   block_pieces m place before (Html ls) = Fresh ∷ says (flat_map (html_line m.compile) ls)
+  block_pieces m place before (Table t) = table_pieces m t
   block_pieces m place before Definition = []
   block_pieces m place before (Quote kids) =
       Fresh ∷ element (bare_tag (codes "blockquote")) (children_pieces m (inside false) None kids ++ Fresh ∷ [])
@@ -127,6 +131,7 @@ abbrev mutual
   block_pieces m place before (Item kids) =
       Fresh ∷ element (bare_tag (codes "li"))
       (children_pieces m (inside place.tight) None kids ++ fresh_unless (ends_plainly place.tight (last_shown None kids)))
+  block_pieces m place before (Footnote label kids) = []
   block_pieces m place before (Ending ending) = if is_silent place before then [] else Says (Words (ending_bytes ending)) ∷ []
   block_pieces m place before (Blank ending) = []
 

@@ -7,7 +7,7 @@ use Rattle.definition_text.specs.Lines.{ending_text}
 use Rattle.definition_inline.specs.Inline.{Inline, Data, Escape, Character, Code, Math, Autolink, Literal, Html, EscapedBreak, TrailingBreak, LineEnd, Emphasis, Strong, Strikethrough, Link, Image, Inlines, Nil, Cons}
 use Rattle.definition_block.specs.declared.align_kind.AlignKind.{AlignKind}
 use Rattle.definition_block.specs.declared.align_kind.AlignKind.TheVariants as align
-use Rattle.definition_block.specs.GfmTable.{Cell, cells, delimiters}
+use Rattle.definition_block.specs.GfmTable.{delimiters}
 use Rattle.definition_page.specs.Tags.{Words, Attribute, attribute, tag, bare_tag}
 use Rattle.definition_page.specs.Pieces.{Piece, Says, Fresh}
 use Rattle.definition_page.specs.InlinePieces.{Meaning, element, inline_pieces}
@@ -37,10 +37,6 @@ delimiter_line ls = line_at 1 ls
 
 abbrev pub body_lines : List BlockLine → List BlockLine
 body_lines ls = drop 2 ls
-
--- the cells of a line
-abbrev pub line_cells : BlockLine → List Cell
-line_cells line = cells line.before line.codes
 
 -- how the columns of a table are aligned, by its row of delimiters
 abbrev pub line_aligns : BlockLine → List AlignKind

@@ -11,3 +11,5 @@ pub mod Read
 pub mod BlockPieces
 pub mod DocumentPieces
 pub mod Html
+pub mod GfmLabelStartFootnote
+pub mod GfmFootnoteDefinition

@@ -4,8 +4,9 @@ use Rattle.markdown_options.specs.declared.line_ending.LineEnding.{LineEnding}
 use Rattle.definition_text.specs.BlockLines.{BlockLine}
 use Rattle.definition_inline.specs.Definition as link
 use Rattle.definition_inline.specs.Inline.{Inlines}
+use Rattle.definition_page.specs.GfmTable as table
 
--- A block, or the ending of a line between blocks: a paragraph, after a check that says whether its item is done, if it has one; a heading of a rank; a thematic break; indented code; fenced code with the text of its info, if it has one, and whether it was closed; an HTML block; a link reference definition; a block quote; a list with the number of its first item, if it is ordered, whether it is loose, and its items; an item; the ending of a block's last line; the ending of a blank line.
+-- A block, or the ending of a line between blocks: a paragraph, after a check that says whether its item is done, if it has one; a heading of a rank; a thematic break; indented code; fenced code with the text of its info, if it has one, and whether it was closed; an HTML block; a table; a link reference definition; a block quote; a list with the number of its first item, if it is ordered, whether it is loose, and its items; an item; a footnote definition with its label, as it is written; the ending of a block's last line; the ending of a blank line.
 mutual
   pub data Block : Type 0 where
     Paragraph : Option Bool → Inlines → Block
@@ -14,10 +15,12 @@ mutual
     IndentedCode : List BlockLine → Block
     FencedCode : Option (List ℕ) → Bool → List BlockLine → Block
     Html : List BlockLine → Block
+    Table : table.Table → Block
     Definition : Block
     Quote : Blocks → Block
     ItemList : Option ℕ → Bool → Blocks → Block
     Item : Blocks → Block
+    Footnote : List ℕ → Blocks → Block
     Ending : LineEnding → Block
     Blank : LineEnding → Block
 

@@ -11,13 +11,12 @@ use Rattle.definition_inline.specs.Inline.{Inlines}
 use Rattle.definition_inline.specs.GfmTaskListItem.{check_at, check_size}
 use Rattle.definition_inline.specs.Scan.{InlineContext, inlines, inlines_from, unindented}
 use Rattle.definition_inline.specs.Strings.{string_text}
-use Rattle.definition_block.specs.declared.container.Container.{Container}
-use Rattle.definition_block.specs.declared.container.Container.TheVariants.{Quote, Item}
+use Rattle.definition_block.specs.Container.{Container, Quote, Item, Footnote}
 use Rattle.definition_block.specs.Blocks as tree
 use Rattle.definition_block.specs.Tree.{is_ending, blocks}
 use Rattle.definition_block.specs.Lists.{grouped, is_loose}
-use Rattle.definition_block.specs.GfmTable.{Cell}
-use Rattle.definition_page.specs.GfmTable.{Table, TableRow, head_line, delimiter_line, body_lines, line_cells, line_aligns, in_cell}
+use Rattle.definition_block.specs.GfmTable.{Cell, line_cells}
+use Rattle.definition_page.specs.GfmTable.{Table, TableRow, head_line, delimiter_line, body_lines, line_aligns, in_cell}
 use Rattle.definition_page.specs.Targets.{document_definitions, is_label_of}
 use Rattle.definition_page.specs.TextTables.{TextTables}
 use Rattle.definition_page.specs.Page as page
@@ -110,6 +109,7 @@ after_code top is_closed bs = if top && not is_closed then without_ending bs els
 abbrev pub container_number : Container → Option ℕ
 container_number Quote = None
 container_number (Item item) = item.number
+container_number (Footnote label) = None
 
 -- the number of the first item of a list (CommonMark 5.3)
 abbrev pub list_number : tree.Blocks → Option ℕ
@@ -126,9 +126,11 @@ abbrev mutual
   read_block r standing (tree.FencedCode info is_closed ls) others =
       page.Cons (page.FencedCode (info_text r info) is_closed (code_lines standing.top is_closed ls)) (after_code standing.top is_closed others)
   read_block r standing (tree.Html ls) others = page.Cons (page.Html ls) others
+  read_block r standing (tree.Table ls) others = page.Cons (page.Table (read_table r ls)) others
   read_block r standing (tree.Definition label destination title) others = page.Cons page.Definition others
   read_block r standing (tree.Holds Quote kids) others = page.Cons (page.Quote (read_blocks r in_container kids)) others
   read_block r standing (tree.Holds (Item item) kids) others = page.Cons (page.Item (read_blocks r in_item kids)) others
+  read_block r standing (tree.Holds (Footnote label) kids) others = page.Cons (page.Footnote label (read_blocks r in_container kids)) others
   read_block r standing (tree.Items items) others = page.Cons (page.ItemList (list_number items) (is_loose items) (read_blocks r in_container items)) others
   read_block r standing (tree.Ending ending) others = cons_ending ending others
   read_block r standing (tree.Blank ending) others = cons_blank ending others

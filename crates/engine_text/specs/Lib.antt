@@ -4,5 +4,6 @@ pub mod Stops
 pub mod Slices
 pub mod Serialized
 pub mod Skips
+pub mod Bytes
 pub mod Characters
 pub mod Shown

@@ -3,6 +3,7 @@
 //! Offsets and indices are in bytes or in events; lines and columns count from 1.
 #![tactic(auto)]
 
+pub mod bytes;
 pub mod char;
 pub mod location;
 pub mod skip;

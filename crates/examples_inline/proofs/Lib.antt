@@ -4,6 +4,7 @@ mod CharacterReference
 mod CodeText
 mod MathText
 mod Attention
+mod GfmAutolinkLiteral
 mod GfmStrikethrough
 mod GfmTaskListItem
 mod LabelStartLink

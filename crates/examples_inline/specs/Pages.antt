@@ -89,6 +89,12 @@ with_strikethrough single_tilde = record default_options {
   };
 }
 
+-- default options with literals
+abbrev pub with_literals : Options
+with_literals = record default_options {
+  parse = record default_parse_options { constructs = record default_constructs { gfm_autolink_literal = true } };
+}
+
 -- default options with task list items, whose boxes can be changed or not
 abbrev pub with_tasks : Bool → Options
 with_tasks checkable = record default_options {

@@ -19,8 +19,7 @@ use Rattle.definition_inline.specs.Inline.{Inlines}
 use Rattle.definition_inline.specs.GfmTaskListItem.{check_at, check_size}
 use Rattle.definition_inline.specs.Scan.{inlines_from, unindented}
 use Rattle.definition_inline.specs.Definition.{Definition}
-use Rattle.definition_block.specs.declared.container.Container.{Container}
-use Rattle.definition_block.specs.declared.container.Container.TheVariants.{Quote, Item}
+use Rattle.definition_block.specs.Container.{Container, Quote, Item, Footnote}
 use Rattle.definition_block.specs.declared.container.Item.{Item as ItemOf}
 use Rattle.definition_block.specs.Blocks as tree
 use Rattle.definition_block.specs.Lists.{is_loose}
@@ -33,13 +32,14 @@ use Rattle.definition_page.specs.Pieces.{Piece, Open, Close, Void, Says, Eol, Fr
 use Rattle.definition_page.specs.InlinePieces.{Meaning, element, inline_pieces}
 use Rattle.definition_page.specs.InlinePieces as inline
 use Rattle.definition_page.specs.Page as page
-use Rattle.definition_page.specs.Read.{Reading, context_of, Standing, on_page, in_container, in_item, next_standing, text_content, read_text, checked_paragraph, read_paragraph, read_blocks, info_text, code_lines, without_ending, after_code, list_number}
+use Rattle.definition_page.specs.Read.{Reading, context_of, Standing, on_page, in_container, in_item, next_standing, text_content, read_text, checked_paragraph, read_paragraph, read_blocks, read_table, info_text, code_lines, without_ending, after_code, list_number}
 use Rattle.definition_page.specs.BlockPieces.{Place, says, checkable_attributes, done_attributes, check_tag, check_pieces, code_line, html_line, heading_name, info_attributes, start_attributes, list_tag, is_silent, last_shown, ends_plainly, fresh_unless, fenced_pieces, block_pieces, children_pieces}
 use Rattle.html_bytes.specs.RawHtml.{raw_html}
 use Rattle.html_bytes.specs.Document.{Document, document, meaning_of, text_of, checked_text, paragraph_of, info_of}
 use Rattle.html_bytes.specs.InlineHtml.{inline_html, check_html}
 use Rattle.html_bytes.specs.Pieces as bytes
 use Rattle.html_bytes.specs.Html as old
+use Rattle.html_bytes.proofs.SameTable.{table_same}
 use Rattle.html_bytes.proofs.SameText.{says_printed, element_printed, one_attribute, piece_meaning, raw_said, text_printed}
 
 -- ---- lines
@@ -339,8 +339,10 @@ module _ (default : List ℕ) (options : Options) (tables : TextTables) (ds : Li
   plain_same first tight before said (tree.Cons (tree.FencedCode info is_closed ls) bs) h =
       plain_same (first && false) tight (Some (page.FencedCode (info_text r info) is_closed (code_lines false is_closed ls))) (said && false) bs (and_false said)
   plain_same first tight before said (tree.Cons (tree.Html ls) bs) h = plain_same (first && false) tight (Some (page.Html ls)) (said && false) bs (and_false said)
+  plain_same first tight before said (tree.Cons (tree.Table ls) bs) h = plain_same (first && false) tight (Some (page.Table (read_table r ls))) (said && false) bs (and_false said)
   plain_same first tight before said (tree.Cons (tree.Holds Quote kids) bs) h = plain_same (first && false) tight (Some (page.Quote (read_blocks r in_container kids))) (said && false) bs (and_false said)
   plain_same first tight before said (tree.Cons (tree.Holds (Item item) kids) bs) h = plain_same (first && false) tight (Some (page.Item (read_blocks r in_item kids))) (said && false) bs (and_false said)
+  plain_same first tight before said (tree.Cons (tree.Holds (Footnote label) kids) bs) h = plain_same (first && false) tight before said bs h
   plain_same first tight before said (tree.Cons (tree.Items items) bs) h =
       plain_same (first && false) tight (Some (page.ItemList (list_number items) (is_loose items) (read_blocks r in_container items))) (said && false) bs (and_false said)
   plain_same first tight before said (tree.Cons (tree.Ending None) bs) h = plain_same (first && true) tight before (said && true) bs (h ∙ and_true said)
@@ -481,6 +483,13 @@ module _ (default : List ℕ) (options : Options) (tables : TextTables) (ds : Li
       (λ o. html_printed default options.compile ls (bytes.print default o bytes.Fresh))
       ((twice (next_standing s (tree.Html ls)) tight bs).0 false (Some (page.Html ls)) refl) out in
       each_twice s tight (tree.Html ls) bs each (λ before h out. each true before out)
+  twice s tight (tree.Cons (tree.Table ls) bs) =
+      let each : EachSame s tight (tree.Cons (tree.Table ls) bs) = λ silent before out.
+      siblings default m (record { top = s.top; tight = tight }) before (page.Table (read_table r ls)) (read_blocks r (next_standing s (tree.Table ls)) bs)
+      (old.block_pieces d s tight silent (tree.Table ls)) (old.children_pieces d (next_standing s (tree.Table ls)) tight false bs)
+      (table_same default options tables ds ls)
+      ((twice (next_standing s (tree.Table ls)) tight bs).0 false (Some (page.Table (read_table r ls))) refl) out in
+      each_twice s tight (tree.Table ls) bs each (λ before h out. each true before out)
   twice s tight (tree.Cons (tree.Definition label destination title) bs) =
       let each : EachSame s tight (tree.Cons (tree.Definition label destination title) bs) = λ silent before out.
       siblings default m (record { top = s.top; tight = tight }) before (page.Definition) (read_blocks r (next_standing s (tree.Definition label destination title)) bs)
@@ -502,6 +511,15 @@ module _ (default : List ℕ) (options : Options) (tables : TextTables) (ds : Li
       (item_same s tight silent before item kids ((twice in_item tight kids).0 false None refl))
       ((twice (next_standing s (tree.Holds (Item item) kids)) tight bs).0 false (Some (page.Item (read_blocks r in_item kids))) refl) out in
       each_twice s tight (tree.Holds (Item item) kids) bs each (λ before h out. each true before out)
+  twice s tight (tree.Cons (tree.Holds (Footnote label) kids) bs) =
+      let b = tree.Holds (Footnote label) kids in
+      let shown = page.Footnote label (read_blocks r in_container kids) in
+      let each : EachSame s tight (tree.Cons b bs) = λ silent before out.
+      siblings default m (record { top = s.top; tight = tight }) before shown (read_blocks r (next_standing s b) bs)
+      (old.block_pieces d s tight silent b) (old.children_pieces d (next_standing s b) tight true bs)
+      (λ o. refl)
+      ((twice (next_standing s b) tight bs).0 true (Some shown) refl) out in
+      each_twice s tight b bs each (λ before h out. each true before out)
   twice s tight (tree.Cons (tree.Items items) bs) =
       let each : EachSame s tight (tree.Cons (tree.Items items) bs) = λ silent before out.
       siblings default m (record { top = s.top; tight = tight }) before (page.ItemList (list_number items) (is_loose items) (read_blocks r in_container items)) (read_blocks r (next_standing s (tree.Items items)) bs)

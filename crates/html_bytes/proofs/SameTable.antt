@@ -13,14 +13,14 @@ use Rattle.definition_inline.specs.Definition.{Definition}
 use Rattle.definition_inline.specs.Inline as inline
 use Rattle.definition_block.specs.declared.align_kind.AlignKind.{AlignKind}
 use Rattle.definition_block.specs.declared.align_kind.AlignKind.TheVariants as align
-use Rattle.definition_block.specs.GfmTable.{Cell}
+use Rattle.definition_block.specs.GfmTable.{Cell, line_cells}
 use Rattle.definition_page.specs.Targets.{is_label_of, linked_by}
 use Rattle.definition_page.specs.TextTables.{TextTables}
 use Rattle.definition_page.specs.Tags.{Tag, tag, bare_tag, start_tag, end_tag}
 use Rattle.definition_page.specs.Pieces.{Piece, Close, Fresh, print}
 use Rattle.definition_page.specs.InlinePieces.{Meaning, element, inline_pieces}
 use Rattle.definition_page.specs.Read.{Reading, read_cell, read_row, read_table}
-use Rattle.definition_page.specs.GfmTable.{head_line, delimiter_line, body_lines, line_cells, line_aligns, align_attributes, cell_pieces, cells_pieces, row_pieces, ending_piece, body_row_pieces, head_pieces, body_pieces, table_pieces}
+use Rattle.definition_page.specs.GfmTable.{head_line, delimiter_line, body_lines, line_aligns, align_attributes, cell_pieces, cells_pieces, row_pieces, ending_piece, body_row_pieces, head_pieces, body_pieces, table_pieces}
 use Rattle.html_bytes.specs.Document.{Document, document, cell_of}
 use Rattle.html_bytes.specs.Pieces as bytes
 use Rattle.html_bytes.specs.GfmTable as old
@@ -40,19 +40,19 @@ end_said (Some ending) = ending_said ending
 -- ---- pieces that print the same
 
 module _ (default : List ℕ) where
-  abbrev Same : List Piece → List bytes.Piece → Type 0
+  abbrev pub Same : List Piece → List bytes.Piece → Type 0
   Same ps bs = (out : List ℕ) → fold (print default) out ps ≡ fold (bytes.print default) out bs
 
-  joined : (ps qs : List Piece) (bs cs : List bytes.Piece) → Same ps bs → Same qs cs → Same (ps ++ qs) (bs ++ cs)
+  pub joined : (ps qs : List Piece) (bs cs : List bytes.Piece) → Same ps bs → Same qs cs → Same (ps ++ qs) (bs ++ cs)
   joined ps qs bs cs h k out =
       fold-append (print default) out ps qs ∙ ap (λ x. fold (print default) x qs) (h out) ∙ k (fold (bytes.print default) out bs)
       ∙ sym (fold-append (bytes.print default) out bs cs)
 
-  after_fresh : (ps : List Piece) (bs : List bytes.Piece) → Same ps bs → Same (Fresh ∷ ps) (bytes.Fresh ∷ bs)
+  pub after_fresh : (ps : List Piece) (bs : List bytes.Piece) → Same ps bs → Same (Fresh ∷ ps) (bytes.Fresh ∷ bs)
   after_fresh ps bs h out = h (bytes.print default out bytes.Fresh)
 
   -- an element
-  element_same : (t : Tag) (start end : List ℕ) (ps : List Piece) (bs : List bytes.Piece) → start_tag t ≡ start → end_tag t.name ≡ end → Same ps bs
+  pub element_same : (t : Tag) (start end : List ℕ) (ps : List Piece) (bs : List bytes.Piece) → start_tag t ≡ start → end_tag t.name ≡ end → Same ps bs
       → Same (element t ps) (bytes.Bytes start ∷ (bs ++ bytes.Bytes end ∷ []))
   element_same t start end ps bs e f h out =
       fold-append (print default) (out ++ start_tag t) ps (Close t.name ∷ [])
@@ -62,7 +62,7 @@ module _ (default : List ℕ) where
       ∙ sym (fold-append (bytes.print default) (out ++ start) bs (bytes.Bytes end ∷ []))
 
   -- one with more pieces at its end
-  element_with : (t : Tag) (start end : List ℕ) (ps last : List Piece) (bs end_bytes : List bytes.Piece) → start_tag t ≡ start → end_tag t.name ≡ end
+  pub element_with : (t : Tag) (start end : List ℕ) (ps last : List Piece) (bs end_bytes : List bytes.Piece) → start_tag t ≡ start → end_tag t.name ≡ end
       → Same ps bs → Same last end_bytes → Same (element t (ps ++ last)) (bytes.Bytes start ∷ (bs ++ (end_bytes ++ bytes.Bytes end ∷ [])))
   element_with t start end ps last bs end_bytes e f h k out =
       element_same t start end (ps ++ last) (bs ++ end_bytes) e f (joined ps last bs end_bytes h k) out

@@ -6,8 +6,8 @@ use Rattle.definition_text.specs.BlockLines.{BlockLine}
 use Rattle.definition_text.specs.Lines.{ending_text}
 use Rattle.definition_block.specs.declared.align_kind.AlignKind.{AlignKind}
 use Rattle.definition_block.specs.declared.align_kind.AlignKind.TheVariants as align
-use Rattle.definition_block.specs.GfmTable.{Cell}
-use Rattle.definition_page.specs.GfmTable.{head_line, delimiter_line, body_lines, line_cells, line_aligns}
+use Rattle.definition_block.specs.GfmTable.{Cell, line_cells}
+use Rattle.definition_page.specs.GfmTable.{head_line, delimiter_line, body_lines, line_aligns}
 use Rattle.html_bytes.specs.Document.{Document, cell_of}
 use Rattle.html_bytes.specs.Pieces.{Piece, Bytes, Fresh}
 

@@ -6,19 +6,20 @@ use Rattle.markdown_options.specs.declared.line_ending.LineEnding.{LineEnding}
 use Rattle.markdown_options.specs.declared.configuration.CompileOptions.{CompileOptions}
 use Rattle.markdown_options.specs.declared.configuration.Options.{Options}
 use Rattle.markdown_options.specs.LineEndings.{ending_bytes}
-use Rattle.definition_block.specs.declared.container.Container.TheVariants.{Quote, Item}
+use Rattle.definition_block.specs.Container.{Quote, Item, Footnote}
 use Rattle.definition_text.specs.declared.beside.Kind.{Kind}
 use Rattle.definition_text.specs.Lines.{ending_text, first_line}
 use Rattle.definition_text.specs.Columns.{code_byte, bytes_of}
 use Rattle.definition_text.specs.Encode.{encode}
 use Rattle.html_bytes.specs.RawHtml.{raw_html}
 use Rattle.definition_text.specs.BlockLines.{BlockLine, own_lines}
-use Rattle.definition_block.specs.Tree.{Block, Paragraph, Heading, Break, IndentedCode, FencedCode, Html, Definition, Holds, Items, Ending, Blank, Blocks, Nil, Cons, is_ending, blocks}
+use Rattle.definition_block.specs.Tree.{Block, Paragraph, Heading, Break, IndentedCode, FencedCode, Html, Table, Definition, Holds, Items, Ending, Blank, Blocks, Nil, Cons, is_ending, blocks}
 use Rattle.definition_block.specs.Lists.{grouped, is_loose}
 use Rattle.definition_page.specs.Targets.{document_definitions}
 use Rattle.definition_page.specs.TextTables.{TextTables}
 use Rattle.definition_page.specs.Read.{Standing, on_page, in_container, in_item, next_standing, list_number, ends_blank}
 use Rattle.html_bytes.specs.Document.{Document, document, text_of, paragraph_of, info_of}
+use Rattle.html_bytes.specs.GfmTable.{table_pieces}
 use Rattle.html_bytes.specs.Pieces.{Piece, Bytes, Eol, Fresh, layout}
 
 -- ---- lines
@@ -76,11 +77,12 @@ fenced_content top closed (line ∷ others) = fenced_lines top closed (line ∷ 
 abbrev pub fresh_unless : Bool → List Piece
 fresh_unless said = if said then [] else Fresh ∷ []
 
--- whether the ending after this child prints nothing: after a tight paragraph, after fenced code at the top that isn't closed, and after a definition; an ending that isn't there changes nothing
+-- whether the ending after this child prints nothing: after a tight paragraph, after fenced code at the top that isn't closed, and after a definition of a link or a footnote; an ending that isn't there changes nothing
 abbrev pub silences : Bool → Bool → Bool → Block → Bool
 silences top tight silent (Paragraph ls) = tight
 silences top tight silent (FencedCode info closed ls) = top && not closed
 silences top tight silent (Definition label destination title) = true
+silences top tight silent (Holds (Footnote label) kids) = true
 silences top tight silent (Ending None) = silent
 silences top tight silent (Blank None) = silent
 silences top tight silent b = false
@@ -90,6 +92,7 @@ abbrev pub ends_tight : Bool → Bool → Blocks → Bool
 ends_tight tight before Nil = before
 ends_tight tight before (Cons (Paragraph ls) bs) = ends_tight tight tight bs
 ends_tight tight before (Cons (Definition label destination title) bs) = ends_tight tight before bs
+ends_tight tight before (Cons (Holds (Footnote label) kids) bs) = ends_tight tight before bs
 ends_tight tight before (Cons b bs) = ends_tight tight (before && is_ending b) bs
 
 abbrev mutual
@@ -107,11 +110,13 @@ abbrev mutual
       Fresh ∷ Bytes (codes "<pre><code" ++ class_of d info ++ codes ">") ∷ fenced_content standing.top closed ls
       ++ Bytes (codes "</code></pre>") ∷ fresh_unless closed
   block_pieces d standing tight silent (Html ls) = Fresh ∷ Bytes (html_of d.options.compile ls) ∷ []
+  block_pieces d standing tight silent (Table ls) = table_pieces d ls
   block_pieces d standing tight silent (Definition label destination title) = []
   block_pieces d standing tight silent (Holds Quote kids) =
       Fresh ∷ Bytes (codes "<blockquote>") ∷ children_pieces d in_container false false kids ++ Fresh ∷ Bytes (codes "</blockquote>") ∷ []
   block_pieces d standing tight silent (Holds (Item item) kids) =
       Fresh ∷ Bytes (codes "<li>") ∷ children_pieces d in_item tight false kids ++ fresh_unless (ends_tight tight true kids) ++ Bytes (codes "</li>") ∷ []
+  block_pieces d standing tight silent (Holds (Footnote label) kids) = []
   block_pieces d standing tight silent (Items items) =
       Fresh ∷ Bytes (number_tag (list_number items)) ∷ children_pieces d in_container (not (is_loose items)) false items
       ++ Eol ∷ Bytes (number_end (list_number items)) ∷ []

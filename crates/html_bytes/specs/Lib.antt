@@ -5,3 +5,5 @@ pub mod Meaning
 pub mod Document
 pub mod GfmTable
 pub mod Html
+pub mod GfmLabelStartFootnote
+pub mod GfmFootnoteDefinition

@@ -4,13 +4,16 @@ ghost use Rattle.inline_content.specs.Buffers.{buffer_view};
 
 use html_inline::Scratch;
 use inline_content::ContentBuffer;
+use inline_parser::Room;
 use std::alloc::{AllocError, Allocator};
 
 /// Buffers that are used again for each text.
 #[derive(Drop)]
 pub struct TextBuffers<A: Allocator + Clone> {
-    /// What rows are allocated by.
-    pub(crate) alloc: A,
+    /// What the columns of tables are allocated by.
+    pub alloc: A,
+    /// Room for what is read.
+    pub(crate) room: Room<A>,
     /// The content of lines that are put together.
     pub(crate) content: ContentBuffer<A>,
     /// Room for what is printed.
@@ -28,6 +31,7 @@ impl<A: Allocator + Clone> TextBuffers<A> {
         Ok(TextBuffers {
             content: ContentBuffer::new(alloc.clone()?)?,
             scratch: Scratch::new(alloc.clone()?)?,
+            room: Room::new(alloc.clone()?)?,
             alloc,
         })
     }

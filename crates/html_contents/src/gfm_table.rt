@@ -26,10 +26,9 @@ impl<'a, T: Tables, A: Allocator + Clone> Texts<'a, T, A> {
         ensures { (ds : List Definition) → HasDefinitions self.now.labels.now self.now.links.now ds → HaveNoEnding (piece_line cell.now.line).codes →
             OnOk result (string_bytes out.new ≡ string_bytes out.old ++ cell_of (document_by T.Tables self.now ds) (cell_view cell.now)) }
     {
-        let alloc = buffers.alloc.clone()?;
         let lines = [cell.line];
         buffers.content.join(&lines)?;
         let content = buffers.content.content(cell.after);
-        self.push_content(out, &mut buffers.scratch, alloc, true, content)
+        self.push_content(out, &mut buffers.scratch, &mut buffers.room, true, content)
     }
 }

@@ -11,7 +11,7 @@ use crate::texts::Texts;
 use html_inline::{Scratch, push_check};
 use inline_content::Content;
 use inline_leaves::gfm_task_list_item::check_at;
-use inline_parser::content_start;
+use inline_parser::{Room, content_start};
 use markdown_options::Tables;
 use std::alloc::{AllocError, Allocator};
 
@@ -24,7 +24,7 @@ impl<'a, T: Tables, A: Allocator + Clone> Texts<'a, T, A> {
         &self,
         out: &mut String<A>,
         scratch: &mut Scratch<A>,
-        alloc: A,
+        room: &mut Room<A>,
         first: bool,
         content: Content<'_>,
     ) -> Result<(), AllocError>
@@ -36,10 +36,10 @@ impl<'a, T: Tables, A: Allocator + Clone> Texts<'a, T, A> {
     {
         let start = content_start(content);
         match check_at(&self.options.parse.constructs, first, start) {
-            None => self.push_from(out, scratch, alloc, false, content, start),
+            None => self.push_from(out, scratch, room, false, content, start),
             Some(check) => {
                 push_check(out, &self.options.compile, check.done)?;
-                self.push_from(out, scratch, alloc, false, content, check.after)
+                self.push_from(out, scratch, room, false, content, check.after)
             }
         }
     }

@@ -18,7 +18,7 @@ use definition_text::Kind;
 use html_inline::{Printing, Scratch, push_encoded_string, push_rows};
 use inline_content::{Content, whole_content};
 use inline_labels::LabelTable;
-use inline_parser::{content_start, inline_rows};
+use inline_parser::{Room, content_start, inline_rows};
 use inline_rows::Linked;
 use markdown_options::{Options, Tables};
 use std::alloc::{AllocError, Allocator};
@@ -47,10 +47,9 @@ impl<'a, T: Tables, A: Allocator + Clone> Texts<'a, T, A> {
         ensures { (ds : List Definition) → HasDefinitions self.now.labels.now self.now.links.now ds → AreLines (piece_lines lines.now) →
             OnOk result (string_bytes out.new ≡ string_bytes out.old ++ text_of (document_by T.Tables self.now ds) (own_lines (piece_lines lines.now))) }
     {
-        let alloc = buffers.alloc.clone()?;
         buffers.content.join(lines)?;
         let content = buffers.content.content(Kind::Whitespace);
-        self.push_content(out, &mut buffers.scratch, alloc, false, content)
+        self.push_content(out, &mut buffers.scratch, &mut buffers.room, false, content)
     }
 
     /// Prints the text of a paragraph's lines, without the last ending. It has a check where it is
@@ -66,10 +65,9 @@ impl<'a, T: Tables, A: Allocator + Clone> Texts<'a, T, A> {
             let text = paragraph_of (document_by T.Tables self.now ds) first (own_lines (piece_lines lines.now)) in
             OnOk result (string_bytes out.new ≡ string_bytes out.old ++ text) }
     {
-        let alloc = buffers.alloc.clone()?;
         buffers.content.join(lines)?;
         let content = buffers.content.content(Kind::Whitespace);
-        self.push_checked(out, &mut buffers.scratch, alloc, first, content)
+        self.push_checked(out, &mut buffers.scratch, &mut buffers.room, first, content)
     }
 
     /// Prints the text of one line, which may be empty, without its ending (CommonMark 4.2).
@@ -82,11 +80,10 @@ impl<'a, T: Tables, A: Allocator + Clone> Texts<'a, T, A> {
         ensures { (ds : List Definition) → HasDefinitions self.now.labels.now self.now.links.now ds → HaveNoEnding (piece_line line.now).codes →
             OnOk result (string_bytes out.new ≡ string_bytes out.old ++ text_of (document_by T.Tables self.now ds) (own_lines (piece_line line.now ∷ []))) }
     {
-        let alloc = buffers.alloc.clone()?;
         let lines = [*line];
         buffers.content.join(&lines)?;
         let content = buffers.content.content(Kind::Whitespace);
-        self.push_content(out, &mut buffers.scratch, alloc, false, content)
+        self.push_content(out, &mut buffers.scratch, &mut buffers.room, false, content)
     }
 
     /// Prints a paragraph of the first lines of a text, so many, without the last ending (CommonMark
@@ -103,9 +100,8 @@ impl<'a, T: Tables, A: Allocator + Clone> Texts<'a, T, A> {
             let said = paragraph_of (document_by T.Tables self.now ds) first (own_lines (whole_lines count text.now)) in
             OnOk result (string_bytes out.new ≡ string_bytes out.old ++ said) }
     {
-        let alloc = buffers.alloc.clone()?;
         let content = whole_content(count, text);
-        self.push_checked(out, &mut buffers.scratch, alloc, first, content)
+        self.push_checked(out, &mut buffers.scratch, &mut buffers.room, first, content)
     }
 
     /// Prints what an info string, which has no line ending, stands for (CommonMark 4.5).
@@ -121,7 +117,7 @@ impl<'a, T: Tables, A: Allocator + Clone> Texts<'a, T, A> {
         &self,
         out: &mut String<A>,
         scratch: &mut Scratch<A>,
-        alloc: A,
+        room: &mut Room<A>,
         cell: bool,
         content: Content<'_>,
     ) -> Result<(), AllocError>
@@ -130,7 +126,7 @@ impl<'a, T: Tables, A: Allocator + Clone> Texts<'a, T, A> {
             let structure = inlines (context_of d) (content_view (T.punctuation_of self.now.tables.now) content.entry) in
             OnOk result (string_bytes out.new ≡ string_bytes out.old ++ inline_html (meaning_of d) (shown cell structure)) }
     {
-        self.push_from(out, scratch, alloc, cell, content, content_start(content))
+        self.push_from(out, scratch, room, cell, content, content_start(content))
     }
 
     /// Prints the inline structure of a content from a place on.
@@ -138,7 +134,7 @@ impl<'a, T: Tables, A: Allocator + Clone> Texts<'a, T, A> {
         &self,
         out: &mut String<A>,
         scratch: &mut Scratch<A>,
-        alloc: A,
+        room: &mut Room<A>,
         cell: bool,
         content: Content<'c>,
         start: &'c str,
@@ -150,7 +146,7 @@ impl<'a, T: Tables, A: Allocator + Clone> Texts<'a, T, A> {
             OnOk result (string_bytes out.new ≡ string_bytes out.old ++ inline_html (meaning_of d) (shown cell structure)) }
     {
         let parse = &self.options.parse;
-        let rows = inline_rows(alloc, parse, self.tables, self.labels, content, start)?;
+        let rows = inline_rows(room, parse, self.tables, self.labels, content, start)?;
         let printing = Printing {
             on: &parse.constructs,
             compile: &self.options.compile,

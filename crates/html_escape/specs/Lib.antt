@@ -1,3 +1,4 @@
 pub mod Replaced
 pub mod Tools
 pub mod Laws
+pub mod Prints

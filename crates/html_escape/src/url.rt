@@ -16,6 +16,16 @@ ghost use Rattle.html_escape.specs.Tools.{is_plain_byte, url_byte};
 use markdown_options::Message;
 use percent_encoding::percent_encode_byte;
 use std::alloc::{AllocError, Allocator};
+use text_search::{ByteClass, run_of};
+
+/// The bytes that are printed as they are, whatever follows them. The bits are of the
+/// upper halves from 2 to 7.
+const PLAIN: ByteClass = ByteClass {
+    lower: [
+        46, 63, 62, 63, 63, 62, 62, 63, 63, 63, 63, 23, 21, 23, 53, 31,
+    ],
+    upper: [0, 0, 1, 2, 4, 8, 16, 32, 0, 0, 0, 0, 0, 0, 0, 0],
+};
 
 /// A URL as it is printed, whatever its protocol.
 pub fn sanitize<A: Allocator>(alloc: A, value: &str) -> Result<String<A>, Message>
@@ -132,7 +142,7 @@ pub fn push_sanitized<A: Allocator>(out: &mut String<A>, url: &str) -> Result<()
     push_slice(out, url, start, bytes.len())
 }
 
-/// The place after the bytes from a place on that are printed as they are, whatever follows them.
+/// The place after such bytes from a place on.
 fn after_plain(bytes: &[u8], at: usize) -> usize
     requires { at ≤ length bytes.now }
     ensures end { result ≡ at + prefix_len is_plain_byte (drop at bytes.now) }
@@ -146,13 +156,7 @@ fn plain_size(bytes: &[u8]) -> usize
     ensures size { result ≡ prefix_len is_plain_byte bytes.now }
     ensures within { result ≤ length bytes.now }
 {
-    bytes.iter().take_while(|b| is_plain_byte(**b)).count()
-}
-
-fn is_plain_byte(byte: u8) -> bool
-    ensures { result ≡ is_plain_byte byte }
-{
-    is_url_byte(byte) && byte != b'&'
+    run_of(bytes, PLAIN)
 }
 
 /// Prints a part of a text, which may be cut at both ends unless the part is empty.

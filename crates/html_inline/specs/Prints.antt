@@ -1,13 +1,10 @@
 -- What a printer adds to a text, and what it prints by.
-use Rattle.std.specs.Prelude.{◌≡◌, ◌++◌, ℕ, List, OnOk, Option, Result, String, string_bytes}
+use Rattle.std.specs.Prelude.{ℕ, List, Option}
 use Rattle.definition_inline.specs.Inline.{Linked}
 use Rattle.html_bytes.specs.InlineHtml.{InlineMeaning}
 use Rattle.html_bytes.specs.Meaning.{inline_meaning}
+pub use Rattle.html_escape.specs.Prints.{Prints}
 use Rattle.html_inline.specs.declared.printing.Printing.{Printing}
-
--- these bytes and no others are added, unless memory ran out
-abbrev pub Prints : {A B C : Type 0} → Result B C → String A → String A → List ℕ → Type 0
-Prints result old new bytes = OnOk result (string_bytes new ≡ string_bytes old ++ bytes)
 
 -- where each label leads that is defined
 abbrev pub Definitions : Type 0

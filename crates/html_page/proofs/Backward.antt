@@ -32,10 +32,12 @@ same_without_lines p (row.IndentedCode count) ls = refl
 same_without_lines p (row.FencedCode count) ls = refl
 same_without_lines p (row.UnclosedCode count) ls = refl
 same_without_lines p (row.Html count) ls = refl
+same_without_lines p (row.Table count) ls = refl
 same_without_lines p (row.Definition count) ls =
     ap (λ ending. pass_at (before_if ending p.ahead) p.outer p.places) (no_ending (definition_on (take count ls)) ∙ sym (no_ending (definition_on (take count []))))
 same_without_lines p row.EnterQuote ls = refl
 same_without_lines p (row.EnterItem marker number) ls = refl
+same_without_lines p row.EnterFootnote ls = refl
 same_without_lines p row.Exit ls = refl
 same_without_lines p (row.Ending ending) ls = refl
 same_without_lines p (row.Blank ending) ls = refl
@@ -62,9 +64,11 @@ same_places p (row.IndentedCode count) ls h = refl
 same_places p (row.FencedCode count) ls h = refl
 same_places p (row.UnclosedCode count) ls h = refl
 same_places p (row.Html count) ls h = refl
+same_places p (row.Table count) ls h = refl
 same_places p (row.Definition count) ls h = refl
 same_places p row.EnterQuote ls h = refl
 same_places p (row.EnterItem marker number) ls h = let wrong : true ≡ false = h in cc
+same_places p row.EnterFootnote ls h = refl
 same_places p row.Exit ls h = refl
 same_places p (row.Ending ending) ls h = refl
 same_places p (row.Blank ending) ls h = refl

@@ -1,11 +1,11 @@
 -- What the rows of blocks print, in each container and list.
-use Rattle.std.proofs.Common.{◌≡◌, ℕ, ◌≤◌, Bool, true, false, not, ◌==◌, List, [], ◌∷◌, ◌++◌, Option, refl, sym, ap, ◌∙◌, subst, append_assoc, codes, None, Some}
+use Rattle.std.proofs.Common.{◌≡◌, ℕ, suc, ◌+◌, ◌≤◌, Bool, true, false, not, ◌==◌, List, [], ◌∷◌, ◌++◌, Option, refl, sym, ap, ◌∙◌, subst, append_assoc, arith, codes, None, Some}
 use Rattle.std.specs.List.{fold}
 use Rattle.std.proofs.lemmas.Bool.{eqb-true}
 use Rattle.std.proofs.lemmas.List.Sums.{fold-append}
 use Rattle.definition_block.specs.declared.container.Item.{Item as ItemOf}
-use Rattle.definition_block.specs.declared.container.Container.TheVariants.{Quote, Item}
-use Rattle.definition_block.specs.Tree.{Block, Paragraph, Heading, Break, IndentedCode, FencedCode, Html, Definition, Holds, Items, Ending, Blank, Blocks, Nil, Cons}
+use Rattle.definition_block.specs.Container.{Container, Quote, Item, Footnote}
+use Rattle.definition_block.specs.Tree.{Block, Paragraph, Heading, Break, IndentedCode, FencedCode, Html, Table, Definition, Holds, Items, Ending, Blank, Blocks, Nil, Cons}
 use Rattle.definition_block.specs.Lists.{after_endings, has_gap, is_loose, list_marker, before, grouped, grouped_block}
 use Rattle.html_bytes.specs.Pieces.{Piece, Bytes, Eol, Fresh, print}
 use Rattle.html_bytes.specs.Document.{Document}
@@ -19,8 +19,8 @@ use Rattle.html_page.specs.declared.loose.Place.{Place}
 use Rattle.html_page.specs.declared.loose.Ahead.{Ahead}
 use Rattle.html_page.specs.Printable.{IsPrintable, CanBePrinted}
 use Rattle.html_page.specs.Loose.{place_at}
-use Rattle.html_page.specs.Levels.{standing_of, is_list, level_of, new_level, after_block, level_after}
-use Rattle.html_page.specs.PrinterView.{PrinterView, printer_at, in_list, start_item, exit_of, leave_list_if, print_row, print_all, more}
+use Rattle.html_page.specs.Levels.{standing_of, is_list, level_of, new_level, after_block, after_footnote, level_after}
+use Rattle.html_page.specs.PrinterView.{PrinterView, printer_in, printer_at, in_list, start_item, exit_of, leave_list_if, print_row, print_all, more}
 use Rattle.html_page.proofs.Ahead.{ahead_of, ahead_of_item, before_item_is, list_ahead, after_list, on_list, off_list, no_marker}
 use Rattle.html_page.proofs.Places.{places_in, places_within}
 use Rattle.html_page.proofs.Past.{level_past, past_kind, past_plain}
@@ -140,6 +140,67 @@ module _ (d : Document) (default : List ℕ) where
       ∙ children (after_block l) (lay (lay out start) (body ++ end)) outer places no_list
       ∙ ap (λ x. printer_at x (level_past (after_block l) (grouped bs)) outer places) (lay_more out (start ++ (body ++ end)) (at_level (after_block l) (grouped bs)))
 
+  -- ---- footnote definitions, in which nothing is printed
+
+  -- in one
+  abbrev RowsHidden : Blocks → Type 0
+  RowsHidden kids = (left : ℕ) (l : Level) (out : List ℕ) (outer : List Level) (places : List Place)
+      → print_all d default (printer_in (suc left) out l outer (places_within kids ++ places)) (rows_of kids) ≡ printer_in (suc left) out l outer places
+
+  abbrev BlockHidden : Block → Type 0
+  BlockHidden b = (gs : Blocks) (left : ℕ) (l : Level) (out : List ℕ) (outer : List Level) (places : List Place)
+      → print_all d default (printer_in (suc left) out l outer (places_in b gs ++ places)) (block_rows b) ≡ printer_in (suc left) out l outer places
+
+  -- up to the end of a container
+  exit_hidden : (kids : Blocks) → RowsHidden kids → (left : ℕ) (l : Level) (out : List ℕ) (outer : List Level) (places : List Place)
+      → print_all d default (printer_in (suc left) out l outer (places_within kids ++ places)) (rows_of kids ++ Exit ∷ []) ≡ printer_in left out l outer places
+  exit_hidden kids k left l out outer places =
+      fold-append (print_row d default) (printer_in (suc left) out l outer (places_within kids ++ places)) (rows_of kids) (Exit ∷ [])
+      ∙ ap (λ (p : PrinterView). print_row d default p Exit) (k left l out outer places)
+
+  holds_hidden : (c : Container) (kids : Blocks) → RowsHidden kids → BlockHidden (Holds c kids)
+  holds_hidden Quote kids k gs left l out outer places =
+      let e : suc left + 1 ≡ suc (suc left) = omega arith in
+      ap (λ m. print_all d default (printer_in m out l outer (places_within kids ++ places)) (rows_of kids ++ Exit ∷ [])) e ∙ exit_hidden kids k (suc left) l out outer places
+  holds_hidden (Item item) kids k gs left l out outer places =
+      let e : suc left + 1 ≡ suc (suc left) = omega arith in
+      ap (λ m. print_all d default (printer_in m out l outer (places_within kids ++ places)) (rows_of kids ++ Exit ∷ [])) e ∙ exit_hidden kids k (suc left) l out outer places
+  holds_hidden (Footnote label) kids k gs left l out outer places =
+      let e : suc left + 1 ≡ suc (suc left) = omega arith in
+      ap (λ m. print_all d default (printer_in m out l outer (places_within kids ++ places)) (rows_of kids ++ Exit ∷ [])) e ∙ exit_hidden kids k (suc left) l out outer places
+
+  more_hidden : (b : Block) (bs : Blocks) → BlockHidden b → RowsHidden bs → RowsHidden (Cons b bs)
+  more_hidden b bs h k left l out outer places =
+      ap (λ ps. print_all d default (printer_in (suc left) out l outer ps) (rows_of (Cons b bs))) (append_assoc (places_in b (grouped bs)) (places_within bs) places)
+      ∙ fold-append (print_row d default) (printer_in (suc left) out l outer (places_in b (grouped bs) ++ (places_within bs ++ places))) (block_rows b) (rows_of bs)
+      ∙ ap (λ (p : PrinterView). print_all d default p (rows_of bs)) (h (grouped bs) left l out outer (places_within bs ++ places))
+      ∙ k left l out outer places
+
+  mutual
+    block_hidden : (b : Block) → IsPrintable b → BlockHidden b
+    block_hidden (Paragraph ls) h gs left l out outer places = refl
+    block_hidden (Heading rank ls) h gs left l out outer places = refl
+    block_hidden Break h gs left l out outer places = refl
+    block_hidden (IndentedCode ls) h gs left l out outer places = refl
+    block_hidden (FencedCode info closed ls) h gs left l out outer places = refl
+    block_hidden (Html ls) h gs left l out outer places = refl
+    block_hidden (Table ls) h gs left l out outer places = refl
+    block_hidden (Definition label destination title) h gs left l out outer places = refl
+    block_hidden (Holds c kids) h gs left l out outer places = holds_hidden c kids (rows_hidden kids h.1) gs left l out outer places
+    block_hidden (Items items) h gs left l out outer places = absurd h
+    block_hidden (Ending ending) h gs left l out outer places = refl
+    block_hidden (Blank ending) h gs left l out outer places = refl
+
+    rows_hidden : (bs : Blocks) → CanBePrinted bs → RowsHidden bs
+    rows_hidden Nil h left l out outer places = refl
+    rows_hidden (Cons b bs) h left l out outer places = more_hidden b bs (block_hidden b h.0) (rows_hidden bs h.1) left l out outer places
+
+  footnote_step : (label : List ℕ) (kids bs : Blocks) → CanBePrinted kids → ChildrenPrinted bs → StepPrinted (Holds (Footnote label) kids) bs
+  footnote_step label kids bs h children l out outer places no_list =
+      let left = places_within bs ++ places in
+      ap (λ (p : PrinterView). print_all d default p (rows_of bs)) (exit_hidden kids (rows_hidden kids h) 0 (after_footnote l) out outer left)
+      ∙ children (after_footnote l) out outer places no_list
+
   -- the list that an item starts, if none is open
   list_started : (item : ItemOf) (kids : Blocks) (place : Place) (l : Level) (out : List ℕ) (outer : List Level) (places : List Place) → is_list l.holder ≡ false
       → print_all d default (printer_at out l outer (place ∷ places)) (block_rows (Holds (Item item) kids))
@@ -231,9 +292,11 @@ module _ (d : Document) (default : List ℕ) where
   step (IndentedCode ls) bs h k children list = leaf_step (IndentedCode ls) bs children
   step (FencedCode info closed ls) bs h k children list = leaf_step (FencedCode info closed ls) bs children
   step (Html ls) bs h k children list = leaf_step (Html ls) bs children
+  step (Table ls) bs h k children list = leaf_step (Table ls) bs children
   step (Definition label destination title) bs h k children list = leaf_step (Definition label destination title) bs children
   step (Holds Quote kids) bs h k children list = quote_step kids bs k children
   step (Holds (Item item) kids) bs h k children list = item_step item kids bs h.0 k children list
+  step (Holds (Footnote label) kids) bs h k children list = footnote_step label kids bs h.1 children
   step (Items items) bs h k children list = absurd h
   step (Ending ending) bs h k children list = leaf_step (Ending ending) bs children
   step (Blank ending) bs h k children list = leaf_step (Blank ending) bs children
@@ -285,6 +348,7 @@ module _ (d : Document) (default : List ℕ) where
     kids_printed (IndentedCode ls) h = tt
     kids_printed (FencedCode info closed ls) h = tt
     kids_printed (Html ls) h = tt
+    kids_printed (Table ls) h = tt
     kids_printed (Definition label destination title) h = tt
     kids_printed (Holds c kids) h = (blocks_printed kids h.1).children
     kids_printed (Items items) h = tt

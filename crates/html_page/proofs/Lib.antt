@@ -1,5 +1,6 @@
 pub mod Owed
 pub mod Lines
+pub mod GfmTableLemmas
 pub mod CodeFencedLemmas
 pub mod Ahead
 pub mod Places

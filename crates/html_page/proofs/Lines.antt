@@ -1,10 +1,10 @@
 -- The lines of a block.
-use Rattle.std.proofs.Common.{◌≡◌, ◌≤◌, arith, take, length, get_or, List, [], ◌∷◌, refl}
+use Rattle.std.proofs.Common.{◌≡◌, ◌≤◌, arith, take, length, get_or, List, [], ◌∷◌, refl, ap, suc}
 use Rattle.block_rows.specs.declared.row.Piece.{Piece}
 use Rattle.block_rows.specs.ParagraphLines.{AreLines}
 use Rattle.block_rows.specs.Rows.{first_codes, piece_line, piece_lines}
 use Rattle.definition_text.specs.BlockLines.{BlockLine, own_lines}
-use Rattle.html_page.specs.Printable.{AreHeadingLines}
+use Rattle.html_page.specs.Printable.{AreHeadingLines, AreClear}
 
 -- the first line
 pub first_codes_of : (pieces : List Piece) (d : Piece) → 1 ≤ length pieces → first_codes (piece_lines pieces) ≡ (piece_line (get_or pieces 0 d)).codes
@@ -34,6 +34,17 @@ without_ending [] h = tt
 without_ending (a ∷ []) h = h
 without_ending (a ∷ b ∷ []) h = h
 without_ending (a ∷ b ∷ c ∷ others) h = (h.0, h.1, h.2, without_ending (b ∷ c ∷ others) h.3)
+
+-- lines of a table
+pub clear_with_ending : (ls : List BlockLine) → AreClear (own_lines ls) → AreClear ls
+clear_with_ending [] h = tt
+clear_with_ending (a ∷ []) h = h
+clear_with_ending (a ∷ b ∷ others) h = (h.0, clear_with_ending (b ∷ others) h.1)
+
+pub own_length : (ls : List BlockLine) → length (own_lines ls) ≡ length ls
+own_length [] = refl
+own_length (a ∷ []) = refl
+own_length (a ∷ b ∷ others) = ap suc (own_length (b ∷ others))
 
 -- the lines of a heading
 pub several_lines : (ls : List BlockLine) → (length ls ≡ 1 → ⊥) → AreHeadingLines (own_lines ls) → AreLines ls

@@ -10,7 +10,9 @@ use Rattle.definition_block.specs.ThematicBreak.{is_break}
 use Rattle.definition_block.specs.Started.{Started}
 use Rattle.definition_block.specs.BlockQuote.{quote_prefix}
 use Rattle.definition_block.specs.ListItem.{Marker, marker_of, is_digit, number_of, bullet, delimiter, marker, is_item, item, item_after, item_start}
-use Rattle.definition_block.specs.Containers.{quote_or, starts}
+use Rattle.definition_text.specs.Content.{Part}
+use Rattle.definition_block.specs.GfmFootnoteDefinition.{footnote_mark, footnote_of, footnote_start}
+use Rattle.definition_block.specs.Containers.{quote_or, footnote_or, starts}
 use Rattle.html_page.specs.Printable.{IsPrintableContainer}
 use Rattle.html_page.proofs.Choose.{choose_if, choose}
 
@@ -73,7 +75,16 @@ quote_or_fits : (other : Option Started) (o : Option Rest) → StartFits other �
 quote_or_fits other None h = h
 quote_or_fits other (Some rest) h = record { container = tt }
 
+footnote_of_fits : (o : Option Part) → StartFits (footnote_of o)
+footnote_of_fits None = none_starts
+footnote_of_fits (Some mark) = record { container = tt }
+
+footnote_or_fits : (other o : Option Started) → StartFits other → StartFits o → StartFits (footnote_or other o)
+footnote_or_fits other None h k = h
+footnote_or_fits other (Some footnote) h k = k
+
 pub starts_fits : (on : Constructs) (interrupts : Bool) (rest : Rest) → StartFits (starts on interrupts rest)
 starts_fits on interrupts rest =
-    quote_or_fits (item_start on interrupts rest) (quote_prefix on rest)
-    (choose StartFits (on.list_item && small_indent on rest && not (is_break on rest)) _ _ (item_after_fits (indent rest) interrupts (marker (bare rest)) (marker_fits (bare rest))) none_starts)
+    quote_or_fits (footnote_or (item_start on interrupts rest) (footnote_start on rest)) (quote_prefix on rest)
+    (footnote_or_fits (item_start on interrupts rest) (footnote_start on rest) (choose StartFits (on.list_item && small_indent on rest && not (is_break on rest)) _ _ (item_after_fits (indent rest) interrupts (marker (bare rest)) (marker_fits (bare rest))) none_starts)
+    (choose StartFits (on.gfm_footnote_definition && small_indent on rest) _ _ (footnote_of_fits (footnote_mark (bare rest))) none_starts))

@@ -1,6 +1,7 @@
 -- A level after blocks in it.
 use Rattle.std.proofs.Common.{◌≡◌, Bool, true, false, ◌&&◌, refl, ap, ◌∙◌}
-use Rattle.definition_block.specs.Tree.{Block, Paragraph, Heading, Break, IndentedCode, FencedCode, Html, Definition, Holds, Items, Ending, Blank, Blocks, Nil, Cons}
+use Rattle.definition_block.specs.Container.{Quote, Item, Footnote}
+use Rattle.definition_block.specs.Tree.{Block, Paragraph, Heading, Break, IndentedCode, FencedCode, Html, Table, Definition, Holds, Items, Ending, Blank, Blocks, Nil, Cons}
 use Rattle.html_bytes.specs.Html.{ends_tight}
 use Rattle.block_rows.specs.Rows.{Single}
 use Rattle.html_page.specs.declared.level.Level.{Level}
@@ -30,8 +31,11 @@ ends_tight_more tight before Break bs = ap (λ x. ends_tight tight x bs) (and_fa
 ends_tight_more tight before (IndentedCode ls) bs = ap (λ x. ends_tight tight x bs) (and_false before)
 ends_tight_more tight before (FencedCode info closed ls) bs = ap (λ x. ends_tight tight x bs) (and_false before)
 ends_tight_more tight before (Html ls) bs = ap (λ x. ends_tight tight x bs) (and_false before)
+ends_tight_more tight before (Table ls) bs = ap (λ x. ends_tight tight x bs) (and_false before)
 ends_tight_more tight before (Definition label destination title) bs = refl
-ends_tight_more tight before (Holds c kids) bs = ap (λ x. ends_tight tight x bs) (and_false before)
+ends_tight_more tight before (Holds Quote kids) bs = ap (λ x. ends_tight tight x bs) (and_false before)
+ends_tight_more tight before (Holds (Item item) kids) bs = ap (λ x. ends_tight tight x bs) (and_false before)
+ends_tight_more tight before (Holds (Footnote label) kids) bs = refl
 ends_tight_more tight before (Items items) bs = ap (λ x. ends_tight tight x bs) (and_false before)
 ends_tight_more tight before (Ending ending) bs = ap (λ x. ends_tight tight x bs) (and_true before)
 ends_tight_more tight before (Blank ending) bs = ap (λ x. ends_tight tight x bs) (and_true before)

@@ -1,8 +1,7 @@
 -- What the pass over the rows of blocks finds.
 use Rattle.std.proofs.Common.{◌≡◌, List, [], ◌∷◌, ◌++◌, refl, sym, ap, ◌∙◌, append_assoc}
-use Rattle.definition_block.specs.declared.container.Container.{Container}
-use Rattle.definition_block.specs.declared.container.Container.TheVariants.{Quote, Item}
-use Rattle.definition_block.specs.Tree.{Block, Paragraph, Heading, Break, IndentedCode, FencedCode, Html, Definition, Holds, Items, Ending, Blank, Blocks, Nil, Cons}
+use Rattle.definition_block.specs.Container.{Container, Quote, Item, Footnote}
+use Rattle.definition_block.specs.Tree.{Block, Paragraph, Heading, Break, IndentedCode, FencedCode, Html, Table, Definition, Holds, Items, Ending, Blank, Blocks, Nil, Cons}
 use Rattle.definition_block.specs.Lists.{has_gap, before, grouped, grouped_block}
 use Rattle.block_rows.specs.Rows.{BlockRow, Exit, start_row, rows_of, block_rows}
 use Rattle.html_page.specs.declared.loose.Place.{Place}
@@ -15,6 +14,7 @@ use Rattle.html_page.proofs.Ahead.{ahead_of, ahead_of_ending, ahead_of_blank, ah
 
 abbrev pub own_place : Container → Blocks → Blocks → List Place
 own_place Quote kids gs = []
+own_place (Footnote label) kids gs = []
 own_place (Item item) kids gs = place_at (ahead_of gs) item.marker (has_gap (grouped kids)) ∷ []
 
 -- those of a block before these, and of blocks
@@ -26,6 +26,7 @@ abbrev mutual
   places_in (IndentedCode ls) gs = []
   places_in (FencedCode info closed ls) gs = []
   places_in (Html ls) gs = []
+  places_in (Table ls) gs = []
   places_in (Definition label destination title) gs = []
   places_in (Holds c kids) gs = own_place c kids gs ++ places_within kids
   places_in (Items items) gs = []
@@ -54,6 +55,8 @@ BlockPassed b = (gs : Blocks) (outer : List Ahead) (places : List Place)
 holds_passed : (c : Container) (kids : Blocks) → IsPrintableContainer c → KidsPassed kids → BlockPassed (Holds c kids)
 holds_passed Quote kids some k gs outer places =
     ap (λ p. pass_row p (start_row Quote)) (pass_rows-append (pass_at (ahead_of gs) outer places) (rows_of kids) (Exit ∷ []) ∙ k (ahead_of gs ∷ outer) places)
+holds_passed (Footnote label) kids some k gs outer places =
+    ap (λ p. pass_row p (start_row (Footnote label))) (pass_rows-append (pass_at (ahead_of gs) outer places) (rows_of kids) (Exit ∷ []) ∙ k (ahead_of gs ∷ outer) places)
 holds_passed (Item item) kids some k gs outer places =
     let at = λ (a : Ahead). pass_at a outer (place_at (ahead_of gs) item.marker (has_gap (grouped kids)) ∷ (places_within kids ++ places)) in
     ap (λ p. pass_row p (start_row (Item item))) (pass_rows-append (pass_at (ahead_of gs) outer places) (rows_of kids) (Exit ∷ []) ∙ k (ahead_of gs ∷ outer) places)
@@ -76,6 +79,7 @@ mutual
   block_passed (IndentedCode ls) h gs outer places = refl
   block_passed (FencedCode info closed ls) h gs outer places = refl
   block_passed (Html ls) h gs outer places = refl
+  block_passed (Table ls) h gs outer places = refl
   block_passed (Definition label destination title) h gs outer places = refl
   block_passed (Holds c kids) h gs outer places = holds_passed c kids h.0 (blocks_passed kids h.1) gs outer places
   block_passed (Items items) h gs outer places = absurd h

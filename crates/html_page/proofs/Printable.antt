@@ -1,15 +1,15 @@
 -- The blocks of a text can be printed: paragraphs have lines of the text, the ranks of headings are from 1 to 6, infos are bytes, and items have markers.
-use Rattle.std.proofs.Common.{◌≡◌, ℕ, zero, suc, ◌-◌, ◌<◌, ◌≤◌, get_or, lit≤, List, [], ◌∷◌, ◌++◌, Option, None, Some, Bool, true, false, ◌&&◌, ◌==◌, not, leb, refl, sym, subst, ap, take, drop, length}
+use Rattle.std.proofs.Common.{◌≡◌, ℕ, zero, suc, ◌-◌, ◌<◌, ◌≤◌, get_or, lit≤, List, [], ◌∷◌, ◌++◌, Option, None, Some, Bool, true, false, ◌&&◌, ◌||◌, ◌==◌, not, leb, refl, sym, subst, ap, take, drop, length, arith}
 use Rattle.std.specs.Prelude.{if◌then◌else◌}
 use Rattle.std.specs.Option.{IfSome}
 use Rattle.std.specs.List.{list_all, prefix_len, suffix_len, position_or_len}
+use Rattle.std.proofs.lemmas.List.{length-append, length-drop}
 use Rattle.std.proofs.lemmas.Bool.{and_parts, and_from, leb-true}
 use Rattle.markdown_options.specs.declared.configuration.Constructs.{Constructs}
 use Rattle.definition_text.specs.declared.beside.Beside.{Beside}
 use Rattle.definition_text.specs.declared.beside.Kind.{Kind}
 use Rattle.definition_text.specs.declared.beside.Kind.TheVariants.{Whitespace}
-use Rattle.definition_block.specs.declared.container.Container.{Container}
-use Rattle.definition_block.specs.declared.container.Container.TheVariants.{Quote, Item}
+use Rattle.definition_block.specs.Container.{Container, Quote, Item, Footnote}
 use Rattle.definition_text.specs.Lines.{TextLine, lines}
 use Rattle.definition_text.specs.Content.{is_eol}
 use Rattle.definition_text.specs.Columns.{Rest, whole, bare, bytes_of, indent, is_byte, is_white, is_blank, trimmed}
@@ -22,6 +22,8 @@ use Rattle.definition_block.specs.Frontmatter.{is_metadata_fence, after_metadata
 use Rattle.definition_text.specs.Indents.{small_indent}
 use Rattle.definition_block.specs.CodeIndented.{starts_code_indented}
 use Rattle.definition_block.specs.ThematicBreak.{is_break}
+use Rattle.definition_block.specs.declared.align_kind.AlignKind.{AlignKind}
+use Rattle.definition_block.specs.GfmTable.{delimiter_row, is_head}
 use Rattle.definition_block.specs.HeadingAtx.{Atx, atx_of, begins_apart, ends_apart, without_run, without_closing, heading_atx}
 use Rattle.definition_block.specs.HeadingSetext.{underline_of, underline}
 use Rattle.definition_block.specs.HtmlFlow.{html_start, html_ends_here, ends_before_blank}
@@ -29,16 +31,16 @@ use Rattle.definition_text.specs.Content.{content_of}
 use Rattle.definition_inline.specs.Definition.{Definition as LinkDefinition, definition_at}
 use Rattle.definition_block.specs.Definitions.{Cut, cut_into, cut_after, cut_most, cut, defined, lines_before}
 use Rattle.block_rows.specs.ParagraphLines.{HaveNoEnding, AreLines}
-use Rattle.block_rows.proofs.OpenLines.{AreTextLines, AreLinesTo, SomeClear, StartedClear, clear-take, clear-drop, clear-filter, clear_codes, clear_bare, clear_start, clear_continue, lines_of_text, are_lines, open_step}
+use Rattle.block_rows.proofs.OpenLines.{AreTextLines, AreLinesTo, SomeClear, StartedClear, clear-take, clear-drop, clear-filter, clear_codes, clear_block, clear_bare, clear_start, clear_continue, lines_of_text, are_lines, open_step}
 use Rattle.markdown_options.specs.declared.line_ending.LineEnding.{LineEnding}
 use Rattle.markdown_options.specs.declared.line_ending.LineEnding.TheVariants.{LineFeed}
 use Rattle.definition_text.specs.BlockLines.{BlockLine, spaced_line, own_lines}
-use Rattle.definition_block.specs.Tree.{leaf_text, open_text, beside_in, beside_line, in_container, Block, Paragraph, Heading, Break, IndentedCode, FencedCode, Html, Definition, Holds, Items, Ending, Blank, Blocks, Nil, Cons, join, one, ended, OpenLeaf, Text, Indented, Fenced, OpenHtml, Opening, Leaf, Inside, Tree, tree, nothing, empty_tree, paragraph_of, close_leaf, close, blanks, is_ending, all_endings, front, trailing, without_last, last_of, holds, has_text, with_line, rest_line, html_with, takes, taken, or_heading, or_fence, or_html, begins, text_here, heading_of, underlined, turns, after, text_line_of, break_or_text, begun, leaf_line, start, new, began_blank, goes_on, grow, step, steps, closed, children_after, blocks}
+use Rattle.definition_block.specs.Tree.{leaf_text, open_text, beside_in, beside_line, in_container, Block, Paragraph, Heading, Break, IndentedCode, FencedCode, Html, Table, Definition, Holds, Items, Ending, Blank, Blocks, Nil, Cons, join, one, ended, OpenLeaf, Text, Indented, Fenced, OpenHtml, OpenTable, Opening, Leaf, Inside, Tree, tree, nothing, empty_tree, paragraph_of, close_leaf, close, blanks, is_ending, all_endings, front, trailing, without_last, last_of, holds, has_text, has_table, is_some_line, table_of, table_if, makes_table, with_line, rest_line, html_with, takes, taken, or_heading, or_fence, or_html, begins, text_here, heading_of, underlined, turns, after, text_line_of, break_or_text, begun, leaf_line, start, new, began_blank, goes_on, grow, step, steps, closed, children_after, blocks}
 use Rattle.block_rows.specs.Rows.{RowsValue, rows_value, value_with, rows_of}
 use Rattle.block_rows.specs.declared.row.Row.{Row}
-use Rattle.html_page.specs.Printable.{IsPrintableContainer, IsPrintable, ArePrintable, CanBePrinted}
+use Rattle.html_page.specs.Printable.{IsPrintableContainer, AreClear, IsTable, IsPrintable, ArePrintable, CanBePrinted}
 use Rattle.html_page.proofs.Choose.{choose_if, choose}
-use Rattle.html_page.proofs.Lines.{without_ending, heading_lines}
+use Rattle.html_page.proofs.Lines.{without_ending, heading_lines, own_length}
 use Rattle.html_page.proofs.ListItemLemmas.{StartFits, starts_fits}
 use Rattle.html_page.proofs.RowsOf.{printable_rows_of}
 
@@ -172,6 +174,7 @@ ending_printable Break h = tt
 ending_printable (IndentedCode ls) h = tt
 ending_printable (FencedCode info closed ls) h = let wrong : false ≡ true = h in cc
 ending_printable (Html ls) h = let wrong : false ≡ true = h in cc
+ending_printable (Table ls) h = let wrong : false ≡ true = h in cc
 ending_printable (Definition label destination title) h = let wrong : false ≡ true = h in cc
 ending_printable (Holds c kids) h = let wrong : false ≡ true = h in cc
 ending_printable (Items items) h = let wrong : false ≡ true = h in cc
@@ -206,6 +209,7 @@ without_last_printable (Cons b (Cons c bs)) h = (h.0, without_last_printable (Co
 holds_printable : (c : Container) (kids : Blocks) → IsPrintableContainer c → CanBePrinted kids → CanBePrinted (holds c kids)
 holds_printable Quote kids h k = ((tt, without_last_printable kids k), last_printable kids)
 holds_printable (Item item) kids h k = ((h, front_printable kids k), trailing_printable kids)
+holds_printable (Footnote label) kids h k = ((tt, front_printable kids k), trailing_printable kids)
 
 blanks_printable : (ls : List BlockLine) → CanBePrinted (blanks ls)
 blanks_printable [] = tt
@@ -250,6 +254,46 @@ paragraph_printable : (ls : List BlockLine) → AreLines ls → CanBePrinted (pa
 paragraph_printable [] h = tt
 paragraph_printable (l ∷ ls) h = (without_ending (l ∷ ls) h, (tt, tt))
 
+-- ---- tables
+
+clear_lines : (ls : List BlockLine) → AreLines ls → AreClear ls
+clear_lines [] h = tt
+clear_lines (a ∷ []) h = (h.0, tt)
+clear_lines (a ∷ b ∷ others) h = (h.0, clear_lines (b ∷ others) h.3)
+
+clear_longer : (ls : List BlockLine) (line : BlockLine) → AreClear ls → HaveNoEnding line.codes → AreClear (ls ++ line ∷ [])
+clear_longer [] line h clear = (clear, tt)
+clear_longer (a ∷ ls) line h clear = (h.0, clear_longer ls line h.1 clear)
+
+longer_table : (ls : List BlockLine) (line : BlockLine) → IsTable ls → HaveNoEnding line.codes → IsTable (ls ++ line ∷ [])
+longer_table ls line h clear = (omega (arith, h.0, length-append ls (line ∷ [])), clear_longer ls line h.1 clear)
+
+own_clear : (ls : List BlockLine) → AreClear ls → AreClear (own_lines ls)
+own_clear [] h = tt
+own_clear (a ∷ []) h = h
+own_clear (a ∷ b ∷ others) h = (h.0, own_clear (b ∷ others) h.1)
+
+own_table : (ls : List BlockLine) → IsTable ls → IsTable (own_lines ls)
+own_table ls h = (omega (arith, h.0, own_length ls), own_clear ls h.1)
+
+-- the last of the lines that are left is the head
+headed_table : (ls : List BlockLine) (row : BlockLine) → is_some_line ls ≡ true → AreLines ls → HaveNoEnding row.codes
+    → IsTable (drop (length ls - 1) ls ++ row ∷ [])
+headed_table [] row some clean clear = let wrong : false ≡ true = some in cc
+headed_table (a ∷ ls) row some clean clear =
+    let n = length (a ∷ ls) - 1 in
+    let left = drop n (a ∷ ls) in
+    (omega (arith, length-drop n (a ∷ ls), length-append left (row ∷ [])), clear_longer left row (clear_lines left (lines_left n (a ∷ ls) clean)) clear)
+
+-- the lines before it are a paragraph
+lines_taken : (n : ℕ) (ls : List BlockLine) → AreLines ls → AreLines (take n ls)
+lines_taken zero ls h = tt
+lines_taken (suc n) [] h = tt
+lines_taken (suc zero) (a ∷ []) h = h
+lines_taken (suc (suc n)) (a ∷ []) h = h
+lines_taken (suc zero) (a ∷ b ∷ others) h = (h.0, h.1)
+lines_taken (suc (suc n)) (a ∷ b ∷ others) h = (h.0, h.1, h.2, lines_taken (suc n) (b ∷ others) h.3)
+
 -- ---- what is open
 
 abbrev LeafFits : OpenLeaf → Type 0
@@ -257,6 +301,7 @@ LeafFits (Text ls) = Unit {0}
 LeafFits (Indented ls pending) = Unit {0}
 LeafFits (Fenced fence opening ls) = IsInfo fence.info
 LeafFits (OpenHtml kind ls) = Unit {0}
+LeafFits (OpenTable ls) = IsTable ls
 
 abbrev Fits : Opening → Type 0
 Fits (Leaf leaf) = LeafFits leaf
@@ -281,6 +326,7 @@ leaf_closed on (Text ls) h clean =
 leaf_closed on (Indented ls pending) h clean = (tt, (tt, blanks_printable pending))
 leaf_closed on (Fenced fence opening ls) h clean = (h, (tt, tt))
 leaf_closed on (OpenHtml kind ls) h clean = (tt, (tt, tt))
+leaf_closed on (OpenTable ls) h clean = (own_table ls h, (tt, tt))
 
 close_printable : (on : Constructs) (now : Opening) → Fits now → AreLines (open_text now) → CanBePrinted (close on now)
 close_printable on (Leaf leaf) h clean = leaf_closed on leaf h clean
@@ -295,12 +341,13 @@ record CanClose (now : Opening) : Type 0 where
 after_fits : (on : Constructs) (away : Opening) (t : Tree) → CanClose away → TreeFits t → TreeFits (after on away t)
 after_fits on away t h k = record { done = joined (close on away) t.done (close_printable on away h.fits h.lines) k.done; now = k.now }
 
-with_line_fits : (line : BlockLine) (now : Opening) → Fits now → Fits (with_line line now)
-with_line_fits line (Leaf (Text ls)) h = tt
-with_line_fits line (Leaf (Indented ls pending)) h = tt
-with_line_fits line (Leaf (Fenced fence opening ls)) h = h
-with_line_fits line (Leaf (OpenHtml kind ls)) h = tt
-with_line_fits line (Inside c kids inner) h = (h.0, h.1, with_line_fits line inner h.2)
+with_line_fits : (line : BlockLine) (now : Opening) → HaveNoEnding line.codes → Fits now → Fits (with_line line now)
+with_line_fits line (Leaf (Text ls)) clear h = tt
+with_line_fits line (Leaf (Indented ls pending)) clear h = tt
+with_line_fits line (Leaf (Fenced fence opening ls)) clear h = h
+with_line_fits line (Leaf (OpenHtml kind ls)) clear h = tt
+with_line_fits line (Leaf (OpenTable ls)) clear h = longer_table ls line h clear
+with_line_fits line (Inside c kids inner) clear h = (h.0, h.1, with_line_fits line inner clear h.2)
 
 taken_fits : (o : Option Tree) (other : Tree) → OptionFits o → TreeFits other → TreeFits (taken o other)
 taken_fits None other h k = k
@@ -319,6 +366,7 @@ module _ (on : Constructs) (e : Beside) (r : Rest) where
   takes_fits (Text ls) h = record { tree = tt }
   takes_fits (Indented ls pending) h = choose OptionFits (is_blank r) _ _ (some_fits _ tt tt) (choose OptionFits (starts_code_indented on r) _ _ (some_fits _ tt tt) record { tree = tt })
   takes_fits (Fenced fence opening ls) h = choose OptionFits (is_fence_end on fence r) _ _ (some_fits _ (h, (tt, tt)) tt) (some_fits _ tt h)
+  takes_fits (OpenTable ls) h = record { tree = tt }
   takes_fits (OpenHtml kind ls) h =
       choose OptionFits (ends_before_blank kind && is_blank r) None (Some (html_with kind ls r e)) record { tree = tt } record { tree = html_with_fits kind ls }
 
@@ -359,16 +407,30 @@ module _ (on : Constructs) (e : Beside) (r : Rest) where
   turns_fits : (away : Opening) → AreLines (open_text away) → OptionFits (turns on away r e.ending)
   turns_fits away clean = underlined_fits (underline on r) (text_here away) (underline_fits on r) (lines_here away clean)
 
-  text_fits : (away : Opening) → CanClose away → TreeFits (text_line_of on away r e)
-  text_fits away h =
+  text_fits : (away : Opening) → HaveNoEnding r → CanClose away → TreeFits (text_line_of on away r e)
+  text_fits away clear h =
       let line = rest_line r e in
-      choose TreeFits (has_text away) _ _ (fits (tree Nil (with_line line away)) tt (with_line_fits line away h.fits))
+      choose TreeFits (has_text away || has_table away) _ _ (fits (tree Nil (with_line line away)) tt (with_line_fits line away (clear_block r clear) h.fits))
       (after_fits on away (tree Nil (Leaf (Text (line ∷ [])))) h (fits (tree Nil (Leaf (Text (line ∷ [])))) tt tt))
 
-  break_fits : (away : Opening) → CanClose away → TreeFits (break_or_text on away r e)
-  break_fits away h =
+  table_if_fits : (o : Option (List AlignKind)) (ls : List BlockLine) → HaveNoEnding r → AreLines ls → OptionFits (table_if on o ls (rest_line r e))
+  table_if_fits None ls clear clean = record { tree = tt }
+  table_if_fits (Some columns) ls clear clean =
+      let left = (cut on ls).left in
+      let front = take (length left - 1) left in
+      let clean_left = cut_left on ls clean in
+      choose_if OptionFits (is_some_line left && is_head (length columns) ls) _ None
+      (λ both.
+      some_fits (table_of (cut on ls).definitions left (rest_line r e))
+      (joined (cut on ls).definitions (paragraph_of front) (cut_printable on ls) (paragraph_printable front (lines_taken (length left - 1) left clean_left)))
+      (headed_table left (rest_line r e) (and_parts (is_some_line left) (is_head (length columns) ls) both).0 clean_left (clear_block r clear)))
+      record { tree = tt }
+
+  break_fits : (away : Opening) → HaveNoEnding r → CanClose away → TreeFits (break_or_text on away r e)
+  break_fits away clear h =
       let t = tree (ended Break e.ending) nothing in
-      choose TreeFits (is_break on r) _ _ (after_fits on away t h (fits t (tt, (tt, tt)) tt)) (text_fits away h)
+      choose TreeFits (is_break on r) _ _ (after_fits on away t h (fits t (tt, (tt, tt)) tt))
+      (taken_fits (makes_table on away r e) (text_line_of on away r e) (table_if_fits (delimiter_row on r) (text_here away) clear (lines_here away h.lines)) (text_fits away clear h))
 
   begun_fits : (o : Option Tree) (away : Opening) (other : Tree) → CanClose away → OptionFits o → TreeFits other → TreeFits (begun on o away other)
   begun_fits None away other h k l = l
@@ -379,7 +441,7 @@ module _ (on : Constructs) (e : Beside) (r : Rest) where
       let t = tree (one (Blank e.ending)) nothing in
       choose TreeFits (is_blank r) _ _ (after_fits on away t h (fits t (tt, tt) tt))
       (begun_fits (begins on (has_text away) r e) away (taken (turns on away r e.ending) (break_or_text on away r e)) h (begins_fits (has_text away) clear)
-      (taken_fits (turns on away r e.ending) (break_or_text on away r e) (turns_fits away h.lines) (break_fits away h)))
+      (taken_fits (turns on away r e.ending) (break_or_text on away r e) (turns_fits away h.lines) (break_fits away clear h)))
 
   start_fits : (o : Option Started) (away : Opening) (other : Tree) (more : Started → Tree) → StartFits o → StartedClear o → CanClose away → TreeFits other → ((s : Started) → HaveNoEnding s.rest → TreeFits (more s)) → TreeFits (start on o away other more)
   start_fits None away other more s clear h k l = k

@@ -3,9 +3,8 @@ use Rattle.std.proofs.Common.{◌≡◌, ℕ, Bool, true, false, List, [], ◌�
 use Rattle.std.specs.List.{fold, All}
 use Rattle.std.proofs.lemmas.List.Sums.{fold-append}
 use Rattle.std.proofs.lemmas.List.Elements.{All-nil, All-cons, All-head, All-tail}
-use Rattle.definition_block.specs.declared.container.Container.{Container}
-use Rattle.definition_block.specs.declared.container.Container.TheVariants.{Quote, Item}
-use Rattle.definition_block.specs.Tree.{Block, Paragraph, Heading, Break, IndentedCode, FencedCode, Html, Definition, Holds, Items, Ending, Blank, Blocks, Nil, Cons}
+use Rattle.definition_block.specs.Container.{Container, Quote, Item, Footnote}
+use Rattle.definition_block.specs.Tree.{Block, Paragraph, Heading, Break, IndentedCode, FencedCode, Html, Table, Definition, Holds, Items, Ending, Blank, Blocks, Nil, Cons}
 use Rattle.definition_block.specs.Lists.{grouped}
 use Rattle.html_bytes.specs.Pieces.{print, layout}
 use Rattle.html_bytes.specs.Document.{Document}
@@ -34,6 +33,7 @@ block_ends_blank Break blank h = refl
 block_ends_blank (IndentedCode ls) blank h = refl
 block_ends_blank (FencedCode info closed ls) blank h = refl
 block_ends_blank (Html ls) blank h = refl
+block_ends_blank (Table ls) blank h = refl
 block_ends_blank (Definition label destination title) blank h = refl
 block_ends_blank (Holds c kids) blank h =
     fold-append (λ (before : Bool) row. is_blank_row row) (is_blank_row (start_row c)) (rows_of kids) (Exit ∷ [])
@@ -73,6 +73,7 @@ all_one row h = All-cons IsPrintableRow row [] h (All-nil IsPrintableRow)
 entered_printable : (c : Container) → IsPrintableRow (start_row c)
 entered_printable Quote = tt
 entered_printable (Item item) = tt
+entered_printable (Footnote label) = tt
 
 mutual
   pub printable_block : (b : Block) → IsPrintable b → ArePrintable (block_rows b)
@@ -82,6 +83,7 @@ mutual
   printable_block (IndentedCode ls) h = all_one (Single (IndentedCode ls)) h
   printable_block (FencedCode info closed ls) h = all_one (Single (FencedCode info closed ls)) h
   printable_block (Html ls) h = all_one (Single (Html ls)) h
+  printable_block (Table ls) h = all_one (Single (Table ls)) h
   printable_block (Definition label destination title) h = all_one (Single (spaced_definition label destination title)) h
   printable_block (Holds c kids) h =
       All-cons IsPrintableRow (start_row c) (rows_of kids ++ Exit ∷ []) (entered_printable c) (all_append IsPrintableRow (rows_of kids) (Exit ∷ []) (printable_rows_of kids h.1) (all_one Exit tt))

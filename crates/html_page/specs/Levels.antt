@@ -1,11 +1,12 @@
 -- What holds a row, and what a block prints in it.
 use Rattle.std.specs.Prelude.{Bool, true, false, ◌&&◌, List, []}
-use Rattle.definition_block.specs.Tree.{Block, Paragraph, Heading, Break, IndentedCode, FencedCode, Html, Definition, Holds, Items, Ending, Blank, is_ending}
+use Rattle.definition_block.specs.Container.{Quote, Item, Footnote}
+use Rattle.definition_block.specs.Tree.{Block, Paragraph, Heading, Break, IndentedCode, FencedCode, Html, Table, Definition, Holds, Items, Ending, Blank, is_ending}
 use Rattle.definition_page.specs.Read.{Standing}
 use Rattle.html_bytes.specs.Pieces.{Piece}
 use Rattle.html_bytes.specs.Document.{Document}
 use Rattle.html_bytes.specs.Html.{block_pieces, silences}
-use Rattle.block_rows.specs.Rows.{BlockRow, Single, EnterQuote, EnterItem, Exit}
+use Rattle.block_rows.specs.Rows.{BlockRow, Single, EnterQuote, EnterItem, EnterFootnote, Exit}
 use Rattle.html_page.specs.declared.level.Level.{Level}
 use Rattle.html_page.specs.declared.level.Holder.{Holder}
 use Rattle.html_page.specs.declared.level.Holder.TheVariants as holder
@@ -50,6 +51,10 @@ new_level k tight = level_of k tight true false (is_item k)
 abbrev pub after_block : Level → Level
 after_block l = level_of l.holder l.tight false false (l.first && false)
 
+-- a footnote definition stands last in it
+abbrev pub after_footnote : Level → Level
+after_footnote l = level_of l.holder l.tight l.plain true (l.first && false)
+
 -- whether the last block that prints anything, if there is any, is a tight paragraph, after one more
 abbrev pub plain_after : Bool → Bool → Block → Bool
 plain_after tight before (Paragraph ls) = tight
@@ -58,8 +63,11 @@ plain_after tight before Break = false
 plain_after tight before (IndentedCode ls) = false
 plain_after tight before (FencedCode info closed ls) = false
 plain_after tight before (Html ls) = false
+plain_after tight before (Table ls) = false
 plain_after tight before (Definition label destination title) = before
-plain_after tight before (Holds c kids) = false
+plain_after tight before (Holds Quote kids) = false
+plain_after tight before (Holds (Item item) kids) = false
+plain_after tight before (Holds (Footnote label) kids) = before
 plain_after tight before (Items items) = false
 plain_after tight before (Ending ending) = before
 plain_after tight before (Blank ending) = before
@@ -68,6 +76,7 @@ abbrev pub level_after : Level → BlockRow → Level
 level_after l (Single b) = level_of l.holder l.tight (plain_after l.tight l.plain b) (silences (is_document l.holder) l.tight l.silent b) (l.first && is_ending b)
 level_after l EnterQuote = after_block l
 level_after l (EnterItem marker number) = after_block l
+level_after l (EnterFootnote label) = after_footnote l
 level_after l Exit = after_block l
 
 -- what a block prints at a level
@@ -75,4 +84,5 @@ abbrev pub row_pieces : Document → Level → BlockRow → List Piece
 row_pieces d l (Single b) = block_pieces d (standing_of l) l.tight l.silent b
 row_pieces d l EnterQuote = []
 row_pieces d l (EnterItem marker number) = []
+row_pieces d l (EnterFootnote label) = []
 row_pieces d l Exit = []

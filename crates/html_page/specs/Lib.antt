@@ -1,4 +1,5 @@
 pub mod Printable
+pub mod GfmTable
 pub mod Loose
 pub mod Levels
 pub mod PrinterView

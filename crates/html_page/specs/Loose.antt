@@ -3,7 +3,7 @@ use Rattle.std.specs.Prelude.{ℕ, Bool, true, false, ◌==◌, ◌&&◌, ◌||�
 use Rattle.block_rows.specs.declared.row.Row.{Row}
 use Rattle.block_rows.specs.declared.row.Row.TheVariants as row
 use Rattle.definition_block.specs.Tree.{Block, is_ending}
-use Rattle.block_rows.specs.Rows.{BlockRow, Single, EnterQuote, EnterItem, Exit}
+use Rattle.block_rows.specs.Rows.{BlockRow, Single, EnterQuote, EnterItem, EnterFootnote, Exit}
 use Rattle.html_page.specs.declared.loose.Place.{Place}
 use Rattle.html_page.specs.declared.loose.Ahead.{Ahead}
 use Rattle.html_page.specs.declared.loose.Pass.{Pass}
@@ -70,6 +70,7 @@ abbrev pub pass_row : PassView → BlockRow → PassView
 pass_row p (Single b) = pass_at (before_single b p.ahead) p.outer p.places
 pass_row p EnterQuote = pass_at (before_block (first_ahead p.outer)) (others_ahead p.outer) p.places
 pass_row p (EnterItem marker number) = pass_item p marker
+pass_row p (EnterFootnote label) = pass_at (before_block (first_ahead p.outer)) (others_ahead p.outer) p.places
 pass_row p Exit = pass_at nothing_ahead (p.ahead ∷ p.outer) p.places
 
 abbrev pub pass_rows : PassView → List BlockRow → PassView
@@ -91,9 +92,11 @@ starts_item (row.IndentedCode count) = false
 starts_item (row.FencedCode count) = false
 starts_item (row.UnclosedCode count) = false
 starts_item (row.Html count) = false
+starts_item (row.Table count) = false
 starts_item (row.Definition count) = false
 starts_item row.EnterQuote = false
 starts_item (row.EnterItem marker number) = true
+starts_item row.EnterFootnote = false
 starts_item row.Exit = false
 starts_item (row.Ending ending) = false
 starts_item (row.Blank ending) = false

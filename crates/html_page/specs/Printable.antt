@@ -1,18 +1,18 @@
 -- What can be printed.
-use Rattle.std.specs.Prelude.{◌≡◌, ◌≤◌, true, List, [], ◌∷◌}
+use Rattle.std.specs.Prelude.{◌≡◌, ◌≤◌, true, List, [], ◌∷◌, length}
 use Rattle.std.specs.List.{list_all, All}
-use Rattle.definition_block.specs.declared.container.Container.{Container}
-use Rattle.definition_block.specs.declared.container.Container.TheVariants.{Quote, Item}
+use Rattle.definition_block.specs.Container.{Container, Quote, Item, Footnote}
 use Rattle.definition_text.specs.Columns.{is_byte}
 use Rattle.block_rows.specs.ParagraphLines.{HaveNoEnding, AreLines}
 use Rattle.definition_text.specs.BlockLines.{BlockLine}
-use Rattle.definition_block.specs.Tree.{Block, Paragraph, Heading, Break, IndentedCode, FencedCode, Html, Definition, Holds, Items, Ending, Blank, Blocks, Nil, Cons}
-use Rattle.block_rows.specs.Rows.{BlockRow, Single, EnterQuote, EnterItem, Exit}
+use Rattle.definition_block.specs.Tree.{Block, Paragraph, Heading, Break, IndentedCode, FencedCode, Html, Table, Definition, Holds, Items, Ending, Blank, Blocks, Nil, Cons}
+use Rattle.block_rows.specs.Rows.{BlockRow, Single, EnterQuote, EnterItem, EnterFootnote, Exit}
 
 -- whether a container can be printed: an item has a marker
 abbrev pub IsPrintableContainer : Container → Type 0
 IsPrintableContainer Quote = Unit {0}
 IsPrintableContainer (Item item) = 1 ≤ item.marker
+IsPrintableContainer (Footnote label) = Unit {0}
 
 -- the lines of a heading: an ATX heading has one, which may be empty
 abbrev pub AreHeadingLines : List BlockLine → Type 0
@@ -20,7 +20,16 @@ AreHeadingLines [] = Unit {0}
 AreHeadingLines (line ∷ []) = HaveNoEnding line.codes
 AreHeadingLines (line ∷ next ∷ others) = AreLines (line ∷ next ∷ others)
 
--- Whether blocks can all be printed: a paragraph has lines of a text, a heading has a rank from 1 to 6 and such lines, an info is made of bytes and has no line ending, and so it is in each container. Lists are made when they are printed.
+-- no line ending stands in these lines
+abbrev pub AreClear : List BlockLine → Type 0
+AreClear [] = Unit {0}
+AreClear (line ∷ others) = HaveNoEnding line.codes × AreClear others
+
+-- the lines of a table: a head, a row of delimiters, and rows
+abbrev pub IsTable : List BlockLine → Type 0
+IsTable ls = (2 ≤ length ls) × AreClear ls
+
+-- Whether blocks can all be printed: a paragraph has lines of a text, a heading has a rank from 1 to 6 and such lines, an info is made of bytes and has no line ending, a table has such lines, and so it is in each container. Lists are made when they are printed.
 abbrev mutual
   pub IsPrintable : Block → Type 0
   IsPrintable (Paragraph ls) = AreLines ls
@@ -29,6 +38,7 @@ abbrev mutual
   IsPrintable (IndentedCode ls) = Unit {0}
   IsPrintable (FencedCode info closed ls) = (list_all is_byte info ≡ true) × HaveNoEnding info
   IsPrintable (Html ls) = Unit {0}
+  IsPrintable (Table ls) = IsTable ls
   IsPrintable (Definition label destination title) = Unit {0}
   IsPrintable (Holds c kids) = IsPrintableContainer c × CanBePrinted kids
   IsPrintable (Items items) = ⊥
@@ -44,6 +54,7 @@ abbrev pub IsPrintableRow : BlockRow → Type 0
 IsPrintableRow (Single b) = IsPrintable b
 IsPrintableRow EnterQuote = Unit {0}
 IsPrintableRow (EnterItem marker number) = Unit {0}
+IsPrintableRow (EnterFootnote label) = Unit {0}
 IsPrintableRow Exit = Unit {0}
 
 abbrev pub ArePrintable : List BlockRow → Type 0

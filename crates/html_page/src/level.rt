@@ -52,7 +52,7 @@ impl Level {
     {
         let (plain, silent, first) = match row {
             Row::Paragraph(_) | Row::WholeParagraph(_) => (self.tight, self.tight, false),
-            Row::Definition(_) => (self.plain, true, false),
+            Row::Definition(_) | Row::EnterFootnote => (self.plain, true, false),
             Row::UnclosedCode(_) => (false, self.is_document(), false),
             Row::Ending(None) | Row::Blank(None) => (self.plain, self.silent, self.first),
             Row::Ending(_) | Row::Blank(_) => (self.plain, false, self.first),

@@ -6,6 +6,8 @@ pub mod code_fenced;
 pub mod code_indented;
 pub mod code_lines;
 pub mod container;
+pub mod gfm_footnote_definition;
+pub mod gfm_table;
 pub mod heading;
 pub mod heading_atx;
 pub mod heading_setext;

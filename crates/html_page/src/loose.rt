@@ -103,7 +103,7 @@ impl<A: Allocator> Pass<A> {
                 self.ahead = Ahead::default();
             }
             Row::EnterItem { marker, .. } => self.item(marker)?,
-            Row::EnterQuote => self.ahead = self.leave().before_block(),
+            Row::EnterQuote | Row::EnterFootnote => self.ahead = self.leave().before_block(),
             Row::Ending(_) | Row::Blank(_) => self.ahead = self.ahead.before_ending(),
             _ => self.ahead = self.ahead.before_block(),
         }

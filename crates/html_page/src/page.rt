@@ -65,12 +65,14 @@ impl<A: Allocator + Clone> Page<A> {
                 self.fenced_code(texts, lines[0].text, false, top, &lines[1..][..count])
             }
             Row::Html(count) => self.html_block(&texts.options.compile, &lines[..count]),
+            Row::Table(count) => self.table(texts, &lines[..count]),
             Row::Ending(_) if level.silent => Ok(()),
             Row::Ending(ending) => self.push_ending(ending),
             Row::Definition(_)
             | Row::Blank(_)
             | Row::EnterQuote
             | Row::EnterItem { .. }
+            | Row::EnterFootnote
             | Row::Exit => Ok(()),
         }
     }

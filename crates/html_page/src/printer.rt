@@ -1,5 +1,5 @@
 //! Rows to HTML.
-ghost use Rattle.std.specs.Prelude.{◌≡◌, ◌≤◌, ◌<◌, ◌+◌, List, IfOk, OnOk, string_bytes, length};
+ghost use Rattle.std.specs.Prelude.{◌≡◌, ◌≤◌, ◌<◌, ◌+◌, ◌^◌, List, IfOk, OnOk, string_bytes, length};
 ghost use Rattle.markdown_options.specs.LineEndings.{ending_bytes};
 ghost use Rattle.definition_inline.specs.Definition.{Definition};
 ghost use Rattle.definition_text.specs.BlockLines.{BlockLine};
@@ -9,7 +9,7 @@ ghost use Rattle.html_bytes.specs.Html.{document_pieces};
 ghost use Rattle.block_rows.specs.Rows.{rows_size, row_size, piece_lines, rows_of, row_value, rows_value};
 ghost use Rattle.html_contents.specs.Texts.{HasDefinitions, document_by};
 ghost use Rattle.html_page.specs.Printable.{IsPrintableRow, ArePrintable, CanBePrinted};
-ghost use Rattle.html_page.specs.PrinterView.{ends_blank_rows, is_blank_row, printer_view, print_row};
+ghost use Rattle.html_page.specs.PrinterView.{ends_blank_rows, is_blank_row, printer_view, print_row, shown_row};
 
 use crate::level::{Holder, Level};
 use crate::loose::{Place, places};
@@ -28,11 +28,37 @@ pub(crate) struct Printer<A: Allocator + Clone> {
     pub(crate) outer: Vec<Level, A>,
     /// The places of the items to come, the next one last.
     pub(crate) places: Vec<Place, A>,
+    /// How many containers are open from a footnote definition on, in which nothing is printed.
+    pub(crate) hidden: usize,
 }
 
 impl<A: Allocator + Clone> Printer<A> {
-    /// Prints a row. A block takes its lines from the front of these.
+    /// Prints a row, unless it stands in a footnote definition. A block takes its lines from the
+    /// front of these.
     fn row<T: Tables>(
+        &mut self,
+        texts: &Texts<'_, T, A>,
+        row: Row,
+        lines: &[Piece<'_>],
+    ) -> Result<(), AllocError>
+        requires enough { row_size row ≤ length lines.now }
+        requires printable { IsPrintableRow (row_value row (piece_lines lines.now)) }
+        requires few { self.old.hidden + 1 < 2 ^ 64 }
+        ensures default { self.new.page.default_ending ≡ self.old.page.default_ending }
+        ensures printed { (ds : List Definition) → HasDefinitions texts.now.labels.now texts.now.links.now ds →
+            let d = document_by T.Tables texts.now ds in let value = row_value row (piece_lines lines.now) in
+            OnOk result (printer_view self.new ≡ print_row d (ending_bytes self.old.page.default_ending) (printer_view self.old) value) }
+        ensures few { OnOk result (self.new.hidden ≤ self.old.hidden + 1) }
+    {
+        if self.hidden > 0 {
+            self.hidden_row(row);
+            return Ok(());
+        }
+        self.shown_row(texts, row, lines)
+    }
+
+    /// Prints a row that stands in no footnote definition.
+    fn shown_row<T: Tables>(
         &mut self,
         texts: &Texts<'_, T, A>,
         row: Row,
@@ -43,10 +69,15 @@ impl<A: Allocator + Clone> Printer<A> {
         ensures default { self.new.page.default_ending ≡ self.old.page.default_ending }
         ensures printed { (ds : List Definition) → HasDefinitions texts.now.labels.now texts.now.links.now ds →
             let d = document_by T.Tables texts.now ds in let value = row_value row (piece_lines lines.now) in
-            OnOk result (printer_view self.new ≡ print_row d (ending_bytes self.old.page.default_ending) (printer_view self.old) value) }
+            OnOk result (printer_view self.new ≡ shown_row d (ending_bytes self.old.page.default_ending) (printer_view self.old) value) }
+        ensures few { OnOk result (self.new.hidden ≤ self.old.hidden + 1) }
     {
         match row {
             Row::EnterQuote => self.enter_quote(),
+            Row::EnterFootnote => {
+                self.hide();
+                Ok(())
+            }
             Row::EnterItem { number, .. } => self.enter_item(number),
             Row::Exit => self.exit(),
             _ => {
@@ -86,6 +117,7 @@ pub fn print_rows<T: Tables, A: Allocator + Clone>(
         level: Level::new(Holder::Document, false),
         outer: Vec::new(alloc.clone()?),
         places: places(alloc, rows)?,
+        hidden: 0,
     };
     let mut at = 0;
     for row in rows {

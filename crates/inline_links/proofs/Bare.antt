@@ -5,8 +5,8 @@ use Rattle.std.proofs.lemmas.Bool.{cases_Bool, cond_both, cond-false, cond-true,
 use Rattle.definition_text.specs.Content.{Part, content_codes, is_space, may_escape}
 use Rattle.definition_inline.specs.Destination.{is_control, open_after, is_too_deep, ends_bare, bare_end, if_any, unless_empty}
 use Rattle.inline_links.specs.Bare.{is_plain}
-use Rattle.std.proofs.lemmas.List.{drop-drop, get_or-drop, length-drop}
-use Rattle.std.proofs.lemmas.List.Sums.{prefix_len_passes, prefix_len-le-length}
+use Rattle.std.proofs.lemmas.List.{drop-drop, get_or-drop}
+use Rattle.std.proofs.lemmas.List.Sums.{prefix_len_passes}
 use Rattle.inline_links.specs.Codes.{IsCut}
 use Rattle.inline_links.proofs.Cuts.{codes_some, first_code, cut_at}
 

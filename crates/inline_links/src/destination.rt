@@ -17,16 +17,25 @@ ghost use Rattle.inline_links.specs.View.{found_part};
 
 use crate::code::{is_eol, is_space, may_escape, next_code};
 use crate::part::{Part, closed_by, from, up_to};
+use text_search::{ByteClass, run_of};
 
 const PARENTHESIS: u16 = b'(' as u16;
 
 const CLOSING_PARENTHESIS: u16 = b')' as u16;
 
-const BACKSLASH: u16 = b'\\' as u16;
-
 const LESS: u16 = b'<' as u16;
 
 const GREATER: u16 = b'>' as u16;
+
+/// The bytes that neither end a bare destination, nor open or close parentheses, nor escape what
+/// comes next. The first bit is of the upper half of NUL, the second of that of `(`, the fourth of that of
+/// `\`, the fifth of that of DEL, and the third of those of which all bytes are plain.
+const PLAIN: ByteClass = ByteClass {
+    lower: [
+        29, 30, 30, 30, 30, 30, 30, 30, 28, 28, 30, 30, 22, 30, 30, 14,
+    ],
+    upper: [1, 0, 2, 4, 4, 8, 4, 16, 4, 4, 4, 4, 4, 4, 4, 4],
+};
 
 /// A destination; the greatest depth of its parentheses is given, if there is one (CommonMark 6.3).
 pub fn destination(content: &[u8], depth: Option<usize>) -> Option<Part<'_>>
@@ -94,8 +103,7 @@ fn bare(content: &[u8], depth: Option<usize>) -> Option<Part<'_>>
     }
 }
 
-/// The place after the bytes that neither end a bare destination, nor open or close parentheses,
-/// nor escape what comes next.
+/// The place after such bytes.
 fn after_plain(content: &[u8], at: usize) -> usize
     requires { at ≤ length content.now }
     ensures end { result ≡ at + prefix_len is_plain (drop at content.now) }
@@ -109,7 +117,7 @@ fn plain_size(bytes: &[u8]) -> usize
     ensures size { result ≡ prefix_len is_plain bytes.now }
     ensures within { result ≤ length bytes.now }
 {
-    bytes.iter().take_while(|b| is_plain(**b)).count()
+    run_of(bytes, PLAIN)
 }
 
 /// Whether the next byte is escaped after a run of so many of them.
@@ -117,18 +125,6 @@ fn stays(escaped: bool, run: usize) -> bool
     ensures { result ≡ (escaped && (run == 0)) }
 {
     escaped && run == 0
-}
-
-/// A byte that is none of those.
-fn is_plain(byte: u8) -> bool
-    ensures { result ≡ is_plain byte }
-{
-    let code = u16::from(byte);
-    !(is_space(code)
-        || is_control(code)
-        || code == PARENTHESIS
-        || code == CLOSING_PARENTHESIS
-        || code == BACKSLASH)
 }
 
 /// A space, a control character, or a `)` that closes nothing.

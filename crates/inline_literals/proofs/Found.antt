@@ -2,7 +2,7 @@
 use Rattle.std.proofs.Common.{◌≡◌, ℕ, zero, suc, ◌+◌, ◌-◌, ◌<◌, ◌≤◌, List, [], ◌∷◌, ◌++◌, Bool, true, false, cond, not, ◌&&◌, ◌||◌, eqb, Option, None, Some, refl, sym, ap, ◌∙◌, get_or, length, take, drop, arith, inl, inr}
 use Rattle.std.specs.Prelude.{codes, slice_index_or, reverse, nat_lt, is_some}
 use Rattle.std.specs.Char.{to_ascii_lowercase}
-use Rattle.std.proofs.lemmas.Bool.{cases_Bool, cond_both, cond-true, cond-false, eqb-true, eqb-false, ne_eqb, or_cases, or_from, or_parts, and_left, true≢false}
+use Rattle.std.proofs.lemmas.Bool.{cases_Bool, cond_both, cond-true, cond-false, eqb-true, eqb-false, ne_eqb, or_cases, or_from, or_parts, and_left, and_parts, ltb-true, ltb-false, true≢false}
 use Rattle.std.proofs.lemmas.List.{length-take-le, length-reverse, drop-map, get_or-take}
 use Rattle.std.proofs.Math.Seq.{take-add}
 use Rattle.markdown_options.specs.declared.configuration.Constructs.{Constructs}
@@ -14,6 +14,7 @@ use Rattle.definition_inline.specs.Attention.{is_other}
 use Rattle.definition_inline.specs.Inline.{Leaf, leaf, Literal, Www, Protocol}
 use Rattle.definition_inline.specs.GfmAutolinkLiteral as literal
 use Rattle.definition_inline.specs.GfmAutolinkLiteral.{LiteralStart, literal_start, or_start, may_precede_www, may_precede_protocol, begins_caselessly, is_control, domain, ends_literal, has_low_line, is_cut, cut_more, without_tail, literal_run, literal_name, literal_start_at, named_literal, literal_after, literal_at}
+use Rattle.definition_inline.proofs.GfmAutolinkLiteral.{no_start_at}
 use Rattle.inline_content.specs.declared.mark.Mark.{Mark}
 use Rattle.inline_content.specs.View.{width, line_left, kind_after, kind_before, kind_between, previous_after, previous_from, view_from, marked}
 use Rattle.inline_content.specs.Marks.{kind_at}
@@ -231,11 +232,6 @@ module _ (p : ℕ → Bool) (end : Kind) (marks : List Mark) where
 abbrev nothing : Option Leaf
 nothing = None
 
--- none where they are off
-pub none_off : (on : Constructs) (v : List InlineCode) → on.gfm_autolink_literal ≡ false → literal_at on v ≡ None
-none_off on [] off = refl
-none_off on (c ∷ cs) off = cond-false on.gfm_autolink_literal _ nothing off
-
 -- none where no start is found
 pub none_found : (on : Constructs) (v : List InlineCode) (xs : List ℕ) → codes_of v ≡ content_codes xs → ((previous : Option ℕ) → literal_start_at previous xs ≡ None) → literal_at on v ≡ None
 none_found on [] xs same none = refl
@@ -247,66 +243,52 @@ none_found on (c ∷ cs) xs same none =
     both true = refl
     both false = refl
 
--- ---- the first byte
+-- ---- the first two bytes
 
-letter_first : (b : ℕ) (bs : List ℕ) → may_begin (b ∷ bs) ≡ true → 64 < b
-letter_first b bs h = elim (or_cases (eqb b 72) _ h) [
-  | inl is ↦ omega (arith, eqb-true b 72 is)
-  | inr more ↦ elim (or_cases (eqb b 87) _ more) [
-    | inl is ↦ omega (arith, eqb-true b 87 is)
-    | inr last ↦ elim (or_cases (eqb b 104) (eqb b 119) last) [
-      | inl is ↦ omega (arith, eqb-true b 104 is)
-      | inr is ↦ omega (arith, eqb-true b 119 is)
-    ]
-  ]
+-- a letter, by its lower case
+letter_is : (b t : ℕ) → 64 < t → t < 128 → to_ascii_lowercase b ≡ t → (64 < b) × (b < 128)
+letter_is b t low high =
+    cond_both (nat_lt b 65) b (cond (nat_lt b 91) (b + 32) b) (λ l. l ≡ t → (64 < b) × (b < 128)) (λ _ e. (omega (arith, e, low), omega (arith, e, high)))
+    (λ from. cond_both (nat_lt b 91) (b + 32) b (λ l. l ≡ t → (64 < b) × (b < 128))
+    (λ to e. (omega (arith, ltb-false b 65 from), omega (arith, ltb-true b 91 to)))
+    (λ _ e. (omega (arith, e, low), omega (arith, e, high))))
+
+-- a letter comes first
+pub may_letter : (xs : List ℕ) → may_begin xs ≡ true → (0 < length xs) × ((64 < get_or xs 0 0) × (get_or xs 0 0 < 128))
+may_letter [] h = absurd (true≢false (sym h))
+may_letter (b ∷ bs) h = elim (or_cases (begins_caselessly (codes "ww") (b ∷ bs)) (begins_caselessly (codes "ht") (b ∷ bs)) h) [
+  | inl ww ↦
+      (omega arith, letter_is b 119 (omega arith) (omega arith) (sym (eqb-true 119 (to_ascii_lowercase b) (and_parts (eqb 119 (to_ascii_lowercase b)) _ ww).0)))
+  | inr ht ↦
+      (omega arith, letter_is b 104 (omega arith) (omega arith) (sym (eqb-true 104 (to_ascii_lowercase b) (and_parts (eqb 104 (to_ascii_lowercase b)) _ ht).0)))
 ]
 
-lower_is : (b t : ℕ) → (b ≡ t → ⊥) → (b + 32 ≡ t → ⊥) → to_ascii_lowercase b ≡ t → ⊥
-lower_is b t small large =
-    cond_both (nat_lt b 65) b (cond (nat_lt b 91) (b + 32) b) (λ l. l ≡ t → ⊥) (λ _. small)
-    (λ _. cond_both (nat_lt b 91) (b + 32) b (λ l. l ≡ t → ⊥) (λ _. large) (λ _. small))
+letter_first : (b : ℕ) (bs : List ℕ) → may_begin (b ∷ bs) ≡ true → 64 < b
+letter_first b bs h = (may_letter (b ∷ bs) h).1.0
 
+-- two bytes that don't come first begin no longer text
 none_start : (previous : Option ℕ) (xs : List ℕ) → may_begin xs ≡ false → literal_start_at previous xs ≡ None
 none_start previous xs h =
-    let start : Bool → Bool → Bool → Option LiteralStart =
-    λ www http https. or_start (cond (may_precede_www previous && www) (Some (literal_start Www 4)) None)
-    (cond (not (may_precede_protocol previous)) None (cond http (Some (literal_start Protocol 7)) (cond https (Some (literal_start Protocol 8)) None))) in
-    let ww : begins_caselessly (codes "www.") xs ≡ false = w xs h in
-    let hp : begins_caselessly (codes "http://") xs ≡ false = p xs h in
-    let hs : begins_caselessly (codes "https://") xs ≡ false = s xs h in
-    ap (λ a. start a (begins_caselessly (codes "http://") xs) (begins_caselessly (codes "https://") xs)) ww
-    ∙ ap (λ a. start false a (begins_caselessly (codes "https://") xs)) hp
-    ∙ ap (start false false) hs
-    ∙ all (may_precede_www previous) (may_precede_protocol previous)
+    let parts = or_parts (begins_caselessly (codes "ww") xs) (begins_caselessly (codes "ht") xs) h in
+    no_start_at previous xs
+    (record {
+      www = longer 119 119 (codes "w.") xs parts.0;
+      http = longer 104 116 (codes "tp://") xs parts.1;
+      https = longer 104 116 (codes "tps://") xs parts.1;
+    })
   where
-    all : (a b : Bool) → or_start (cond (a && false) (Some (literal_start Www 4)) None) (cond (not b) None (cond false (Some (literal_start Protocol 7)) (cond false (Some (literal_start Protocol 8)) None))) ≡ None
-    all true true = refl
-    all true false = refl
-    all false true = refl
-    all false false = refl
+    both : (a b more : Bool) → (a && (b && true)) ≡ false → (a && (b && more)) ≡ false
+    both true true more h = absurd (true≢false h)
+    both true false more h = refl
+    both false b more h = refl
 
-    large : (b : ℕ) (r : Bool) → (eqb b 72 || (eqb b 87 || (eqb b 104 || eqb b 119))) ≡ false → (eqb 104 (to_ascii_lowercase b) ≡ false) × (eqb 119 (to_ascii_lowercase b) ≡ false)
-    large b r h =
-        let one = or_parts (eqb b 72) _ h in
-        let two = or_parts (eqb b 87) _ one.1 in
-        let three = or_parts (eqb b 104) (eqb b 119) two.1 in (
-          ne_eqb 104 (to_ascii_lowercase b) (λ e. lower_is b 104 (eqb-false b 104 three.0) (λ k. eqb-false b 72 one.0 (omega (arith, k))) (sym e)),
-          ne_eqb 119 (to_ascii_lowercase b) (λ e. lower_is b 119 (eqb-false b 119 three.1) (λ k. eqb-false b 87 two.0 (omega (arith, k))) (sym e)),
-        )
+    longer : (a b : ℕ) (more xs : List ℕ) → begins_caselessly (a ∷ b ∷ []) xs ≡ false → begins_caselessly (a ∷ b ∷ more) xs ≡ false
+    longer a b more [] h = refl
+    longer a b more (x ∷ []) h = both (eqb (to_ascii_lowercase a) (to_ascii_lowercase x)) false false h
+    longer a b more (x ∷ y ∷ ys) h =
+        both (eqb (to_ascii_lowercase a) (to_ascii_lowercase x)) (eqb (to_ascii_lowercase b) (to_ascii_lowercase y)) (begins_caselessly more ys) h
 
-    w : (xs : List ℕ) → may_begin xs ≡ false → begins_caselessly (codes "www.") xs ≡ false
-    w [] h = refl
-    w (b ∷ bs) h = and_left (eqb 119 (to_ascii_lowercase b)) _ (large b true h).1
-
-    p : (xs : List ℕ) → may_begin xs ≡ false → begins_caselessly (codes "http://") xs ≡ false
-    p [] h = refl
-    p (b ∷ bs) h = and_left (eqb 104 (to_ascii_lowercase b)) _ (large b true h).0
-
-    s : (xs : List ℕ) → may_begin xs ≡ false → begins_caselessly (codes "https://") xs ≡ false
-    s [] h = refl
-    s (b ∷ bs) h = and_left (eqb 104 (to_ascii_lowercase b)) _ (large b true h).0
-
--- none where no such byte comes first
+-- none where they don't come first
 pub none_first : (on : Constructs) (v : List InlineCode) (xs : List ℕ) → codes_of v ≡ content_codes xs → may_begin xs ≡ false → literal_at on v ≡ None
 none_first on v xs same h = none_found on v xs same (λ previous. none_start previous xs h)
 

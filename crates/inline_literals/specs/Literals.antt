@@ -6,7 +6,7 @@ use Rattle.definition_text.specs.Content.{content_codes}
 use Rattle.definition_text.specs.InlineCode.{first_kind, is_continuation}
 use Rattle.definition_inline.specs.Attention.{is_other}
 use Rattle.definition_inline.specs.GfmAutolinkLiteral as literal
-use Rattle.definition_inline.specs.GfmAutolinkLiteral.{has_low_line, is_among, is_control, literal_name, literal_start}
+use Rattle.definition_inline.specs.GfmAutolinkLiteral.{begins_caselessly, has_low_line, is_among, is_control, literal_name, literal_start}
 use Rattle.inline_content.specs.View.{line_left}
 use Rattle.inline_leaves.specs.Leaves.{kind_view, IsPlain}
 use Rattle.inline_literals.specs.declared.gfm_autolink_literal.LiteralStart.{LiteralStart}
@@ -15,10 +15,9 @@ use Rattle.inline_literals.specs.declared.gfm_autolink_literal.LiteralStart.{Lit
 abbrev pub start_view : LiteralStart → literal.LiteralStart
 start_view start = literal_start (kind_view start.kind) start.size
 
--- a byte comes first that a literal may begin with
+-- `ww` or `ht` comes first, in either case: only then a literal may begin
 abbrev pub may_begin : List ℕ → Bool
-may_begin [] = false
-may_begin (b ∷ bs) = (b == 72) || ((b == 87) || ((b == 104) || (b == 119)))
+may_begin bytes = begins_caselessly (codes "ww") bytes || begins_caselessly (codes "ht") bytes
 
 -- bytes that a literal begins with: none of them is CR, and the last is ASCII and no LF
 pub record StartsLiteral (bytes : List ℕ) (size : ℕ) : Type 0 where

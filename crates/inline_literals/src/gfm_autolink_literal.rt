@@ -63,11 +63,11 @@ pub fn literal_at<'a, T: Tables>(
     })
 }
 
-/// Whether a byte comes first that a literal may begin with.
-fn may_begin(bytes: &[u8]) -> bool
+/// Whether `ww` or `ht` comes first, in either case: only then a literal may begin (GFM 6.9).
+pub fn may_begin(bytes: &[u8]) -> bool
     ensures { result ≡ may_begin bytes.now }
 {
-    !bytes.is_empty() && matches!(bytes[0], b'h' | b'H' | b'w' | b'W')
+    begins_caselessly(b"ww", bytes) || begins_caselessly(b"ht", bytes)
 }
 
 /// The content from a place on that isn't inside a character.

@@ -6,4 +6,4 @@ pub mod gfm_autolink_literal;
 mod name;
 
 pub use address::{FoundAddress, first_address};
-pub use gfm_autolink_literal::literal_at;
+pub use gfm_autolink_literal::{literal_at, may_begin};

@@ -1,5 +1,5 @@
 -- What follows what is read: one step at a place.
-use Rattle.std.proofs.Common.{◌≡◌, ℕ, zero, suc, ◌+◌, ◌-◌, ◌<◌, ◌≤◌, Bool, true, false, ◌&&◌, ◌||◌, ◌⊎◌, inl, inr, eqb, List, [], ◌∷◌, map, refl, sym, ap, ap₂, ◌∙◌, length, arith, subst, take, drop, get_or, Option, None, Some}
+use Rattle.std.proofs.Common.{◌≡◌, ℕ, zero, suc, ◌+◌, ◌-◌, ◌<◌, ◌≤◌, Bool, true, false, ◌&&◌, inl, inr, eqb, List, [], ◌∷◌, map, refl, sym, ap, ap₂, ◌∙◌, length, arith, subst, take, drop, get_or, Option, None, Some}
 use Rattle.std.specs.List.{prefix_len}
 use Rattle.std.specs.Str.{IsCharBoundary, IsUtf8}
 use Rattle.std.proofs.lemmas.Str.{IsCharBoundary-after_ascii}
@@ -7,19 +7,23 @@ use Rattle.std.specs.Prelude.{IfSome}
 use Rattle.std.specs.Result.{OnOk}
 use Rattle.std.specs.declared.result.Result.{Result}
 use Rattle.std.specs.declared.result.Result.TheVariants.{Ok, Err}
-use Rattle.std.proofs.lemmas.Bool.{or_cases, and_parts, eqb-true, eqb-false, cases_Bool, cond-true}
+use Rattle.std.proofs.lemmas.Bool.{eqb-true, eqb-false, cases_Bool, cond-true}
 use Rattle.std.proofs.lemmas.List.{length-drop, length-map, get_or-take}
 use Rattle.std.proofs.lemmas.List.Sums.{prefix_len_passes, prefix_len-le-length}
+use Rattle.markdown_options.specs.declared.configuration.Constructs.{Constructs}
 use Rattle.markdown_options.specs.declared.configuration.ParseOptions.{ParseOptions}
 use Rattle.definition_text.specs.Content.{content_codes}
 use Rattle.definition_text.specs.InlineCode.{InlineCode, codes_of}
-use Rattle.definition_inline.specs.Inline.{Inline, Data, leaf}
-use Rattle.definition_inline.specs.Attention.{run_at, is_marker}
+use Rattle.definition_inline.specs.Inline.{Inline, Data, leaf, or_else}
+use Rattle.definition_inline.specs.GfmAutolinkLiteral.{literal_at}
+use Rattle.definition_inline.proofs.GfmAutolinkLiteral.{literals_off}
+use Rattle.definition_inline.proofs.Scanning.{drop-codes_of}
+use Rattle.definition_inline.specs.Attention.{run_at}
 use Rattle.definition_inline.specs.Spans.{Item, Delimiters}
 use Rattle.definition_inline.specs.LabelEnd.{Ended}
 use Rattle.definition_inline.specs.Definition.{Definition}
 use Rattle.definition_inline.specs.Scan as scan
-use Rattle.definition_inline.specs.Scan.{InlineContext, label_start_at, start_bytes, start_more, read_tokens, leaf_at}
+use Rattle.definition_inline.specs.Scan.{InlineContext, label_start_at, start_bytes, start_more, read_tokens, leaf_here}
 use Rattle.inline_runs.specs.View.{run_view}
 use Rattle.inline_runs.specs.declared.run.Run.{Run}
 use Rattle.inline_content.specs.declared.content.Content.{Content}
@@ -28,8 +32,10 @@ use Rattle.inline_content.specs.Fronts.{StartsRun}
 use Rattle.inline_content.proofs.Runs.{marker_at, marker_ascii}
 use Rattle.inline_leaves.specs.Leaves.{size_before, IsAfter}
 use Rattle.inline_leaves.specs.Leaves.{IsEnd as IsByteEnd}
-use Rattle.inline_leaves.specs.Scanned.{leaf_in}
+use Rattle.inline_leaves.specs.Scanned.{leaf_in, without_labels}
 use Rattle.inline_leaves.proofs.Codes.{end_after, plain_code, plain_take, plain_drop, size_plain, cut_plain, is_after}
+use Rattle.inline_literals.specs.Literals.{may_begin}
+use Rattle.inline_literals.proofs.Found.{none_first}
 use Rattle.inline_label_ends.specs.declared.forms.LabelEnd.{LabelEnd}
 use Rattle.inline_label_ends.specs.Ends.{IsAfterEnd, IsEnd, IsEnded}
 use Rattle.inline_parser.specs.declared.label.LabelStart.{LabelStart}
@@ -57,7 +63,7 @@ dropped rest after n e some le = omega (arith, ap length e, length-drop n rest)
 pub ascii_boundary : (bs : List ℕ) (n : ℕ) → n ≤ length bs → (n < length bs → get_or bs n 0 < 128) → IsCharBoundary bs n
 ascii_boundary bs n le ascii = (le, λ lt high. absurd (omega (arith, ascii lt, high)))
 
--- a special byte is a code
+-- an ASCII byte that is no line ending is a code
 pub single_of : (bytes : List ℕ) → IsUtf8 bytes → 0 < length bytes → texts.IsSpecial bytes → IsSingle bytes
 single_of [] utf8 some s = absurd (omega (arith, some))
 single_of (b ∷ bs) utf8 some s = record {
@@ -166,6 +172,23 @@ single_next bytes s = after_next bytes (drop 1 bytes) s.next
 single_size : (bytes : List ℕ) → IsSingle bytes → size_before bytes (drop 1 bytes) ≡ 1
 single_size bytes s = omega (arith, ap length s.code)
 
+-- no literal begins in text
+no_literal : (on : Constructs) (rest : List ℕ) (view : List InlineCode) (n k : ℕ) → n ≤ length rest → k < n → ((j : ℕ) → j < n → get_or rest j 0 ≡ 13 → ⊥)
+    → codes_of view ≡ content_codes rest → (on.gfm_autolink_literal ≡ true → (j : ℕ) → j < n → may_begin (drop j rest) ≡ false) → literal_at on (drop k view) ≡ None
+no_literal on rest view n k le lt plain codes bare = elim (cases_Bool on.gfm_autolink_literal) [
+  | inl is ↦
+      none_first on (drop k view) (drop k rest)
+      (drop-codes_of k view ∙ ap (drop k) codes ∙ plain_drop k rest (omega (arith, le, lt)) (λ j less. plain j (omega (arith, less, lt)))) (bare is k lt)
+  | inr off ↦ literals_off on (drop k view) off
+]
+
+-- where no other construct begins, a literal is what begins here
+pub with_literal : (options : ParseOptions) (names : List ℕ → Option (List ℕ)) (p : ℕ → Bool) (content : Content) (rest : List ℕ) → IsPlace content.text.now rest
+    → leaf_in options names (content_codes rest) ≡ None
+    → leaf_here (without_labels options names) (view_at p content rest) ≡ literal_at options.constructs (view_at p content rest)
+with_literal options names p content rest place none =
+    ap (λ o. or_else o (literal_at options.constructs (view_at p content rest))) (ap (leaf_in options names) (codes_left p content rest place) ∙ none)
+
 module _ (options : ParseOptions) (names : List ℕ → Option (List ℕ)) (p : ℕ → Bool) (ds : List Definition) (content : Content) where
   view_count : (rest : List ℕ) → IsPlace content.text.now rest → 0 < length (content_codes rest) → 0 < length (view_at p content rest)
   view_count rest place some =
@@ -182,14 +205,16 @@ module _ (options : ParseOptions) (names : List ℕ → Option (List ℕ)) (p : 
 
   -- bytes of text
   pub text_follows : (rest : List ℕ) (n : ℕ) (now final : scan.Reading) → IsPlace content.text.now rest → n ≤ length rest
-      → ((k : ℕ) → k < n → is_text_at (drop k (content_codes rest)) ≡ true) → ((k : ℕ) → k < n → get_or rest k 0 ≡ 13 → ⊥) → IsAfter rest (drop n rest)
+      → ((k : ℕ) → k < n → is_text_at (drop k (content_codes rest)) ≡ true) → ((k : ℕ) → k < n → get_or rest k 0 ≡ 13 → ⊥)
+      → (options.constructs.gfm_autolink_literal ≡ true → (k : ℕ) → k < n → may_begin (drop k rest) ≡ false) → IsAfter rest (drop n rest)
       → scan.scan (context_by options names ds) 0 now (view_at p content rest) ≡ final
       → scan.scan (context_by options names ds) 0 (read_tokens (map Item (map Data (take n rest))) now) (view_at p content (drop n rest)) ≡ final
-  text_follows rest n now final place le text plain after same =
+  text_follows rest n now final place le text plain bare after same =
       let codes = codes_left p content rest place in
       let bytes : take n (codes_of (view_at p content rest)) ≡ take n rest = ap (take n) codes ∙ plain_take n rest le plain in
       moved rest (drop n rest) now (read_tokens (map Item (map Data (take n rest))) now) final n place (after_next rest (drop n rest) after) (sym (size_plain n rest (drop n rest) refl le plain)) same
       (texts.text_steps (context_by options names ds) n now (view_at p content rest) (λ k lt. ap (λ cs. is_text_at (drop k cs)) codes ∙ text k lt)
+      (λ k lt. no_literal options.constructs rest (view_at p content rest) n k le lt plain codes bare)
       ∙ ap (λ bs. scan.scan (context_by options names ds) 0 (read_tokens (map Item (map Data bs)) now) (drop n (view_at p content rest))) bytes)
 
   -- a construct that holds no other
@@ -200,13 +225,20 @@ module _ (options : ParseOptions) (names : List ℕ → Option (List ℕ)) (p : 
   leaf_follows rest after parts now final place found is same =
       moved rest after now (read_tokens (map Item parts) now) final (size_before rest after) place (after_next rest after is) refl same
       (goes.leaf_goes (context_by options names ds) now (view_at p content rest) (leaf parts (size_before rest after))
-      (ap (leaf_in options names) (codes_left p content rest place) ∙ sym found))
+      (ap (λ o. or_else o (literal_at options.constructs (view_at p content rest))) (ap (leaf_in options names) (codes_left p content rest place) ∙ sym found)))
 
-  none_left : (rest : List ℕ) → IsPlace content.text.now rest → leaf_in options names (content_codes rest) ≡ None → leaf_at (context_by options names ds) (codes_of (view_at p content rest)) ≡ None
-  none_left rest place none = ap (leaf_in options names) (codes_left p content rest place) ∙ none
+  -- a literal
+  pub literal_follows : (rest after : List ℕ) (parts : List Inline) (now final : scan.Reading) → IsPlace content.text.now rest
+      → leaf_in options names (content_codes rest) ≡ None
+      → Some (leaf parts (size_before rest after)) ≡ literal_at options.constructs (view_at p content rest) → IsAfter rest after
+      → scan.scan (context_by options names ds) 0 now (view_at p content rest) ≡ final
+      → scan.scan (context_by options names ds) 0 (read_tokens (map Item parts) now) (view_at p content after) ≡ final
+  literal_follows rest after parts now final place none found is same =
+      moved rest after now (read_tokens (map Item parts) now) final (size_before rest after) place (after_next rest after is) refl same
+      (goes.leaf_goes (context_by options names ds) now (view_at p content rest) (leaf parts (size_before rest after)) (with_literal options names p content rest place none ∙ sym found))
 
   -- a run
-  pub run_follows : (rest : List ℕ) (run : Run) (now final : scan.Reading) → IsPlace content.text.now rest → leaf_in options names (content_codes rest) ≡ None
+  pub run_follows : (rest : List ℕ) (run : Run) (now final : scan.Reading) → IsPlace content.text.now rest → leaf_here (without_labels options names) (view_at p content rest) ≡ None
       → Some (run_view run) ≡ run_at options (view_at p content rest) → StartsRun options rest run
       → scan.scan (context_by options names ds) 0 now (view_at p content rest) ≡ final
       → scan.scan (context_by options names ds) 0 (read_tokens (Delimiters (run_view run) ∷ []) now) (view_at p content (drop run.size rest)) ≡ final
@@ -215,10 +247,10 @@ module _ (options : ParseOptions) (names : List ℕ → Option (List ℕ)) (p : 
       moved rest (drop run.size rest) now (read_tokens (Delimiters (run_view run) ∷ []) now) final run.size place
       (after_next rest (drop run.size rest) (is_after rest (drop run.size rest) run.size refl front.end.some front.end.within front.end.cut))
       (sym (size_plain run.size rest (drop run.size rest) refl front.end.within (run_plain options rest run starts))) same
-      (goes.run_goes (context_by options names ds) now (view_at p content rest) (run_view run) (none_left rest place none) (sym is) front.end.some)
+      (goes.run_goes (context_by options names ds) now (view_at p content rest) (run_view run) none (sym is) front.end.some)
 
   -- a label start
-  pub start_follows : (rest : List ℕ) (s : LabelStart) (now final : scan.Reading) → IsPlace content.text.now rest → leaf_in options names (content_codes rest) ≡ None
+  pub start_follows : (rest : List ℕ) (s : LabelStart) (now final : scan.Reading) → IsPlace content.text.now rest → leaf_here (without_labels options names) (view_at p content rest) ≡ None
       → run_at options (view_at p content rest) ≡ None → Some (start_view s) ≡ label_start_at options.constructs (content_codes rest) → StartsLabel rest s → 0 < length rest
       → scan.scan (context_by options names ds) 0 now (view_at p content rest) ≡ final
       → scan.scan (context_by options names ds) 0 (opened s (drop (length (start_bytes (start_view s))) rest) now) (view_at p content (drop (length (start_bytes (start_view s))) rest)) ≡ final
@@ -229,12 +261,12 @@ module _ (options : ParseOptions) (names : List ℕ → Option (List ℕ)) (p : 
       let codes = codes_left p content rest place in
       let left : drop k (codes_of (view_at p content rest)) ≡ content_codes (drop k rest) = ap (drop k) codes ∙ plain_drop k rest front.end.within plain in
       moved rest (drop k rest) now (opened s (drop k rest) now) final k place (after_next rest (drop k rest) after) (sym (size_plain k rest (drop k rest) refl front.end.within plain)) same
-      (goes.start_view_goes (context_by options names ds) now (view_at p content rest) (start_view s) k (start_count s) (view_count rest place (omega (arith, after.fewer))) (none_left rest place none) no_run
+      (goes.start_view_goes (context_by options names ds) now (view_at p content rest) (start_view s) k (start_count s) (view_count rest place (omega (arith, after.fewer))) none no_run
       (ap (label_start_at options.constructs) codes ∙ sym is)
       ∙ ap (λ from. scan.scan (context_by options names ds) 0 (scan.reading (scan.text [] false) (record { start = start_view s; from = from; outer = now.now } ∷ now.open_labels)) (drop k (view_at p content rest))) left)
 
   -- a `]` that forms nothing
-  pub nothing_follows : (rest : List ℕ) (now final : scan.Reading) → IsPlace content.text.now rest → leaf_in options names (content_codes rest) ≡ None
+  pub nothing_follows : (rest : List ℕ) (now final : scan.Reading) → IsPlace content.text.now rest → leaf_here (without_labels options names) (view_at p content rest) ≡ None
       → run_at options (view_at p content rest) ≡ None → label_start_at options.constructs (content_codes rest) ≡ None → options.constructs.label_end ≡ true → get_or rest 0 0 ≡ 93 → IsSingle rest → 0 < length rest
       → ended_here (context_by options names ds) (content_codes rest) now.open_labels now.now ≡ None
       → scan.scan (context_by options names ds) 0 now (view_at p content rest) ≡ final
@@ -243,14 +275,14 @@ module _ (options : ParseOptions) (names : List ℕ → Option (List ℕ)) (p : 
       let codes = codes_left p content rest place in
       let first = first_code rest (view_at p content rest) single codes in
       moved rest (drop 1 rest) now (read_tokens (map Item (map Data (take 1 rest))) (unformed_in now.open_labels now.now)) final 1 place (single_next rest single) (sym (single_size rest single)) same
-      (goes.nothing_view_goes (context_by options names ds) now (view_at p content rest) (view_count rest place (omega (arith, single.next.fewer))) (none_left rest place none) no_run
+      (goes.nothing_view_goes (context_by options names ds) now (view_at p content rest) (view_count rest place (omega (arith, single.next.fewer))) none no_run
       (ap (label_start_at options.constructs) codes ∙ no_start) end (first ∙ bracket)
       (ap (λ cs. ended_here (context_by options names ds) cs now.open_labels now.now) codes ∙ ended)
       ∙ ap (λ bs. scan.scan (context_by options names ds) 0 (read_tokens (map Item (map Data bs)) (unformed_in now.open_labels now.now)) (drop 1 (view_at p content rest)))
       (sym (one_byte rest some ∙ ap (λ b. b ∷ []) bracket)))
 
   -- a `]` that forms a link or an image
-  pub formed_follows : (rest after : List ℕ) (e : Ended) (now final : scan.Reading) → IsPlace content.text.now rest → leaf_in options names (content_codes rest) ≡ None
+  pub formed_follows : (rest after : List ℕ) (e : Ended) (now final : scan.Reading) → IsPlace content.text.now rest → leaf_here (without_labels options names) (view_at p content rest) ≡ None
       → run_at options (view_at p content rest) ≡ None → label_start_at options.constructs (content_codes rest) ≡ None → options.constructs.label_end ≡ true → get_or rest 0 0 ≡ 93 → IsSingle rest → 0 < length rest
       → ended_here (context_by options names ds) (content_codes rest) now.open_labels now.now ≡ Some e → e.size ≡ size_before (drop 1 rest) after → IsNext (drop 1 rest) after
       → scan.scan (context_by options names ds) 0 now (view_at p content rest) ≡ final
@@ -263,13 +295,13 @@ module _ (options : ParseOptions) (names : List ℕ → Option (List ℕ)) (p : 
       let left : drop e.size (drop 1 (view_at p content rest)) ≡ view_at p content after =
       ap (drop e.size) one ∙ ap (λ n. drop n (view_at p content (drop 1 rest))) size ∙ view_next p content (drop 1 rest) after there next in
       ap (scan.scan (context_by options names ds) 0 (formed_in e.target now.open_labels now.now)) (sym left)
-      ∙ sym (goes.formed_view_goes (context_by options names ds) now (view_at p content rest) e (view_count rest place (omega (arith, single.next.fewer))) (none_left rest place none) no_run
+      ∙ sym (goes.formed_view_goes (context_by options names ds) now (view_at p content rest) e (view_count rest place (omega (arith, single.next.fewer))) none no_run
       (ap (label_start_at options.constructs) codes ∙ no_start) end (first ∙ bracket)
       (ap (λ cs. ended_here (context_by options names ds) cs now.open_labels now.now) codes ∙ ended))
       ∙ same
 
   -- a byte at which nothing starts
-  pub byte_follows : (rest : List ℕ) (now final : scan.Reading) → IsPlace content.text.now rest → leaf_in options names (content_codes rest) ≡ None
+  pub byte_follows : (rest : List ℕ) (now final : scan.Reading) → IsPlace content.text.now rest → leaf_here (without_labels options names) (view_at p content rest) ≡ None
       → run_at options (view_at p content rest) ≡ None → label_start_at options.constructs (content_codes rest) ≡ None → (options.constructs.label_end && eqb (get_or rest 0 0) 93) ≡ false → IsSingle rest → 0 < length rest
       → scan.scan (context_by options names ds) 0 now (view_at p content rest) ≡ final
       → scan.scan (context_by options names ds) 0 (read_tokens (map Item (map Data (take 1 rest))) now) (view_at p content (drop 1 rest)) ≡ final
@@ -277,6 +309,6 @@ module _ (options : ParseOptions) (names : List ℕ → Option (List ℕ)) (p : 
       let codes = codes_left p content rest place in
       let first = first_code rest (view_at p content rest) single codes in
       moved rest (drop 1 rest) now (read_tokens (map Item (map Data (take 1 rest))) now) final 1 place (single_next rest single) (sym (single_size rest single)) same
-      (goes.byte_view_goes (context_by options names ds) now (view_at p content rest) (get_or rest 0 0) (view_count rest place (omega (arith, single.next.fewer))) (none_left rest place none) no_run
+      (goes.byte_view_goes (context_by options names ds) now (view_at p content rest) (get_or rest 0 0) (view_count rest place (omega (arith, single.next.fewer))) none no_run
       (ap (label_start_at options.constructs) codes ∙ no_start) first no_end
       ∙ ap (λ bs. scan.scan (context_by options names ds) 0 (read_tokens (map Item (map Data bs)) now) (drop 1 (view_at p content rest))) (sym (one_byte rest some)))

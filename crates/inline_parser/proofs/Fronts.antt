@@ -1,6 +1,6 @@
 -- Text before the first byte at which a construct may start.
-use Rattle.std.proofs.Common.{◌≡◌, ℕ, zero, suc, ◌+◌, ◌-◌, ◌<◌, ◌≤◌, List, [], ◌∷◌, Bool, true, false, not, ◌||◌, ◌&&◌, eqb, leb, refl, sym, ap, ◌∙◌, get_or, length, drop, arith, Fits, w8, ◌⊎◌, inl, inr}
-use Rattle.std.proofs.lemmas.Bool.{cases_Bool, cases_lt, cond-false, cond-true, eqb-true, false≢true, or_right, leb-false, agree_below_at}
+use Rattle.std.proofs.Common.{◌≡◌, ℕ, zero, suc, ◌+◌, ◌-◌, ◌<◌, ◌≤◌, List, [], ◌∷◌, Bool, true, false, not, ◌||◌, ◌&&◌, eqb, leb, refl, sym, ap, ◌∙◌, get_or, length, drop, arith, subst, Fits, w8, ◌⊎◌, inl, inr}
+use Rattle.std.proofs.lemmas.Bool.{cases_Bool, cases_lt, cond-false, cond-true, eqb-true, false≢true, or_right, or_cases, or_from, ne_eqb, leb-false, agree_below_at}
 use Rattle.std.proofs.lemmas.List.{drop_more, get_or-drop, length-drop}
 use Rattle.std.proofs.lemmas.List.Sums.{fails_before_first, passes_at_first, prefix_len-le-length}
 use Rattle.std.specs.List.{position_or_len}
@@ -8,7 +8,9 @@ use Rattle.definition_text.specs.Columns.{is_white, indent, bare}
 use Rattle.definition_text.specs.Content.{content_codes, is_eol}
 use Rattle.definition_inline.specs.HardBreak.{ends_here}
 use Rattle.inline_leaves.proofs.Codes.{plain_code, at_return}
-use Rattle.inline_parser.specs.Plain.{starts, is_special, is_text_at}
+use Rattle.inline_literals.specs.Literals.{may_begin}
+use Rattle.inline_literals.proofs.Found.{may_letter}
+use Rattle.inline_parser.specs.Plain.{starts, starts_here, is_special, is_text_at, IsStart}
 use Rattle.inline_parser.proofs.Texts.{IsText, is_other, no_text, more_text, byte_text, special_stop, white_starts_not}
 
 -- no construct starts at so many bytes at the front
@@ -163,23 +165,70 @@ pub stop_ascii : (b : ℕ) → Fits w8 b → (is_white b || starts b) ≡ true �
 stop_ascii b fits stop =
     leb-false 128 b (ap (λ s. s && leb 128 b) (sym stop) ∙ agree_below_at (λ x. (is_white x || starts x) && leb 128 x) (λ _. false) 256 b refl fits.fits)
 
--- the first byte at which something starts
-module _ (bytes : List ℕ) (stop : ℕ) (first : stop ≡ position_or_len starts bytes) where
-  pub stop_within : stop ≤ length bytes
-  stop_within = omega (arith, first, prefix_len-le-length (λ x. not (starts x)) bytes)
+-- where a construct starts, its byte does, or it is a letter
+started : (bytes : List ℕ) → starts_here bytes ≡ true → (starts (get_or bytes 0 0) ≡ true) ⊎ (may_begin bytes ≡ true)
+started bytes h = or_cases (starts (get_or bytes 0 0)) (may_begin bytes) h
 
-  pub stop_starts : stop < length bytes → starts (get_or bytes stop 0) ≡ true
-  stop_starts lt = ap (λ k. starts (get_or bytes k 0)) first ∙ passes_at_first starts bytes 0 (omega (arith, first, lt))
+-- a letter is ASCII, no white space and no line ending
+pub letter_dark : (b : ℕ) → 64 < b → b < 128 → (is_white b ≡ false) × (is_eol b ≡ false)
+letter_dark b low high = (
+  or_from (eqb b 32 || eqb b 9) (eqb b 256) (or_from (eqb b 32) (eqb b 9) (ne_eqb b 32 (λ e. omega (arith, e, low))) (ne_eqb b 9 (λ e. omega (arith, e, low))))
+      (ne_eqb b 256 (λ e. omega (arith, e, high))),
+  or_from (eqb b 10 || eqb b 13) (eqb b 257) (or_from (eqb b 10) (eqb b 13) (ne_eqb b 10 (λ e. omega (arith, e, low))) (ne_eqb b 13 (λ e. omega (arith, e, low))))
+      (ne_eqb b 257 (λ e. omega (arith, e, high))),
+)
 
-  free : AreFree bytes stop
-  free k lt = fails_before_first starts bytes k 0 (omega (arith, first, lt))
+-- the first place at which something starts
+module _ (literals : Bool) (bytes : List ℕ) (stop : ℕ) (first : IsStart literals bytes stop) where
+  here : get_or (drop stop bytes) 0 0 ≡ get_or bytes stop 0
+  here = get_or-drop stop bytes 0 0 ∙ ap (λ k. get_or bytes k 0) (omega arith)
+
+  pub start_cases : stop < length bytes → (starts (get_or bytes stop 0) ≡ true) ⊎ (may_begin (drop stop bytes) ≡ true)
+  start_cases lt = elim (started (drop stop bytes) (first.stops lt)) [
+    | inl h ↦ inl (ap starts (sym here) ∙ h)
+    | inr h ↦ inr h
+  ]
+
+  letter_here : may_begin (drop stop bytes) ≡ true → (64 < get_or bytes stop 0) × (get_or bytes stop 0 < 128)
+  letter_here may = subst (λ b. (64 < b) × (b < 128)) here (may_letter (drop stop bytes) may).1
+
+  stop_dark : stop < length bytes → is_white (get_or bytes stop 0) ≡ false
+  stop_dark lt = elim (start_cases lt) [
+    | inl h ↦ started_dark (get_or bytes stop 0) h
+    | inr may ↦ let l = letter_here may in (letter_dark (get_or bytes stop 0) l.0 l.1).0
+  ]
+
+  pub first_ascii : Fits w8 (get_or bytes stop 0) → stop < length bytes → get_or bytes stop 0 < 128
+  first_ascii fits lt = elim (start_cases lt) [
+    | inl h ↦ stop_ascii (get_or bytes stop 0) fits (or_right (is_white (get_or bytes stop 0)) _ h)
+    | inr may ↦ (letter_here may).1
+  ]
+
+  -- text ends there
+  pub first_stops : stop < length bytes → (is_text_at (content_codes (drop stop bytes)) ≡ false) ⊎ (may_begin (drop stop bytes) ≡ true)
+  first_stops lt = elim (start_cases lt) [
+    | inl h ↦ inl (start_stops bytes stop lt h)
+    | inr may ↦ inr may
+  ]
 
   -- it is no line ending
   pub stop_text : stop < length bytes → is_eol (get_or bytes stop 0) ≡ false → IsText bytes stop
-  stop_text lt inner = free_text bytes stop stop_within free (λ some. inr (lt, (started_dark (get_or bytes stop 0) (stop_starts lt), inner)))
+  stop_text lt inner = free_text bytes stop first.within first.free (λ some. inr (lt, (stop_dark lt, inner)))
 
   -- white space before it is left out
   pub dark_text : (size : ℕ) → size ≤ stop → (0 < size → is_white (get_or bytes (size - 1) 0) ≡ false) → IsText bytes size
   dark_text size le dark =
-      free_text bytes size (omega (arith, le, stop_within)) (λ k lt. free k (omega (arith, lt, le)))
+      free_text bytes size (omega (arith, le, first.within)) (λ k lt. first.free k (omega (arith, lt, le)))
       (λ some. inl (some, λ k e. let place : size - 1 ≡ k = omega (arith, e) in ap (λ j. is_white (get_or bytes j 0)) (sym place) ∙ dark some))
+
+-- the first byte at which a construct starts, where literals are off
+pub plain_start : (bytes : List ℕ) (stop : ℕ) → stop ≡ position_or_len starts bytes → IsStart false bytes stop
+plain_start bytes stop first = record {
+  within = omega (arith, first, prefix_len-le-length (λ x. not (starts x)) bytes);
+  free = λ k lt. fails_before_first starts bytes k 0 (omega (arith, first, lt));
+  bare = λ e. absurd (false≢true e);
+  stops = λ lt.
+      ap (λ s. s || may_begin (drop stop bytes))
+      (ap starts (get_or-drop stop bytes 0 0 ∙ ap (λ k. get_or bytes k 0) (omega arith)) ∙ ap (λ k. starts (get_or bytes k 0)) first
+      ∙ passes_at_first starts bytes 0 (omega (arith, first, lt)));
+}

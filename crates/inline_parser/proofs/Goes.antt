@@ -6,9 +6,9 @@ use Rattle.definition_inline.specs.Inline.{Data, Leaf}
 use Rattle.definition_inline.specs.Attention.{Run, run_at}
 use Rattle.definition_inline.specs.Spans.{Item, Delimiters}
 use Rattle.definition_inline.specs.LabelEnd.{Ended}
-use Rattle.definition_inline.specs.Scan.{InlineContext, leaf_at, LabelStart, label_start_at, start_more, text, Text, OpenLabel, Reading, reading, read_tokens, label_end_step, ended_step, and_then, scan}
+use Rattle.definition_inline.specs.Scan.{InlineContext, leaf_here, LabelStart, label_start_at, start_more, text, Text, OpenLabel, Reading, reading, read_tokens, label_end_step, ended_step, and_then, scan}
 use Rattle.definition_inline.proofs.Scanning.{scan_skipped, scan_step, step_leaf, step_run, step_start, step_last}
-use Rattle.definition_inline.proofs.InlineSizes.{leaf_fits}
+use Rattle.definition_inline.proofs.InlineSizes.{here_fits}
 use Rattle.inline_parser.specs.Shows.{unformed_in, formed_in}
 use Rattle.inline_parser.proofs.Texts.{other_step}
 use Rattle.inline_parser.specs.Scanned.{ended_here}
@@ -22,22 +22,22 @@ unfolding is_there
 no_none x e = true≢false (sym (ap is_there e))
 
 module _ (context : InlineContext) where
-  pub leaf_goes : (r : Reading) (view : List InlineCode) (found : Leaf) → leaf_at context (codes_of view) ≡ Some found
+  pub leaf_goes : (r : Reading) (view : List InlineCode) (found : Leaf) → leaf_here context view ≡ Some found
       → scan context 0 r view ≡ scan context 0 (read_tokens (map Item found.parts) r) (drop found.size view)
-  leaf_goes r [] found is = let fits = leaf_fits context [] found is in absurd (omega (arith, fits.some, fits.within))
+  leaf_goes r [] found is = let fits = here_fits context [] found is in absurd (omega (arith, fits.some, fits.within))
   leaf_goes r (c ∷ cs) found is =
-      let fits = leaf_fits context (codes_of (c ∷ cs)) found is in
+      let fits = here_fits context (c ∷ cs) found is in
       scan_step context r (read_tokens (map Item found.parts) r) c cs (found.size - 1) (step_leaf context r c cs found is)
       ∙ ap (λ n. scan context 0 (read_tokens (map Item found.parts) r) (drop n (c ∷ cs))) (omega (arith, fits.some))
 
-  pub run_goes : (r : Reading) (view : List InlineCode) (run : Run) → leaf_at context (codes_of view) ≡ None → run_at context.options view ≡ Some run → 0 < run.left
+  pub run_goes : (r : Reading) (view : List InlineCode) (run : Run) → leaf_here context view ≡ None → run_at context.options view ≡ Some run → 0 < run.left
       → scan context 0 r view ≡ scan context 0 (read_tokens (Delimiters run ∷ []) r) (drop run.left view)
   run_goes r [] run none is some = absurd (no_none run is)
   run_goes r (c ∷ cs) run none is some =
       scan_step context r (read_tokens (Delimiters run ∷ []) r) c cs (run.left - 1) (step_run context r c cs run none is)
       ∙ ap (λ n. scan context 0 (read_tokens (Delimiters run ∷ []) r) (drop n (c ∷ cs))) (omega (arith, some))
 
-  pub start_goes : (r : Reading) (c : InlineCode) (cs : List InlineCode) (start : LabelStart) → leaf_at context (codes_of (c ∷ cs)) ≡ None → run_at context.options (c ∷ cs) ≡ None
+  pub start_goes : (r : Reading) (c : InlineCode) (cs : List InlineCode) (start : LabelStart) → leaf_here context (c ∷ cs) ≡ None → run_at context.options (c ∷ cs) ≡ None
       → label_start_at context.options.constructs (codes_of (c ∷ cs)) ≡ Some start
       → scan context 0 r (c ∷ cs)
       ≡ scan context 0 (reading (text [] false) (record { start = start; from = drop (1 + start_more start) (codes_of (c ∷ cs)); outer = r.now } ∷ r.open_labels)) (drop (1 + start_more start) (c ∷ cs))
@@ -46,7 +46,7 @@ module _ (context : InlineContext) where
       (step_start context r c cs start none no_run is)
 
   -- a `]` is read
-  end_read : (r : Reading) (c : InlineCode) (cs : List InlineCode) → leaf_at context (codes_of (c ∷ cs)) ≡ None → run_at context.options (c ∷ cs) ≡ None
+  end_read : (r : Reading) (c : InlineCode) (cs : List InlineCode) → leaf_here context (c ∷ cs) ≡ None → run_at context.options (c ∷ cs) ≡ None
       → label_start_at context.options.constructs (codes_of (c ∷ cs)) ≡ None → (context.options.constructs.label_end && eqb c.code 93) ≡ true
       → scan context 0 r (c ∷ cs) ≡ and_then (label_end_step context (codes_of (c ∷ cs)) r.now r.open_labels) (λ k next. scan context k next cs)
   end_read r c cs none no_run no_start is =
@@ -58,7 +58,7 @@ module _ (context : InlineContext) where
   none_read now [] c cs is = refl
   none_read now (label ∷ others) c cs is = ap (λ e. and_then (ended_step label others now e) (λ k next. scan context k next cs)) is
 
-  pub end_forms_nothing : (r : Reading) (c : InlineCode) (cs : List InlineCode) → leaf_at context (codes_of (c ∷ cs)) ≡ None → run_at context.options (c ∷ cs) ≡ None
+  pub end_forms_nothing : (r : Reading) (c : InlineCode) (cs : List InlineCode) → leaf_here context (c ∷ cs) ≡ None → run_at context.options (c ∷ cs) ≡ None
       → label_start_at context.options.constructs (codes_of (c ∷ cs)) ≡ None → (context.options.constructs.label_end && eqb c.code 93) ≡ true
       → ended_here context (codes_of (c ∷ cs)) r.open_labels r.now ≡ None
       → scan context 0 r (c ∷ cs) ≡ scan context 0 (read_tokens (Item (Data 93) ∷ []) (unformed_in r.open_labels r.now)) cs
@@ -71,7 +71,7 @@ module _ (context : InlineContext) where
       ap (λ o. and_then (ended_step label others now o) (λ k next. scan context k next cs)) is
       ∙ scan_skipped context e.size (formed_in e.target (label ∷ others) now) cs
 
-  pub end_forms : (r : Reading) (c : InlineCode) (cs : List InlineCode) (e : Ended) → leaf_at context (codes_of (c ∷ cs)) ≡ None → run_at context.options (c ∷ cs) ≡ None
+  pub end_forms : (r : Reading) (c : InlineCode) (cs : List InlineCode) (e : Ended) → leaf_here context (c ∷ cs) ≡ None → run_at context.options (c ∷ cs) ≡ None
       → label_start_at context.options.constructs (codes_of (c ∷ cs)) ≡ None → (context.options.constructs.label_end && eqb c.code 93) ≡ true
       → ended_here context (codes_of (c ∷ cs)) r.open_labels r.now ≡ Some e
       → scan context 0 r (c ∷ cs) ≡ scan context 0 (formed_in e.target r.open_labels r.now) (drop e.size cs)
@@ -79,7 +79,7 @@ module _ (context : InlineContext) where
 
   -- ---- the same of codes of which there are some
 
-  pub start_view_goes : (r : Reading) (view : List InlineCode) (start : LabelStart) (n : ℕ) → n ≡ 1 + start_more start → 0 < length view → leaf_at context (codes_of view) ≡ None → run_at context.options view ≡ None
+  pub start_view_goes : (r : Reading) (view : List InlineCode) (start : LabelStart) (n : ℕ) → n ≡ 1 + start_more start → 0 < length view → leaf_here context view ≡ None → run_at context.options view ≡ None
       → label_start_at context.options.constructs (codes_of view) ≡ Some start
       → scan context 0 r view
       ≡ scan context 0 (reading (text [] false) (record { start = start; from = drop n (codes_of view); outer = r.now } ∷ r.open_labels)) (drop n view)
@@ -91,21 +91,21 @@ module _ (context : InlineContext) where
   is_end : (c : ℕ) → context.options.constructs.label_end ≡ true → c ≡ 93 → (context.options.constructs.label_end && eqb c 93) ≡ true
   is_end c on is = ap (λ b. b && eqb c 93) on ∙ ap (λ k. eqb k 93) is
 
-  pub nothing_view_goes : (r : Reading) (view : List InlineCode) → 0 < length view → leaf_at context (codes_of view) ≡ None → run_at context.options view ≡ None
+  pub nothing_view_goes : (r : Reading) (view : List InlineCode) → 0 < length view → leaf_here context view ≡ None → run_at context.options view ≡ None
       → label_start_at context.options.constructs (codes_of view) ≡ None → context.options.constructs.label_end ≡ true → get_or (codes_of view) 0 0 ≡ 93
       → ended_here context (codes_of view) r.open_labels r.now ≡ None
       → scan context 0 r view ≡ scan context 0 (read_tokens (Item (Data 93) ∷ []) (unformed_in r.open_labels r.now)) (drop 1 view)
   nothing_view_goes r [] some none no_run no_start on is ended = absurd (omega (arith, some))
   nothing_view_goes r (c ∷ cs) some none no_run no_start on is ended = end_forms_nothing r c cs none no_run no_start (is_end c.code on is) ended
 
-  pub formed_view_goes : (r : Reading) (view : List InlineCode) (e : Ended) → 0 < length view → leaf_at context (codes_of view) ≡ None → run_at context.options view ≡ None
+  pub formed_view_goes : (r : Reading) (view : List InlineCode) (e : Ended) → 0 < length view → leaf_here context view ≡ None → run_at context.options view ≡ None
       → label_start_at context.options.constructs (codes_of view) ≡ None → context.options.constructs.label_end ≡ true → get_or (codes_of view) 0 0 ≡ 93
       → ended_here context (codes_of view) r.open_labels r.now ≡ Some e
       → scan context 0 r view ≡ scan context 0 (formed_in e.target r.open_labels r.now) (drop e.size (drop 1 view))
   formed_view_goes r [] e some none no_run no_start on is ended = absurd (omega (arith, some))
   formed_view_goes r (c ∷ cs) e some none no_run no_start on is ended = end_forms r c cs e none no_run no_start (is_end c.code on is) ended
 
-  pub byte_view_goes : (r : Reading) (view : List InlineCode) (b : ℕ) → 0 < length view → leaf_at context (codes_of view) ≡ None → run_at context.options view ≡ None
+  pub byte_view_goes : (r : Reading) (view : List InlineCode) (b : ℕ) → 0 < length view → leaf_here context view ≡ None → run_at context.options view ≡ None
       → label_start_at context.options.constructs (codes_of view) ≡ None → get_or (codes_of view) 0 0 ≡ b → (context.options.constructs.label_end && eqb b 93) ≡ false
       → scan context 0 r view ≡ scan context 0 (read_tokens (map Item (map Data (b ∷ []))) r) (drop 1 view)
   byte_view_goes r [] b some none no_run no_start is no_end = absurd (omega (arith, some))

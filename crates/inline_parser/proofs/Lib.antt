@@ -6,6 +6,7 @@ pub mod Goes
 pub mod Views
 pub mod Texts
 pub mod Fronts
+pub mod LiteralFronts
 pub mod Follow
 pub mod Whole
 pub mod Placed

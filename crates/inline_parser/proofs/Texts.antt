@@ -1,5 +1,5 @@
 -- Text in a content: what the scan makes of it, and what stands after it.
-use Rattle.std.proofs.Common.{◌≡◌, ℕ, zero, suc, ◌+◌, ◌-◌, ◌<◌, ◌≤◌, List, [], ◌∷◌, ◌++◌, Bool, true, false, not, eqb, leb, ◌||◌, ◌&&◌, Option, None, Some, refl, sym, ap, ◌∙◌, get_or, length, drop, take, map, arith, ◌⊎◌, inl, inr}
+use Rattle.std.proofs.Common.{◌≡◌, ℕ, zero, suc, ◌+◌, ◌-◌, ◌<◌, ◌≤◌, List, [], ◌∷◌, ◌++◌, Bool, true, false, not, eqb, leb, ◌||◌, ◌&&◌, Option, None, Some, refl, sym, ap, ◌∙◌, get_or, length, drop, take, map, arith, subst, ◌⊎◌, inl, inr}
 use Rattle.std.proofs.lemmas.Bool.{cases_Bool, cond-false, cond-true, eqb-true, eq-eqb, ne_eqb, le-leb, false≢true, true≢false, not-true, not-false, or_parts, or_cases, or_from, and_left, and_right, and_from}
 use Rattle.std.proofs.lemmas.List.{append-nil, append_assoc, get_or-drop, length-drop, drop-drop}
 use Rattle.markdown_options.specs.declared.configuration.Constructs.{Constructs}
@@ -15,11 +15,14 @@ use Rattle.definition_inline.specs.MathText.{may_open_math, math_text_at}
 use Rattle.definition_text.specs.Runs.{run}
 use Rattle.definition_inline.specs.Autolink.{autolink_at}
 use Rattle.definition_inline.specs.HtmlText.{html_text_at}
+use Rattle.definition_inline.specs.GfmAutolinkLiteral.{literal_at}
+use Rattle.inline_literals.specs.Literals.{may_begin}
+use Rattle.inline_literals.proofs.Found.{may_letter}
 use Rattle.definition_text.specs.InlineCode.{InlineCode, codes_of}
 use Rattle.definition_inline.specs.Inline.{Data, Leaf, or_else}
 use Rattle.definition_inline.specs.Attention.{run_at}
 use Rattle.definition_inline.specs.Spans.{Token, Item}
-use Rattle.definition_inline.specs.Scan.{InlineContext, leaf_at, label_start_at, text, Reading, reading, read_tokens, Next, step, scan}
+use Rattle.definition_inline.specs.Scan.{InlineContext, leaf_at, leaf_here, label_start_at, text, Reading, reading, read_tokens, Next, step, scan}
 use Rattle.definition_inline.proofs.Scanning.{scan_step, step_last}
 use Rattle.inline_leaves.specs.Leaves.{IsAfter, IsWhite}
 use Rattle.inline_leaves.specs.Scanned.{leaf_in, without_labels}
@@ -167,12 +170,17 @@ text_start on c cs h =
 
 -- ---- what the scan makes of text
 
+-- where no other construct begins, and no literal
+pub none_here : (context : InlineContext) (content : List InlineCode) → leaf_at context (codes_of content) ≡ None
+    → literal_at context.options.constructs content ≡ None → leaf_here context content ≡ None
+none_here context content none no_literal = ap (λ o. or_else o (literal_at context.options.constructs content)) none ∙ no_literal
+
 -- one code of text
 pub text_step : (context : InlineContext) (r : Reading) (c : InlineCode) (cs : List InlineCode) → is_text_at (codes_of (c ∷ cs)) ≡ true
-    → step context r c cs ≡ Next 0 (read_tokens (Item (Data c.code) ∷ []) r)
-text_step context r c cs h =
+    → literal_at context.options.constructs (c ∷ cs) ≡ None → step context r c cs ≡ Next 0 (read_tokens (Item (Data c.code) ∷ []) r)
+text_step context r c cs h no_literal =
     let free = (text_is c.code (codes_of cs) h).0 in
-    step_last context r c cs (text_leaf context c.code (codes_of cs) h) (text_run context.options c cs free) (text_start context.options.constructs c.code (codes_of cs) free)
+    step_last context r c cs (none_here context (c ∷ cs) (text_leaf context c.code (codes_of cs) h) no_literal) (text_run context.options c cs free) (text_start context.options.constructs c.code (codes_of cs) free)
     ∙ cond-false _ _ _ (and_right context.options.constructs.label_end _ (is_other c.code free).closing)
 
 -- tokens that are read one after another
@@ -185,17 +193,18 @@ read_more first more r = ap (λ tokens. reading (text tokens r.now.holds_link) r
 -- codes of text
 pub text_steps : (context : InlineContext) (n : ℕ) (r : Reading) (content : List InlineCode)
     → ((k : ℕ) → k < n → is_text_at (drop k (codes_of content)) ≡ true)
+    → ((k : ℕ) → k < n → literal_at context.options.constructs (drop k content) ≡ None)
     → scan context 0 r content ≡ scan context 0 (read_tokens (map Item (map Data (take n (codes_of content)))) r) (drop n content)
-text_steps context zero r content h = ap (λ x. scan context 0 x content) (sym (read_none r))
-text_steps context (suc n) r [] h = ap (λ x. scan context 0 x []) (sym (read_none r))
-text_steps context (suc n) r (c ∷ cs) h =
+text_steps context zero r content h no_literal = ap (λ x. scan context 0 x content) (sym (read_none r))
+text_steps context (suc n) r [] h no_literal = ap (λ x. scan context 0 x []) (sym (read_none r))
+text_steps context (suc n) r (c ∷ cs) h no_literal =
     let next = read_tokens (Item (Data c.code) ∷ []) r in
-    scan_step context r next c cs 0 (text_step context r c cs (h 0 (omega arith)))
-    ∙ text_steps context n next cs (λ k lt. h (suc k) (omega arith))
+    scan_step context r next c cs 0 (text_step context r c cs (h 0 (omega arith)) (no_literal 0 (omega arith)))
+    ∙ text_steps context n next cs (λ k lt. h (suc k) (omega arith)) (λ k lt. no_literal (suc k) (omega arith))
     ∙ ap (λ x. scan context 0 x (drop n cs)) (read_more (Item (Data c.code) ∷ []) (map Item (map Data (take n (codes_of cs)))) r)
 
 -- a code at which a construct may start, but none does
-pub other_step : (context : InlineContext) (r : Reading) (c : InlineCode) (cs : List InlineCode) → leaf_at context (codes_of (c ∷ cs)) ≡ None
+pub other_step : (context : InlineContext) (r : Reading) (c : InlineCode) (cs : List InlineCode) → leaf_here context (c ∷ cs) ≡ None
     → run_at context.options (c ∷ cs) ≡ None → label_start_at context.options.constructs (codes_of (c ∷ cs)) ≡ None → (context.options.constructs.label_end && eqb c.code 93) ≡ false
     → scan context 0 r (c ∷ cs) ≡ scan context 0 (read_tokens (map Item (map Data (c.code ∷ []))) r) cs
 other_step context r c cs no_leaf no_run no_start no_end =
@@ -355,12 +364,11 @@ special_stop b bs dark special = elim (cases_Bool (eqb b 13)) [
 pub text_end : (bytes : List ℕ) (size : ℕ) → IsText bytes size → 0 < size → IsAfter bytes (drop size bytes)
 text_end bytes size is some = is_after bytes (drop size bytes) size refl some is.within (cut_plain bytes size is.within is.plain)
 
--- the first byte where text ends and no leaf begins: no line ending, and one code
+-- the first byte where text ends and no leaf begins: ASCII, no line ending, and one code
 pub record IsSpecial (bytes : List ℕ) : Type 0 where
   pub ascii : get_or bytes 0 0 < 128
   pub apart_return : get_or bytes 0 0 ≡ 13 → ⊥
   pub apart_feed : get_or bytes 0 0 ≡ 10 → ⊥
-  pub special : is_special (get_or bytes 0 0) ≡ true
   pub place : IsAfter bytes (drop 1 bytes)
 
 pub special_byte : (options : ParseOptions) (names : List ℕ → Option (List ℕ)) (bytes : List ℕ) → 0 < length bytes
@@ -393,16 +401,37 @@ special_byte options names (b ∷ bs) some stop none = elim (cases_Bool (eqb b 1
           ascii = special_ascii b special;
           apart_return = apart;
           apart_feed = λ e. false≢true (sym first.1 ∙ ap is_eol e);
-          special = special;
           place = is_after (b ∷ bs) bs 1 refl (omega arith) (omega arith) (cut_after_byte (b ∷ bs) 1 (omega arith) apart);
         }
+
+-- a letter of a literal
+pub letter_byte : (bytes : List ℕ) → may_begin bytes ≡ true → IsSpecial bytes
+letter_byte bytes may =
+    let letter = may_letter bytes may in
+    let apart : get_or bytes 0 0 ≡ 13 → ⊥ = λ e. omega (arith, e, letter.1.0) in
+    record {
+      ascii = letter.1.1;
+      apart_return = apart;
+      apart_feed = λ e. omega (arith, e, letter.1.0);
+      place = is_after bytes (drop 1 bytes) 1 refl (omega arith) (omega (arith, letter.0)) (cut_after_byte bytes 1 (omega (arith, letter.0)) apart);
+    }
 
 -- a place at which text ends
 pub stops_at : (bytes : List ℕ) (size : ℕ) → IsText bytes size → is_text_at (content_codes (drop size bytes)) ≡ false
     → is_text_at (drop size (content_codes bytes)) ≡ false
 stops_at bytes size is stop = ap is_text_at (plain_drop size bytes is.within is.plain) ∙ stop
 
--- no text at the front
+-- no text at the front: a construct or a literal may start there
 pub nothing_is_text : (bytes : List ℕ) (size : ℕ) → size ≡ 0 → 0 < length bytes
-    → (size < length bytes → is_text_at (drop size (content_codes bytes)) ≡ false) → is_text_at (content_codes bytes) ≡ false
-nothing_is_text bytes size e some stops = ap (λ n. is_text_at (drop n (content_codes bytes))) (sym e) ∙ stops (omega arith)
+    → (size < length bytes → (is_text_at (drop size (content_codes bytes)) ≡ false) ⊎ (may_begin (drop size bytes) ≡ true))
+    → (is_text_at (content_codes bytes) ≡ false) ⊎ (may_begin bytes ≡ true)
+nothing_is_text bytes size e some stops =
+    subst (λ n. (is_text_at (drop n (content_codes bytes)) ≡ false) ⊎ (may_begin (drop n bytes) ≡ true)) e (stops (omega (arith, e, some)))
+
+-- a place at which nothing is text and no leaf begins
+pub stopped : (options : ParseOptions) (names : List ℕ → Option (List ℕ)) (bytes : List ℕ) → 0 < length bytes
+    → (is_text_at (content_codes bytes) ≡ false) ⊎ (may_begin bytes ≡ true) → leaf_in options names (content_codes bytes) ≡ None → IsSpecial bytes
+stopped options names bytes some stops none = elim stops [
+  | inl stop ↦ special_byte options names bytes some stop none
+  | inr may ↦ letter_byte bytes may
+]

@@ -1,8 +1,10 @@
 -- Text in a content (CommonMark 6.9).
-use Rattle.std.specs.Prelude.{ℕ, Bool, false, not, if◌then◌else◌, ◌==◌, ◌||◌, List, [], ◌∷◌}
+use Rattle.std.specs.Prelude.{◌≡◌, ◌<◌, ◌≤◌, ℕ, Bool, true, false, not, if◌then◌else◌, ◌==◌, ◌||◌, List, [], ◌∷◌, drop, length, slice_index}
+use Rattle.std.specs.Char.{to_ascii_lowercase}
 use Rattle.definition_text.specs.Columns.{is_white, bare}
 use Rattle.definition_text.specs.Content.{is_eol}
 use Rattle.definition_inline.specs.HardBreak.{ends_here}
+use Rattle.inline_literals.specs.Literals.{may_begin}
 
 -- a byte that constructs begin with, or that ends one: `\`, `&`, a backtick, `$`, `<`, `*`, `_`, `~`, `!`, `[` or `]`
 abbrev pub is_special : ℕ → Bool
@@ -13,6 +15,25 @@ is_special code =
 -- a code at which a construct may start, if it is no space or tab: one of these, or a line ending
 abbrev pub starts : ℕ → Bool
 starts code = is_special code || is_eol code
+
+-- a letter that a literal may begin with (GFM 6.9)
+abbrev pub is_literal_letter : ℕ → Bool
+is_literal_letter code = (to_ascii_lowercase code == 104) || (to_ascii_lowercase code == 119)
+
+-- a construct may start here, a literal among them
+abbrev pub starts_here : List ℕ → Bool
+starts_here bytes = starts (slice_index bytes 0) || may_begin bytes
+
+-- so many bytes come before the first at which a construct may start, a literal where they are on
+pub record IsStart (has_literals : Bool) (bytes : List ℕ) (stop : ℕ) : Type 0 where
+  pub within : stop ≤ length bytes
+  pub free : (k : ℕ) → k < stop → starts (slice_index bytes k) ≡ false
+  pub bare : has_literals ≡ true → (k : ℕ) → k < stop → may_begin (drop k bytes) ≡ false
+  pub stops : stop < length bytes → starts_here (drop stop bytes) ≡ true
+
+-- the first of these bytes is one of those, or such a letter
+abbrev pub starts_or_letter : ℕ → Bool
+starts_or_letter code = starts code || is_literal_letter code
 
 -- the first code is text: white space before something else on its line, or a code at which nothing starts
 abbrev pub is_text_at : List ℕ → Bool

@@ -1,22 +1,19 @@
 -- A content that is being read, as the definition reads it.
 use Rattle.std.specs.Prelude.{◌≡◌, ◌<◌, ◌≤◌, ℕ, Bool, false, List, [], ◌∷◌, OnOk, Result, Option, None, drop, take, length, slice_index}
-use Rattle.std.specs.List.{prefix_len}
 use Rattle.std.specs.Str.{IsCharBoundary}
 use Rattle.markdown_options.specs.declared.configuration.ParseOptions.{ParseOptions}
-use Rattle.definition_text.specs.Columns.{is_white}
 use Rattle.definition_text.specs.Content.{content_codes}
-use Rattle.definition_text.specs.InlineCode.{InlineCode}
 use Rattle.definition_inline.specs.Definition.{Definition}
 use Rattle.definition_page.specs.InlinePieces.{leads_to}
 use Rattle.definition_inline.specs.Attention.{run_at}
 use Rattle.definition_inline.specs.Scan as scan
 use Rattle.definition_inline.specs.LabelEnd.{Ended}
-use Rattle.definition_inline.specs.Scan.{InlineContext, ended_by, start_bytes}
+use Rattle.definition_inline.specs.Scan.{InlineContext, ended_by, leaf_here, start_bytes}
 use Rattle.definition_page.specs.Targets.{is_label_of, labels_of, linked_at, linked_by}
 use Rattle.inline_content.specs.declared.content.Content.{Content}
-use Rattle.inline_content.specs.View.{content_view, view_at}
+use Rattle.inline_content.specs.View.{view_at}
 use Rattle.inline_leaves.specs.Leaves.{size_before, IsAfter, IsEnd}
-use Rattle.inline_leaves.specs.Scanned.{leaf_in}
+use Rattle.inline_leaves.specs.Scanned.{leaf_in, without_labels}
 use Rattle.inline_labels.specs.declared.table.LabelTable.{LabelTable}
 use Rattle.inline_labels.specs.Table.{HasLabels}
 use Rattle.inline_links.specs.Codes.{IsRest}
@@ -101,6 +98,11 @@ Shortens old result new = OnOk result (length new.rest.now < length old.rest.now
 abbrev pub HasNoLeaf : {T A : Type 0} → (List ℕ → Option (List ℕ)) → Source T A → List ℕ → Type 0
 HasNoLeaf names source rest = leaf_in source.options.now names (content_codes rest) ≡ None
 
--- and with no run of `*`, `_` or `~`, by this punctuation
+-- and with no literal, by this punctuation
+abbrev pub HasNoLeafHere : {T A : Type 0} → (List ℕ → Option (List ℕ)) → (ℕ → Bool) → Source T A → List ℕ → Type 0
+HasNoLeafHere names is_punctuation source rest =
+    leaf_here (without_labels source.options.now names) (view_at is_punctuation source.content rest) ≡ None
+
+-- and with no run of `*`, `_` or `~`
 abbrev pub HasNoRun : {T A : Type 0} → (ℕ → Bool) → Source T A → List ℕ → Type 0
 HasNoRun is_punctuation source rest = run_at source.options.now (view_at is_punctuation source.content rest) ≡ None

@@ -4,6 +4,8 @@
 mod label;
 mod plain;
 mod reading;
+pub mod room;
 pub mod scan;
 
+pub use room::Room;
 pub use scan::{content_start, inline_rows};

@@ -19,11 +19,16 @@ ghost use Rattle.inline_links.specs.Codes.{IsRest};
 ghost use Rattle.inline_parser.specs.Shows.{Shows, ShowsThen, StartsBefore, KeepsStarts, IsSound, OpensAt, opened, formed_last, unformed_last};
 
 use crate::label::{LabelStart, OpenLabel};
+use crate::room::Room;
 use inline_leaves::LeafPart;
 use inline_rows::{InlineRow, LinkTarget};
 use inline_runs::{Pairing, Run};
 use inline_spans::tell_apart;
 use std::alloc::{AllocError, Allocator};
+use std::mem::replace;
+
+/// How many rows there is room for at first: few contents need more.
+const ROWS: usize = 16;
 
 /// The rows so far, and what is open.
 #[derive(Drop)]
@@ -37,24 +42,49 @@ pub(crate) struct Reading<'a, A: Allocator> {
     pub(crate) labels: Vec<OpenLabel<'a>, A>,
     /// Whether a link stands after the innermost of them.
     pub(crate) holds_link: bool,
-    pairing: Pairing<A>,
+    pairing: Box<Pairing<A>, A>,
 }
 
 impl<'a, A: Allocator + Clone> Reading<'a, A> {
-    /// Before anything is read.
-    pub(crate) fn new(alloc: A) -> Result<Reading<'a, A>, AllocError>
+    /// Before anything is read, in room that is left empty until the end.
+    pub(crate) fn new(room: &mut Room<A>) -> Result<Reading<'a, A>, AllocError>
         ensures nothing { (leads : Target → Linked) (at : ℕ → Linked) → IfOk result (λ reading. Shows leads at reading (scan.reading (scan.text [] false) [])) }
         ensures sound { IfOk result IsSound }
         ensures none { IfOk result (λ reading. reading.labels.items ≡ []) }
     {
+        let mut runs = replace(&mut room.runs, Vec::new(room.alloc.clone()?));
+        let mut slots = replace(&mut room.slots, Vec::new(room.alloc.clone()?));
+        runs.clear();
+        slots.clear();
         Ok(Reading {
-            rows: Vec::new(alloc.clone()?),
-            runs: Vec::new(alloc.clone()?),
-            slots: Vec::new(alloc.clone()?),
-            labels: Vec::new(alloc.clone()?),
+            rows: Vec::with_capacity(room.alloc.clone()?, ROWS)?,
+            runs,
+            slots,
+            labels: Vec::new(room.alloc.clone()?),
             holds_link: false,
-            pairing: Pairing::new(alloc)?,
+            pairing: room.take_pairing()?,
         })
+    }
+
+    /// The rows where nothing is left: label starts that are open form nothing. The room is given
+    /// back.
+    pub(crate) fn finish(self, room: &mut Room<A>) -> Result<Vec<InlineRow<'a>, A>, AllocError>
+        requires sound { IsSound self }
+        ensures read { (leads : Target → Linked) (at : ℕ → Linked) (r : scan.Reading) → Shows leads at self.entry r →
+            IfOk result (λ rows. rows_view at rows.items ≡ inline_rows leads (emphasized (whole_text r).tokens)) }
+    {
+        let Reading {
+            mut rows,
+            runs,
+            slots,
+            mut pairing,
+            ..
+        } = self;
+        tell_inner(&mut rows, &runs, &slots, &mut pairing)?;
+        room.runs = runs;
+        room.slots = slots;
+        room.pairing = Some(pairing);
+        Ok(rows)
     }
 }
 
@@ -155,23 +185,6 @@ impl<'a, A: Allocator> Reading<'a, A> {
         self.holds_link = label.around_holds_link(label.start.makes_link(self.holds_link));
         self.rows.push(InlineRow::Exit)?;
         Ok(())
-    }
-
-    /// The rows where nothing is left: label starts that are open form nothing.
-    pub(crate) fn finish(self) -> Result<Vec<InlineRow<'a>, A>, AllocError>
-        requires sound { IsSound self }
-        ensures read { (leads : Target → Linked) (at : ℕ → Linked) (r : scan.Reading) → Shows leads at self.entry r →
-            IfOk result (λ rows. rows_view at rows.items ≡ inline_rows leads (emphasized (whole_text r).tokens)) }
-    {
-        let Reading {
-            mut rows,
-            runs,
-            slots,
-            mut pairing,
-            ..
-        } = self;
-        tell_inner(&mut rows, &runs, &slots, &mut pairing)?;
-        Ok(rows)
     }
 }
 

@@ -1,6 +1,6 @@
 //! The scan of a content from left to right (CommonMark 6 and appendix, phase 2).
 //!
-//!     content ::= white* (text | leaf | run | start | ']')*
+//!     content ::= white* (text | leaf | literal | run | start | ']')*
 ghost use Rattle.std.specs.Prelude.{◌≡◌, ◌<◌, ◌≤◌, ◌==◌, ◌&&◌, ℕ, Bool, List, [], ◌∷◌, Option, None, true};
 ghost use Rattle.std.specs.Prelude.{length, map, IfOk, IfSome, OnOk, take, drop, slice_index};
 ghost use Rattle.std.specs.List.{prefix_len};
@@ -24,12 +24,13 @@ ghost use Rattle.inline_rows.specs.View.{rows_view};
 ghost use Rattle.inline_label_ends.specs.Ends.{IsAfterEnd, IsEnded};
 ghost use Rattle.inline_labels.specs.Table.{HasLabels};
 ghost use Rattle.inline_parser.specs.Scanned.{context_by, ended_here, IsPlace, IsPlaced, IsRunFront, IsSingle, StartsLabel};
-ghost use Rattle.inline_parser.specs.Scanned.{GoesOn, HasNoLeaf, HasNoRun, Shortens, StaysPlaced};
+ghost use Rattle.inline_parser.specs.Scanned.{GoesOn, HasNoLeaf, HasNoLeafHere, HasNoRun, Shortens, StaysPlaced};
 ghost use Rattle.inline_parser.specs.Shows.{opened, start_view, IsSound, Shows, ShowsThen, StartsBefore};
 
 use crate::label::{LabelStart, OpenLabel};
 use crate::plain::text_size;
 use crate::reading::Reading;
+use crate::room::Room;
 use inline_content::Content;
 use inline_label_ends::{LabelEnd, label_end};
 use inline_labels::LabelTable;
@@ -38,6 +39,7 @@ use inline_leaves::cut::{cut_after, text_before};
 use inline_leaves::leaf_at::leaf_at;
 use inline_leaves::searches::Searches;
 use inline_leaves::space::white_size;
+use inline_literals::literal_at;
 use inline_rows::InlineRow;
 use inline_runs::Run;
 use markdown_options::{Constructs, ParseOptions, Tables};
@@ -61,9 +63,10 @@ pub(crate) struct Scanner<'a, A: Allocator> {
     pub(crate) reading: Reading<'a, A>,
 }
 
-/// The inline structure of a content from a place on, as rows (CommonMark 6).
+/// The inline structure of a content from a place on, as rows (CommonMark 6). Whatever the room
+/// holds makes no difference.
 pub fn inline_rows<'a, T: Tables, A: Allocator + Clone>(
-    alloc: A,
+    room: &mut Room<A>,
     options: &'a ParseOptions,
     tables: &'a T,
     labels: &'a LabelTable<A>,
@@ -83,15 +86,15 @@ pub fn inline_rows<'a, T: Tables, A: Allocator + Clone>(
         content,
     };
     let mut scanner = Scanner {
-        searches: Searches::new(alloc.clone()?, content.text()),
+        searches: Searches::new(room.alloc.clone()?, content.text()),
         rest: start,
-        reading: Reading::new(alloc)?,
+        reading: Reading::new(room)?,
     };
     while !scanner.rest.is_empty() {
         scanner.step(&source)?;
     }
     let Scanner { reading, .. } = scanner;
-    reading.finish()
+    reading.finish(room)
 }
 
 /// A content after the spaces and tabs at its start.
@@ -141,11 +144,33 @@ impl<'a, A: Allocator + Clone> Scanner<'a, A> {
         ensures shorter { Shortens self.old result self.new }
         ensures read { GoesOn (T.reference_of source.now.tables.now) (T.punctuation_of source.now.tables.now) source.now self.old result self.new }
     {
-        let size = text_size(self.rest.as_bytes());
+        let has_literals = source.options.constructs.gfm_autolink_literal;
+        let size = text_size(has_literals, self.rest.as_bytes());
         if size > 0 {
             return self.text(size);
         }
         match leaf_at(source.options, source.tables, &mut self.searches, self.rest)? {
+            Some(leaf) => self.leaf(leaf),
+            None => self.literal_or_run(source),
+        }
+    }
+
+    /// A literal, a run, a label start, a `]`, or a byte of text.
+    fn literal_or_run<T: Tables>(&mut self, source: &Source<'a, T, A>) -> Result<(), AllocError>
+        requires placed { IsPlaced source.now.content self.old }
+        requires some { 0 < length self.old.rest.now }
+        requires no_leaf { HasNoLeaf (T.reference_of source.now.tables.now) source.now self.old.rest.now }
+        requires first { IsSingle self.old.rest.now }
+        ensures placed { OnOk result (IsPlaced source.now.content self.new) }
+        ensures shorter { Shortens self.old result self.new }
+        ensures read { GoesOn (T.reference_of source.now.tables.now) (T.punctuation_of source.now.tables.now) source.now self.old result self.new }
+    {
+        match literal_at(
+            &source.options.constructs,
+            source.tables,
+            source.content,
+            self.rest,
+        ) {
             Some(leaf) => self.leaf(leaf),
             None => self.run_or_label(source),
         }
@@ -182,7 +207,7 @@ impl<'a, A: Allocator + Clone> Scanner<'a, A> {
     fn run_or_label<T: Tables>(&mut self, source: &Source<'a, T, A>) -> Result<(), AllocError>
         requires placed { IsPlaced source.now.content self.old }
         requires some { 0 < length self.old.rest.now }
-        requires no_leaf { HasNoLeaf (T.reference_of source.now.tables.now) source.now self.old.rest.now }
+        requires no_leaf { HasNoLeafHere (T.reference_of source.now.tables.now) (T.punctuation_of source.now.tables.now) source.now self.old.rest.now }
         requires first { IsSingle self.old.rest.now }
         ensures placed { OnOk result (IsPlaced source.now.content self.new) }
         ensures shorter { Shortens self.old result self.new }
@@ -215,7 +240,7 @@ impl<'a, A: Allocator + Clone> Scanner<'a, A> {
     fn label_or_byte<T: Tables>(&mut self, source: &Source<'a, T, A>) -> Result<(), AllocError>
         requires placed { IsPlaced source.now.content self.old }
         requires some { 0 < length self.old.rest.now }
-        requires no_leaf { HasNoLeaf (T.reference_of source.now.tables.now) source.now self.old.rest.now }
+        requires no_leaf { HasNoLeafHere (T.reference_of source.now.tables.now) (T.punctuation_of source.now.tables.now) source.now self.old.rest.now }
         requires first { IsSingle self.old.rest.now }
         requires no_run { HasNoRun (T.punctuation_of source.now.tables.now) source.now self.old.rest.now }
         ensures placed { OnOk result (IsPlaced source.now.content self.new) }
@@ -252,7 +277,7 @@ impl<'a, A: Allocator + Clone> Scanner<'a, A> {
     fn end<T: Tables>(&mut self, source: &Source<'a, T, A>) -> Result<(), AllocError>
         requires placed { IsPlaced source.now.content self.old }
         requires some { 0 < length self.old.rest.now }
-        requires no_leaf { HasNoLeaf (T.reference_of source.now.tables.now) source.now self.old.rest.now }
+        requires no_leaf { HasNoLeafHere (T.reference_of source.now.tables.now) (T.punctuation_of source.now.tables.now) source.now self.old.rest.now }
         requires first { IsSingle self.old.rest.now }
         requires no_run { HasNoRun (T.punctuation_of source.now.tables.now) source.now self.old.rest.now }
         requires no_start { label_start_at source.now.options.now.constructs (content_codes self.old.rest.now) ≡ None }

@@ -9,7 +9,7 @@ mod pairs;
 mod run;
 mod spans;
 
-pub use pair::{Pair, Span};
+pub use pair::{Pair, Span, bytes_by};
 pub use pairing::{Pairing, pair_runs};
 pub use run::{Run, run_between};
 pub use spans::RunSpans;

@@ -41,8 +41,8 @@ impl Pair {
     }
 }
 
-/// How many bytes a pair takes of each run.
-pub(crate) fn bytes_by(double: bool) -> usize
+/// How many bytes a pair takes of each run, by whether it takes two (CommonMark 6.2).
+pub fn bytes_by(double: bool) -> usize
     ensures { result ≡ bytes_by double }
 {
     if double { 2 } else { 1 }

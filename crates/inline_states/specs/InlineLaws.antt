@@ -59,8 +59,8 @@ module _ {T : Type 0} (texts : List ℕ → Option (List ℕ)) (is_punctuation :
   pub inline_lawful : LawfulAt (length x.bytes) (program_valid sorts 64 (length x.bytes)) (step_by (bodies texts is_punctuation x)) (program_rank sorts 64 (length x.bytes))
   inline_lawful = program_lawful sorts 64 (length x.bytes) (bodies texts is_punctuation x) least inline_fits
 
-  pub inline_resolves : ResolvesAt {M = Inlines} (program_valid sorts 64 (length x.bytes)) (inline_resolved x) settles_whole
-  inline_resolves = resolves_whole x (program_valid sorts 64 (length x.bytes)) (program_resolves sorts 64 (length x.bytes) (bodies texts is_punctuation x) least inline_fits)
+  pub inline_resolves : ResolvesAt {M = Inlines} (program_valid sorts 64 (length x.bytes)) (inline_resolved is_punctuation x) settles_whole
+  inline_resolves = resolves_whole is_punctuation x (program_valid sorts 64 (length x.bytes)) (program_resolves sorts 64 (length x.bytes) (bodies texts is_punctuation x) least inline_fits)
 
 -- what is open where a state is called
 pub inline_open : {T : Type 0} (texts : List ℕ → Option (List ℕ)) (is_punctuation : ℕ → Bool) (x : Context T) (c : Config Inlines) (stack : List Attempt) (n : Name) → program_valid sorts 64 (length x.bytes) c stack (states.Retry n) → (rest : List EventName) × (open_after [] c.events ≡ named_all c.tokenize_state (sorts n).open_tokens ++ rest)

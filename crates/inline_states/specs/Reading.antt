@@ -33,7 +33,7 @@ module _ {T : Type 0} (texts : List ℕ → Option (List ℕ)) (is_punctuation :
   pub record IsResolved (first : InlineName) (machine : Inlines) (events : List Event) : Type 0 where
     pub read : Config Inlines
     pub runs : Runs (text_of x.bytes) (step_by (bodies texts is_punctuation x)) (fresh text_start machine) [] (states.Next (Inline first)) read true
-    pub are : events ≡ (resolve_all (inline_resolved x) read).config.events
+    pub are : events ≡ (resolve_all (inline_resolved is_punctuation x) read).config.events
 
   -- the events of a text, where contents that may begin with a check begin at these places
   abbrev pub AreTextEvents : Bor (List ℕ) → List Event → Type 0
@@ -46,3 +46,7 @@ module _ {T : Type 0} (texts : List ℕ → Option (List ℕ)) (is_punctuation :
   -- the events of a string
   abbrev pub AreStringEvents : List Event → Type 0
   AreStringEvents events = (machine : Inlines) × (machine.starts.now ≡ []) × IsReading inline_states.StringStart machine events
+
+  -- the same, after the resolvers
+  abbrev pub AreResolvedStringEvents : List Event → Type 0
+  AreResolvedStringEvents events = (machine : Inlines) × (machine.starts.now ≡ []) × IsResolved inline_states.StringStart machine events

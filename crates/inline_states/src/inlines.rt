@@ -76,7 +76,7 @@ impl<'s, T: Tables> Machine<T> for Inlines<'s> {
 
     ghost rank = { λ x. program_rank sorts 64 (length x.bytes) };
 
-    ghost resolved = { λ x. inline_resolved x };
+    ghost resolved = { λ x. inline_resolved (T.punctuation_of x.tables) x };
 
     ghost settled = { λ x. settles_whole };
 

@@ -4,7 +4,7 @@ ghost use Rattle.markdown_options.specs.Messages.{IsOutOfMemory};
 ghost use Rattle.markdown_engine.specs.Context.{context};
 ghost use Rattle.markdown_engine.specs.Machine.{AreCuts};
 ghost use Rattle.markdown_engine.specs.Order.{AreInOrder, IsBalanced};
-ghost use Rattle.inline_states.specs.Reading.{AreResolvedTextEvents, AreStringEvents, AreTextEvents};
+ghost use Rattle.inline_states.specs.Reading.{AreResolvedStringEvents, AreResolvedTextEvents, AreStringEvents, AreTextEvents};
 
 use crate::inlines::Inlines;
 use markdown_engine::event::Event;
@@ -97,4 +97,22 @@ pub fn read_string<T: Tables, A: Allocator + Clone>(
         State::Error(message) => Err(*message),
         _ => Ok(tokenizer.events),
     }
+}
+
+/// The events of a string after its resolvers.
+#[tactic(auto, using(crate::specs::InlineLaws::string_begins))]
+pub fn resolved_string<T: Tables, A: Allocator + Clone>(
+    alloc: A,
+    parse_state: &ParseState<'_, T, A>,
+) -> Result<Vec<Event, A>, Message>
+    ensures reads { IfOk result (λ events. AreResolvedStringEvents
+        (T.reference_of parse_state.now.tables.now) (T.punctuation_of parse_state.now.tables.now) (context parse_state.now) events.items) }
+    ensures balanced { IfOk result (λ events. IsBalanced events.items) }
+    ensures order { IfOk result (λ events. AreInOrder events.items) }
+    ensures memory { IfErr result (λ message. IsOutOfMemory message) }
+{
+    let machine = Inlines { starts: &[] };
+    let mut tokenizer = Tokenizer::new(alloc, START, parse_state, machine)?;
+    tokenizer.resolved(State::Next(Name::Inline(Inline::StringStart)))?;
+    Ok(tokenizer.events)
 }

@@ -1,11 +1,11 @@
 -- What the states of `gfm_autolink_literal` do.
 use Rattle.std.specs.Prelude.{ℕ, Bool, true, false, not, nat_le, nat_lt, is_none, if◌then◌else◌, ◌==◌, ◌&&◌, ◌||◌, List, Option, None, slice_get, take, drop, refl}
 use Rattle.std.specs.Char.{is_ascii_alphabetic, is_ascii_alphanumeric}
-use Rattle.std.specs.Str.{chars, is_utf8}
 use denote.Enum.Bare.{sameb}
 use Rattle.engine_events.specs.declared.event.Name.TheVariants as names
 use Rattle.engine_events.specs.declared.state.Inline.TheVariants as inline_states
 use Rattle.engine_events.specs.declared.state.State.TheVariants as states
+use Rattle.engine_text.specs.Bytes.{first_code, goes_on, width}
 use Rattle.engine_text.specs.Characters.{kind_of_any}
 use Rattle.engine_text.specs.contracts.char.Kind.{the_type}
 use Rattle.engine_text.specs.declared.char.Kind.TheVariants.{Other}
@@ -15,23 +15,12 @@ use Rattle.inline_states_table.specs.Words.{next, retry, more}
 
 -- ---- characters
 
--- so many bytes has a character that begins with this one
-abbrev pub width : ℕ → ℕ
-width b = if nat_lt b 192 then 1 else if nat_lt b 224 then 2 else if nat_lt b 240 then 3 else 4
-
-abbrev pub first_code : List ℕ → Option ℕ
-first_code text = if is_utf8 text then slice_get (chars text) 0 else None
-
 -- the character at an index begins with this byte, and is neither white space nor punctuation
 abbrev pub is_plain : (ℕ → Bool) → List ℕ → ℕ → ℕ → Bool
 is_plain is_punctuation bytes index b = sameb the_type (kind_of_any is_punctuation (first_code (take (width b) (drop index bytes)))) Other
 
 abbrev pub is_control : ℕ → Bool
 is_control b = nat_lt b 32 || (b == 127)
-
--- a byte in a character of several, but not its first
-abbrev pub goes_on : ℕ → Bool
-goes_on b = nat_le 128 b && nat_lt b 192
 
 -- a literal that begins with `www.` may follow this byte
 abbrev pub is_before_www : ℕ → Bool

@@ -9,8 +9,7 @@
 //!
 //! `www.` is read as the front of its domain, of which it has no `_`. Whether a trail begins is asked at
 //! each byte that may begin one, and up to where the answer was no it isn't asked again.
-ghost use Rattle.std.specs.Prelude.{◌≡◌, [], ◌∷◌, take, drop, slice_get};
-ghost use Rattle.std.specs.Str.{chars};
+ghost use Rattle.std.specs.Prelude.{◌≡◌, [], ◌∷◌};
 ghost use Rattle.engine_events.specs.declared.event.Name.TheVariants as names;
 ghost use Rattle.markdown_engine.specs.Machine.{bytes_of, config, constructs_of, tables_of};
 ghost use Rattle.engine_programs.specs.Bodies.{Fixed};
@@ -26,11 +25,12 @@ ghost use Rattle.inline_states_gfm.specs.GfmAutolinkLiteral.{gfm_autolink_litera
 ghost use Rattle.inline_states_gfm.specs.GfmAutolinkLiteral.{gfm_autolink_literal_trail, gfm_autolink_literal_trail_bracket_after};
 ghost use Rattle.inline_states_gfm.specs.GfmAutolinkLiteral.{gfm_autolink_literal_trail_char_ref_start};
 ghost use Rattle.inline_states_gfm.specs.GfmAutolinkLiteral.{gfm_autolink_literal_trail_char_ref_inside};
-ghost use Rattle.inline_states_gfm.specs.GfmAutolinkLiteral.{domain_begun, first_code, goes_on, is_after_bracket, is_before_www, is_control};
+ghost use Rattle.inline_states_gfm.specs.GfmAutolinkLiteral.{domain_begun, is_after_bracket, is_before_www, is_control};
 ghost use Rattle.inline_states_gfm.specs.GfmAutolinkLiteral.{is_domain, is_hard_end, is_known, is_plain, is_scheme_byte, is_trail};
-ghost use Rattle.inline_states_gfm.specs.GfmAutolinkLiteral.{may_trail, no_trail, width};
+ghost use Rattle.inline_states_gfm.specs.GfmAutolinkLiteral.{may_trail, no_trail};
 
 use engine_programs::steps::{attempt_to, check_to, consume_to, exit_to};
+use engine_text::bytes::{first_code, goes_on, part, width};
 use engine_text::char::{Kind, classify_opt};
 use inline_states_table::{next, retry};
 use markdown_engine::event::Name as EventName;
@@ -38,49 +38,6 @@ use markdown_engine::state::{Inline, State};
 use markdown_engine::tokenizer::Tokenizer;
 use markdown_options::Tables;
 use std::alloc::Allocator;
-
-/// How many bytes a character has that begins with a byte.
-fn width(byte: u8) -> usize
-    ensures { result ≡ width byte }
-{
-    match byte {
-        0..=0xBF => 1,
-        0xC0..=0xDF => 2,
-        0xE0..=0xEF => 3,
-        _ => 4,
-    }
-}
-
-/// The first character of a text.
-fn first_of(text: &str) -> Option<char>
-    ensures { result ≡ slice_get (chars text.now) 0 }
-{
-    text.chars().next()
-}
-
-/// The first character of a text, if it is UTF-8.
-fn first_code(text: &[u8]) -> Option<char>
-    ensures { result ≡ first_code text.now }
-{
-    match str::from_utf8(text) {
-        Ok(text) => first_of(text),
-        Err(_) => None,
-    }
-}
-
-/// So many bytes from an index on, or fewer at the end.
-fn part(bytes: &[u8], index: usize, size: usize) -> &[u8]
-    ensures { result.now ≡ take size (drop index bytes.now) }
-{
-    if bytes.len() <= index {
-        return &[];
-    }
-    let rest = &bytes[index..];
-    if rest.len() <= size {
-        return rest;
-    }
-    &rest[..size]
-}
 
 /// Whether the character at an index, which begins with a byte, is no white space and no punctuation.
 fn is_plain<T: Tables>(tables: &T, bytes: &[u8], index: usize, byte: u8) -> bool
@@ -95,13 +52,6 @@ fn is_control(byte: u8) -> bool
     ensures { result ≡ is_control byte }
 {
     byte < 32 || byte == 127
-}
-
-/// Whether a byte is in a character of several, but not its first.
-fn goes_on(byte: u8) -> bool
-    ensures { result ≡ goes_on byte }
-{
-    128 <= byte && byte < 192
 }
 
 /// Whether a literal that begins with `www.` may follow a byte.

@@ -5,7 +5,7 @@ use Rattle.engine_events.specs.declared.event.Name.TheVariants as names
 use Rattle.engine_events.specs.declared.resolve.Name.TheVariants as resolvers
 use Rattle.engine_events.specs.declared.state.Inline.TheVariants as inline_states
 use Rattle.engine_events.specs.declared.state.State.TheVariants as states
-use Rattle.engine_programs.specs.Bodies.{Fixed, Body, Answer, Consume, Enter, Exit, Keep, RegisterFirst, Byte, On, Test}
+use Rattle.engine_programs.specs.Bodies.{Fixed, Body, Answer, Consume, Enter, Exit, Keep, Register, Byte, On, Test}
 use Rattle.inline_states_table.specs.Words.{next, at_marker}
 
 -- at the first byte of a run
@@ -24,6 +24,6 @@ module _ {M : Type 0} where
   -- in a run
   abbrev pub attention_inside : Body M
   attention_inside =
-      Byte (RegisterFirst resolvers.Attention (Exit (Fixed names.AttentionSequence) (Answer states.Ok)))
+      Byte (Register resolvers.Attention (Exit (Fixed names.AttentionSequence) (Answer states.Ok)))
       (Test at_marker (Consume (Answer (next inline_states.AttentionInside)))
-      (RegisterFirst resolvers.Attention (Exit (Fixed names.AttentionSequence) (Answer states.Ok))))
+      (Register resolvers.Attention (Exit (Fixed names.AttentionSequence) (Answer states.Ok))))

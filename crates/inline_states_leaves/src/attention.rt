@@ -72,7 +72,7 @@ pub fn inside<M, T, A: Allocator>(tokenizer: &mut Tokenizer<'_, M, T, A>) -> Sta
         return consume_to(tokenizer, next(Inline::AttentionInside));
     }
     if tokenizer
-        .register_resolver_before(resolve::Name::Attention)
+        .register_resolver(resolve::Name::Attention)
         .is_err()
     {
         return State::out_of_memory();

@@ -1,6 +1,10 @@
 -- Edits, event by event and label by label.
-use Rattle.std.proofs.Common.{◌≡◌, ℕ, ◌+◌, Bool, List, [], refl, ap, add-one}
+use Rattle.std.proofs.Common.{◌≡◌, ℕ, ◌+◌, Bool, List, [], slice_get, refl, ap, add-one}
+use Rattle.definition_inline.specs.Attention.{Run}
 use Rattle.engine_events.specs.declared.event.Event.{Event}
+use Rattle.engine_edits.specs.Edits.{Placed}
+use Rattle.markdown_engine.specs.Context.{Context}
+use Rattle.inline_states_resolvers.specs.Attention.{nothing_sought, run_edit, run_edits, sought, with_index}
 use Rattle.inline_states_resolvers.specs.Data.{data_edits, seam_edit}
 use Rattle.inline_states_resolvers.specs.Whitespace.{index_edit, white_edits}
 
@@ -19,3 +23,20 @@ white_start in_text hard bytes events = refl
 pub white_more : (in_text hard : Bool) (bytes : List ℕ) (events : List Event) (i : ℕ) → white_edits in_text hard bytes events (i + 1) ≡ index_edit in_text hard bytes events i (white_edits in_text hard bytes events i)
 unfolding white_edits
 white_more in_text hard bytes events i = ap (white_edits in_text hard bytes events) (add-one i)
+
+pub runs_start : (events : List Event) (entries : List ℕ) (runs : List Run) (edits : List Placed) → run_edits events entries runs 0 edits ≡ edits
+unfolding run_edits
+runs_start events entries runs edits = refl
+
+pub runs_more : (events : List Event) (entries : List ℕ) (runs : List Run) (k : ℕ) (edits : List Placed) → run_edits events entries runs (k + 1) edits ≡ run_edit events entries runs k (run_edits events entries runs k edits)
+unfolding run_edits
+runs_more events entries runs k edits = ap (λ (n : ℕ). run_edits events entries runs n edits) (add-one k)
+
+module _ {T : Type 0} (is_punctuation : ℕ → Bool) (x : Context T) (events : List Event) where
+  pub sought_start : sought is_punctuation x events 0 ≡ nothing_sought
+  unfolding sought
+  sought_start = refl
+
+  pub sought_more : (i : ℕ) → sought is_punctuation x events (i + 1) ≡ with_index is_punctuation x events i (slice_get events i) (sought is_punctuation x events i)
+  unfolding sought
+  sought_more i = ap (sought is_punctuation x events) (add-one i)

@@ -4,6 +4,8 @@ pub mod Edited
 pub mod Each
 pub mod Data
 pub mod LabelEnd
+pub mod Attention
+pub mod Views
 pub mod Whitespace
 pub mod Resolving
 pub mod ResolvingLaws

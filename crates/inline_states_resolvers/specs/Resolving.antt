@@ -1,10 +1,11 @@
 -- What the resolvers of texts and strings do: each makes its edits, if these leave whole events.
-use Rattle.std.specs.Prelude.{true, false, length}
+use Rattle.std.specs.Prelude.{ℕ, Bool, true, false, length}
 use Rattle.engine_events.specs.declared.resolve.Name.{Name as Resolver}
 use Rattle.engine_events.specs.declared.resolve.Name.TheVariants as resolvers
 use Rattle.markdown_engine.specs.Context.{Context}
 use Rattle.markdown_engine.specs.Reading.{Config}
 use Rattle.markdown_engine.specs.Resolving.{Resolves, nothing_found}
+use Rattle.inline_states_resolvers.specs.Attention.{attention_edits}
 use Rattle.inline_states_resolvers.specs.Data.{data_edits}
 use Rattle.inline_states_resolvers.specs.Edited.{with_edited}
 use Rattle.inline_states_resolvers.specs.LabelEnd.{label_edits}
@@ -17,7 +18,10 @@ module _ {M : Type 0} where
   abbrev pub label_resolved : Config M → Config M
   label_resolved c = with_edited (label_edits c.events c.tokenize_state) c
 
-module _ {T M : Type 0} (x : Context T) where
+module _ {T M : Type 0} (is_punctuation : ℕ → Bool) (x : Context T) where
+  abbrev pub attention_resolved : Config M → Config M
+  attention_resolved c = with_edited (attention_edits is_punctuation x c.events) c
+
   -- texts lose white space at their ends, too
   abbrev pub text_resolved : Config M → Config M
   text_resolved c = with_edited (white_edits true x.options.constructs.hard_break_trailing x.bytes c.events (length c.events)) c
@@ -28,6 +32,7 @@ module _ {T M : Type 0} (x : Context T) where
   abbrev pub resolved_config : Config M → Resolver → Config M
   resolved_config c resolvers.Data = data_resolved c
   resolved_config c resolvers.Label = label_resolved c
+  resolved_config c resolvers.Attention = attention_resolved c
   resolved_config c resolvers.Text = text_resolved c
   resolved_config c resolvers.String = string_resolved c
   resolved_config c n = c

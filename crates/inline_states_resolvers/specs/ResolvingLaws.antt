@@ -1,5 +1,5 @@
 -- The resolvers leave whole events.
-use Rattle.std.proofs.Common.{◌≡◌, refl, Bool, true, false, ◌&&◌, if◌then◌else◌, List, [], ◌∷◌, length}
+use Rattle.std.proofs.Common.{◌≡◌, refl, ℕ, Bool, true, false, ◌&&◌, if◌then◌else◌, List, [], ◌∷◌, length}
 use Rattle.engine_events.specs.declared.event.Event.{Event}
 use Rattle.engine_events.specs.declared.place.Point.{Point}
 use Rattle.engine_events.specs.declared.resolve.Name.{Name as Resolver}
@@ -11,6 +11,7 @@ use Rattle.markdown_engine.specs.Laws.{HoldsAt}
 use Rattle.markdown_engine.specs.Order.{AreWhole}
 use Rattle.markdown_engine.specs.Reading.{Config}
 use Rattle.markdown_engine.specs.Resolving.{ResolvesAt, resolves_nothing, settles_whole}
+use Rattle.inline_states_resolvers.specs.Attention.{attention_edits}
 use Rattle.inline_states_resolvers.specs.Data.{data_edits}
 use Rattle.inline_states_resolvers.specs.Edited.{edited, is_ordered}
 use Rattle.inline_states_resolvers.specs.LabelEnd.{label_edits}
@@ -28,18 +29,19 @@ edited_whole : (edits : List Placed) (to : Point) (events : List Event) → AreW
 unfolding edited
 edited_whole edits to events h = either (is_ordered 0 edits (length events)) (is_whole (events_after edits events) to) (events_after edits events) events to (whole (events_after edits events) to) h
 
-module _ {T M : Type 0} (x : Context T) where
-  settled : (c : Config M) (n : Resolver) → settles_whole c [] → settles_whole (resolved_config x c n) []
+module _ {T M : Type 0} (is_punctuation : ℕ → Bool) (x : Context T) where
+  settled : (c : Config M) (n : Resolver) → settles_whole c [] → settles_whole (resolved_config is_punctuation x c n) []
   settled c resolvers.Data h = (h.0, edited_whole (data_edits c.events (length c.events)) c.point c.events h.1)
   settled c resolvers.Label h = (h.0, edited_whole (label_edits c.events c.tokenize_state) c.point c.events h.1)
+  settled c resolvers.Attention h = (h.0, edited_whole (attention_edits is_punctuation x c.events) c.point c.events h.1)
   settled c resolvers.Text h = (h.0, edited_whole (white_edits true x.options.constructs.hard_break_trailing x.bytes c.events (length c.events)) c.point c.events h.1)
   settled c resolvers.String h = (h.0, edited_whole (white_edits false false x.bytes c.events (length c.events)) c.point c.events h.1)
   settled c n h = h
 
-  kept_settled : (c : Config M) (n : Resolver) (ns : List Resolver) → settles_whole c (n ∷ ns) → settles_whole (inline_resolved x c n).config ns
+  kept_settled : (c : Config M) (n : Resolver) (ns : List Resolver) → settles_whole c (n ∷ ns) → settles_whole (inline_resolved is_punctuation x c n).config ns
   unfolding inline_resolved
   kept_settled c n ns h = settled c n h
 
   -- where resolvers that change nothing are lawful, these are
-  pub resolves_whole : (valid : HoldsAt M) → ResolvesAt valid resolves_nothing settles_whole → ResolvesAt valid (inline_resolved x) settles_whole
+  pub resolves_whole : (valid : HoldsAt M) → ResolvesAt valid resolves_nothing settles_whole → ResolvesAt valid (inline_resolved is_punctuation x) settles_whole
   resolves_whole valid r = record { well = r.well; begins = r.begins; keeps = kept_settled; ordered = r.ordered; whole = r.whole }

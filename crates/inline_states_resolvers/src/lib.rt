@@ -1,6 +1,7 @@
 //! What is done with the events of a text or a string once it is read.
 #![tactic(auto)]
 
+pub mod attention;
 pub mod edited;
 pub mod label_end;
 pub mod partial_data;

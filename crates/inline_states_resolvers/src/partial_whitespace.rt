@@ -13,6 +13,7 @@ use crate::label_end::{later, place_at};
 use crate::partial_data::is_data_at;
 use engine_edits::EditMap;
 use engine_events::place::tab_size;
+use engine_text::bytes::part;
 use markdown_engine::Message;
 use markdown_engine::event::{Event, Kind, Name};
 use markdown_engine::place::Point;
@@ -230,20 +231,6 @@ fn data_part<'a>(trimming: &Trimming<'a>, events: &[Event], index: usize) -> &'a
     let from = place_at(events, index).index;
     let to = place_at(events, index + 1).index;
     part(trimming.bytes, from, to.saturating_sub(from))
-}
-
-/// So many bytes from an index on, or fewer at the end.
-fn part(bytes: &[u8], index: usize, size: usize) -> &[u8]
-    ensures { result.now ≡ take size (drop index bytes.now) }
-{
-    if bytes.len() <= index {
-        return &[];
-    }
-    let rest = &bytes[index..];
-    if rest.len() <= size {
-        return rest;
-    }
-    &rest[..size]
 }
 
 /// Whether data that begins at an index is cut at its start.

@@ -2,9 +2,10 @@
 ghost use Rattle.std.specs.Prelude.{◌≡◌, OnOk, IfErr};
 ghost use Rattle.markdown_options.specs.Messages.{IsOutOfMemory};
 ghost use Rattle.markdown_engine.specs.Machine.{config, read_with};
-ghost use Rattle.inline_states_resolvers.specs.Resolving.{data_resolved, inline_resolved, label_resolved, resolved_config};
+ghost use Rattle.inline_states_resolvers.specs.Resolving.{attention_resolved, data_resolved, inline_resolved, label_resolved, resolved_config};
 ghost use Rattle.inline_states_resolvers.specs.Resolving.{string_resolved, text_resolved};
 
+use crate::attention::attention_edits;
 use crate::edited::make;
 use crate::label_end::label_edits;
 use crate::partial_data::data_edits;
@@ -12,6 +13,7 @@ use crate::partial_whitespace::{Trimming, white_edits};
 use markdown_engine::Message;
 use markdown_engine::resolve::Name;
 use markdown_engine::tokenizer::Tokenizer;
+use markdown_options::Tables;
 use std::alloc::Allocator;
 
 /// Joins data that stands side by side.
@@ -39,11 +41,25 @@ pub fn resolve_label<M, T, A: Allocator + Clone>(
     make(tokenizer, edits)
 }
 
-/// Cuts white space off the ends of a text, and of its lines.
-pub fn resolve_text<M, T, A: Allocator + Clone>(
+/// Puts emphasis, strong emphasis and strikethrough in place of the runs that go together.
+pub fn resolve_attention<M, T: Tables, A: Allocator + Clone>(
     tokenizer: &mut Tokenizer<'_, M, T, A>,
 ) -> Result<(), Message>
-    ensures became { OnOk result (config tokenizer.new ≡ text_resolved (read_with tokenizer.old) (config tokenizer.old)) }
+    ensures became { OnOk result (config tokenizer.new
+        ≡ attention_resolved (T.punctuation_of (read_with tokenizer.old).tables) (read_with tokenizer.old) (config tokenizer.old)) }
+    ensures parse_state { tokenizer.new.parse_state ≡ tokenizer.old.parse_state }
+    ensures memory { IfErr result (λ message. IsOutOfMemory message) }
+{
+    let alloc = tokenizer.events.allocator().clone()?;
+    let edits = attention_edits(&alloc, tokenizer.parse_state, &tokenizer.events)?;
+    make(tokenizer, edits)
+}
+
+/// Cuts white space off the ends of a text, and of its lines.
+pub fn resolve_text<M, T: Tables, A: Allocator + Clone>(
+    tokenizer: &mut Tokenizer<'_, M, T, A>,
+) -> Result<(), Message>
+    ensures became { OnOk result (config tokenizer.new ≡ text_resolved (T.punctuation_of (read_with tokenizer.old).tables) (read_with tokenizer.old) (config tokenizer.old)) }
     ensures parse_state { tokenizer.new.parse_state ≡ tokenizer.old.parse_state }
     ensures memory { IfErr result (λ message. IsOutOfMemory message) }
 {
@@ -58,10 +74,10 @@ pub fn resolve_text<M, T, A: Allocator + Clone>(
 }
 
 /// Cuts white space off the ends of the lines of a string.
-pub fn resolve_string<M, T, A: Allocator + Clone>(
+pub fn resolve_string<M, T: Tables, A: Allocator + Clone>(
     tokenizer: &mut Tokenizer<'_, M, T, A>,
 ) -> Result<(), Message>
-    ensures became { OnOk result (config tokenizer.new ≡ string_resolved (read_with tokenizer.old) (config tokenizer.old)) }
+    ensures became { OnOk result (config tokenizer.new ≡ string_resolved (T.punctuation_of (read_with tokenizer.old).tables) (read_with tokenizer.old) (config tokenizer.old)) }
     ensures parse_state { tokenizer.new.parse_state ≡ tokenizer.old.parse_state }
     ensures memory { IfErr result (λ message. IsOutOfMemory message) }
 {
@@ -77,17 +93,19 @@ pub fn resolve_string<M, T, A: Allocator + Clone>(
 
 /// Runs a resolver.
 #[tactic(auto, unfolding(crate::specs::Resolving::inline_resolved))]
-pub fn resolve<M, T, A: Allocator + Clone>(
+pub fn resolve<M, T: Tables, A: Allocator + Clone>(
     tokenizer: &mut Tokenizer<'_, M, T, A>,
     name: Name,
 ) -> Result<(), Message>
-    ensures config { OnOk result (config tokenizer.new ≡ (inline_resolved (read_with tokenizer.old) (config tokenizer.old) name).config) }
+    ensures config { OnOk result (config tokenizer.new
+        ≡ (inline_resolved (T.punctuation_of (read_with tokenizer.old).tables) (read_with tokenizer.old) (config tokenizer.old) name).config) }
     ensures parse_state { tokenizer.new.parse_state ≡ tokenizer.old.parse_state }
     ensures memory { IfErr result (λ message. IsOutOfMemory message) }
 {
     match name {
         Name::Data => resolve_data(tokenizer),
         Name::Label => resolve_label(tokenizer),
+        Name::Attention => resolve_attention(tokenizer),
         Name::Text => resolve_text(tokenizer),
         Name::String => resolve_string(tokenizer),
         _ => Ok(()),

@@ -5,3 +5,4 @@ pub mod Neighbours
 pub mod Plain
 pub mod GfmTable
 pub mod GroupedRows
+pub mod Looseness

@@ -1,5 +1,5 @@
 -- Which blocks a text can have.
-use Rattle.std.proofs.Common.{◌≡◌, ℕ, suc, zero, Bool, true, false, cond, not, ◌&&◌, ◌||◌, leb, List, [], ◌∷◌, Option, None, Some, length, take, drop, refl, ap, ◌∙◌, eqb, ◌⊎◌, inl, inr, arith}
+use Rattle.std.proofs.Common.{◌≡◌, ℕ, suc, zero, Bool, true, false, cond, not, ◌&&◌, ◌||◌, ◌-◌, leb, List, [], ◌∷◌, Option, None, Some, length, take, drop, refl, ap, ◌∙◌, eqb, ◌⊎◌, inl, inr, arith}
 use Rattle.std.specs.Prelude.{◌==◌, ◌<◌}
 use Rattle.std.specs.List.{prefix_len, position_or_len, list_all}
 use Rattle.std.proofs.lemmas.List.{get_or-take}
@@ -11,13 +11,14 @@ use Rattle.markdown_options.specs.declared.configuration.Constructs.{Constructs}
 use Rattle.definition_text.specs.declared.beside.Beside.{Beside}
 use Rattle.definition_text.specs.declared.beside.Kind.{Kind}
 use Rattle.definition_text.specs.declared.beside.Kind.TheVariants.{Whitespace}
-use Rattle.definition_block.specs.declared.container.Container.{Container}
-use Rattle.definition_block.specs.declared.container.Container.TheVariants.{Quote, Item}
+use Rattle.definition_block.specs.Container.{Container, Quote, Item, Footnote}
 use Rattle.definition_text.specs.Lines.{TextLine, lines}
 use Rattle.definition_text.specs.Columns.{Rest, whole, is_blank, is_white, trimmed, indent, bare, bytes_of}
 use Rattle.definition_text.specs.Indents.{small_indent}
 use Rattle.definition_block.specs.Started.{Started}
-use Rattle.definition_block.specs.Containers.{continues, starts, quote_or}
+use Rattle.definition_block.specs.GfmFootnoteDefinition.{footnote_mark, footnote_of, footnote_start}
+use Rattle.definition_block.specs.Containers.{continues, starts, quote_or, footnote_or}
+use Rattle.definition_block.proofs.GfmFootnoteDefinition.{footnote_either}
 use Rattle.definition_block.specs.BlockQuote.{quote_prefix}
 use Rattle.definition_block.specs.ListItem.{Marker, is_digit, number_of, bullet, delimiter, marker, is_item, item_after, item_start}
 use Rattle.definition_block.specs.CodeIndented.{starts_code_indented}
@@ -29,14 +30,16 @@ use Rattle.definition_block.specs.HeadingAtx.{Atx, heading_atx}
 use Rattle.definition_block.specs.HeadingSetext.{underline, underline_of}
 use Rattle.definition_text.specs.Runs.{run, after_run, is_run}
 use Rattle.definition_block.specs.ThematicBreak.{is_break}
+use Rattle.definition_block.specs.declared.align_kind.AlignKind.{AlignKind}
+use Rattle.definition_block.specs.GfmTable.{delimiter_row, delimiters, is_head}
 use Rattle.definition_inline.specs.Definition.{Definition as LinkDefinition, definition_at}
-use Rattle.definition_text.specs.Content.{content_of}
+use Rattle.definition_text.specs.Content.{Part, content_of}
 use Rattle.definition_block.specs.Definitions.{lines_before, Cut, cut_into, cut_after, cut_most, cut}
 use Rattle.definition_text.specs.BlockLines.{own_lines, BlockLine}
-use Rattle.definition_block.specs.Tree.{one, ended, empty_tree, nothing, tree, blanks, paragraph_of, close_leaf, is_ending, all_endings, front, trailing, without_last, last_of, holds, close, has_text, leaf_with_line, with_line, rest_line, indented_takes, fenced_takes, html_with, html_takes, takes, or_heading, or_fence, or_html, begins, after, text_line_of, break_or_text, text_here, heading_of, underlined, turns, begun, taken, leaf_line, beside_in, start, new, began_blank, goes_on, grow, beside_line, step, steps, closed, children, children_after, Block, Paragraph, Heading, Break, IndentedCode, FencedCode, Html, Definition, Holds, Items, Ending, Blank, Blocks, Nil, Cons, join, blocks, OpenLeaf, Text, Indented, Fenced, OpenHtml, Opening, Leaf, Inside, Tree as BlockTree}
+use Rattle.definition_block.specs.Tree.{one, ended, empty_tree, nothing, tree, blanks, paragraph_of, close_leaf, is_ending, all_endings, front, trailing, without_last, last_of, holds, close, has_text, has_table, is_some_line, table_of, table_if, makes_table, leaf_with_line, with_line, rest_line, indented_takes, fenced_takes, html_with, html_takes, takes, or_heading, or_fence, or_html, begins, after, text_line_of, break_or_text, text_here, heading_of, underlined, turns, begun, taken, leaf_line, beside_in, start, new, began_blank, goes_on, grow, beside_line, step, steps, closed, children, children_after, Block, Paragraph, Heading, Break, IndentedCode, FencedCode, Html, Table, Definition, Holds, Items, Ending, Blank, Blocks, Nil, Cons, join, blocks, OpenLeaf, Text, Indented, Fenced, OpenHtml, OpenTable, Opening, Leaf, Inside, Tree as BlockTree}
 use Rattle.definition_block.specs.Lists.{before, grouped_block, grouped}
 use Rattle.laws_block.specs.ItemMarkers.{is_item_marker, is_unmarked, ItemsAreMarked}
-use Rattle.laws_block.specs.Occurs.{block_has, has, is_word, is_math, NoMath, NoFrontmatter, is_quote, is_list_item, is_indented_code, is_fenced_code, is_html, is_thematic_break, is_definition, is_heading, is_one_line, is_long_heading, is_deep_heading, NoQuotes, NoItems, NoIndentedCode, NoFencedCode, NoHtml, NoBreaks, NoDefinitions, NoHeadings, NoLongHeadings, NoDeepHeadings, NoLists}
+use Rattle.laws_block.specs.Occurs.{block_has, has, is_word, is_math, NoMath, NoFrontmatter, is_quote, is_list_item, is_footnote_definition, is_indented_code, is_fenced_code, is_html, is_table, is_thematic_break, is_definition, is_heading, is_one_line, is_long_heading, is_deep_heading, NoQuotes, NoItems, NoFootnoteDefinitions, NoIndentedCode, NoFencedCode, NoHtml, NoTables, NoBreaks, NoDefinitions, NoHeadings, NoLongHeadings, NoDeepHeadings, NoLists}
 
 -- ---- what may stand in a text
 
@@ -47,6 +50,7 @@ HeadingMayStand on rank ls = ((on.heading_atx ≡ true) × (is_one_line ls ≡ t
 abbrev pub ContainerMayStand : Constructs → Container → Type 0
 ContainerMayStand on Quote = on.block_quote ≡ true
 ContainerMayStand on (Item item) = (on.list_item ≡ true) × (is_item_marker item.marker ≡ true)
+ContainerMayStand on (Footnote label) = on.gfm_footnote_definition ≡ true
 
 -- code whose info is a word, or math
 abbrev pub InfoMayStand : Constructs → List ℕ → Type 0
@@ -61,6 +65,7 @@ abbrev mutual
   BlockMayStand on (IndentedCode ls) = on.code_indented ≡ true
   BlockMayStand on (FencedCode info closed ls) = InfoMayStand on info
   BlockMayStand on (Html ls) = on.html_flow ≡ true
+  BlockMayStand on (Table ls) = on.gfm_table ≡ true
   BlockMayStand on (Definition label destination title) = on.definition ≡ true
   BlockMayStand on (Holds c kids) = ContainerMayStand on c × MayStand on kids
   BlockMayStand on (Items items) = ⊥
@@ -76,6 +81,7 @@ LeafMayStand on (Text ls) = Unit {0}
 LeafMayStand on (Indented ls pending) = on.code_indented ≡ true
 LeafMayStand on (Fenced fence ending ls) = InfoMayStand on fence.info
 LeafMayStand on (OpenHtml kind ls) = on.html_flow ≡ true
+LeafMayStand on (OpenTable ls) = on.gfm_table ≡ true
 
 abbrev OpeningMayStand : Constructs → Opening → Type 0
 OpeningMayStand on (Leaf leaf) = LeafMayStand on leaf
@@ -160,6 +166,7 @@ module _ (on : Constructs) where
   may_hold : (c : Container) (kids : Blocks) → ContainerMayStand on c → MayStand on kids → MayStand on (holds c kids)
   may_hold Quote kids h p = ((h, may_without_last kids p), may_last kids p)
   may_hold (Item item) kids h p = ((h, may_front kids p), may_trail kids p)
+  may_hold (Footnote label) kids h p = ((h, may_front kids p), may_trail kids p)
 
   -- ---- closing
 
@@ -188,6 +195,7 @@ module _ (on : Constructs) where
   may_close_leaf (Indented ls pending) p = (p, (tt, may_blanks pending))
   may_close_leaf (Fenced fence ending ls) p = (p, (tt, tt))
   may_close_leaf (OpenHtml kind ls) p = (p, (tt, tt))
+  may_close_leaf (OpenTable ls) p = (p, (tt, tt))
 
   may_close : (now : Opening) → OpeningMayStand on now → MayStand on (close on now)
   may_close (Leaf leaf) p = may_close_leaf leaf p
@@ -222,6 +230,7 @@ module _ (on : Constructs) where
   may_take (Indented ls pending) rest beside p = may_take_indented ls pending rest beside p
   may_take (Fenced fence opening ls) rest beside p = may_take_fenced fence opening ls rest beside p
   may_take (OpenHtml kind ls) rest beside p = may_take_html kind ls rest beside p
+  may_take (OpenTable ls) rest beside p = tt
 
   -- a heading, a fence and an HTML block are read where they are on
   may_or_heading : (ending : Option LineEnding) (o : Option Atx) → WhereSome (λ (a : Atx). on.heading_atx ≡ true) o → SomeTreeMayStand (or_heading ending o)
@@ -275,6 +284,7 @@ module _ (on : Constructs) where
   may_leaf_with_line line (Indented ls pending) p = p
   may_leaf_with_line line (Fenced fence ending ls) p = p
   may_leaf_with_line line (OpenHtml kind ls) p = p
+  may_leaf_with_line line (OpenTable ls) p = p
 
   may_with_line : (line : BlockLine) (now : Opening) → OpeningMayStand on now → OpeningMayStand on (with_line line now)
   may_with_line line (Leaf leaf) p = may_leaf_with_line line leaf p
@@ -282,14 +292,40 @@ module _ (on : Constructs) where
 
   may_text : (away : Opening) (rest : Rest) (beside : Beside) → OpeningMayStand on away → TreeMayStand on (text_line_of on away rest beside)
   may_text away rest beside p =
-      cond_both (has_text away) _ _ (TreeMayStand on) (λ _. (tt, may_with_line (rest_line rest beside) away p))
+      cond_both (has_text away || has_table away) _ _ (TreeMayStand on) (λ _. (tt, may_with_line (rest_line rest beside) away p))
       (λ _. may_after away (tree Nil (Leaf (Text (rest_line rest beside ∷ [])))) p (tt, tt))
+
+  may_begun : (o : Option BlockTree) (away : Opening) (other : BlockTree) → SomeTreeMayStand o → OpeningMayStand on away → TreeMayStand on other
+      → TreeMayStand on (begun on o away other)
+  may_begun None away other p a q = q
+  may_begun (Some t) away other p a q = may_after away t a p
+
+  may_taken : (o : Option BlockTree) (other : BlockTree) → SomeTreeMayStand o → TreeMayStand on other → TreeMayStand on (taken o other)
+  may_taken None other p q = q
+  may_taken (Some t) other p q = p
+
+  -- a row of delimiters is read where tables are on
+  may_table_of : (definitions : Blocks) (ls : List BlockLine) (row : BlockLine) → on.gfm_table ≡ true → MayStand on definitions
+      → TreeMayStand on (table_of definitions ls row)
+  may_table_of definitions ls row h p = (may-join definitions (paragraph_of (take (length ls - 1) ls)) p (may_paragraph (take (length ls - 1) ls)), h)
+
+  may_table : (o : Option (List AlignKind)) (ls : List BlockLine) (row : BlockLine) → WhereSome {A = List AlignKind} (λ x. on.gfm_table ≡ true) o
+      → SomeTreeMayStand (table_if on o ls row)
+  may_table None ls row h = tt
+  may_table (Some columns) ls row h =
+      let parts = cut on ls in
+      cond_both (is_some_line parts.left && is_head (length columns) ls) _ _ SomeTreeMayStand
+      (λ _. may_table_of parts.definitions parts.left row h (may_cut ls)) (λ _. tt)
+
+  may_make_table : (away : Opening) (rest : Rest) (beside : Beside) → SomeTreeMayStand (makes_table on away rest beside)
+  may_make_table away rest beside =
+      may_table (delimiter_row on rest) (text_here away) (rest_line rest beside) (guarded on.gfm_table (small_indent on rest) (delimiters (bytes_of (bare rest))))
 
   may_break : (away : Opening) (rest : Rest) (beside : Beside) → OpeningMayStand on away → TreeMayStand on (break_or_text on away rest beside)
   may_break away rest beside p =
       cond_both (is_break on rest) _ _ (TreeMayStand on)
       (λ e. may_after away (tree (ended Break beside.ending) nothing) p (((and_parts on.thematic_break _ (and_parts (on.thematic_break && small_indent on rest) _ e).0).0, (tt, tt)), tt))
-      (λ _. may_text away rest beside p)
+      (λ _. may_taken (makes_table on away rest beside) (text_line_of on away rest beside) (may_make_table away rest beside) (may_text away rest beside p))
 
   -- an underline gives the rank 1 or 2
   may_underline : (rest : Rest) → WhereSome (λ rank. (on.heading_setext ≡ true) × (leb rank 2 ≡ true)) (underline on rest)
@@ -311,15 +347,6 @@ module _ (on : Constructs) where
       → SomeTreeMayStand (underlined on o ls ending)
   may_underlined None ls ending h = tt
   may_underlined (Some rank) ls ending h = may_heading rank (cut on ls).definitions (cut on ls).left ending h (may_cut ls)
-
-  may_begun : (o : Option BlockTree) (away : Opening) (other : BlockTree) → SomeTreeMayStand o → OpeningMayStand on away → TreeMayStand on other
-      → TreeMayStand on (begun on o away other)
-  may_begun None away other p a q = q
-  may_begun (Some t) away other p a q = may_after away t a p
-
-  may_taken : (o : Option BlockTree) (other : BlockTree) → SomeTreeMayStand o → TreeMayStand on other → TreeMayStand on (taken o other)
-  may_taken None other p q = q
-  may_taken (Some t) other p q = p
 
   may_leaf_line : (away : Opening) (rest : Rest) (beside : Beside) → OpeningMayStand on away → TreeMayStand on (leaf_line on away rest beside)
   may_leaf_line away rest beside p =
@@ -350,9 +377,19 @@ module _ (on : Constructs) where
       may_item_after (indent rest) interrupts (marker (bare rest)) (and_parts on.list_item (small_indent on rest) both).0 (marked (bare rest)))
       (λ _. tt)
 
+  may_footnote_of : (o : Option Part) → on.gfm_footnote_definition ≡ true → StartedMayStand (footnote_of o)
+  may_footnote_of None h = tt
+  may_footnote_of (Some mark) h = h
+
+  may_footnote_start : (rest : Rest) → StartedMayStand (footnote_start on rest)
+  may_footnote_start rest =
+      cond_both (on.gfm_footnote_definition && small_indent on rest) _ _ StartedMayStand
+      (λ e. may_footnote_of (footnote_mark (bare rest)) (and_parts on.gfm_footnote_definition (small_indent on rest) e).0) (λ _. tt)
+
   may_start_one : (interrupts : Bool) (rest : Rest) → StartedMayStand (starts on interrupts rest)
   may_start_one interrupts rest =
-      may_quote_or (item_start on interrupts rest) (quote_prefix on rest) (may_item_start interrupts rest) (guarded on.block_quote (small_indent on rest) _)
+      may_quote_or (footnote_or (item_start on interrupts rest) (footnote_start on rest)) (quote_prefix on rest)
+      (footnote_either StartedMayStand (item_start on interrupts rest) (footnote_start on rest) (may_item_start interrupts rest) (may_footnote_start rest)) (guarded on.block_quote (small_indent on rest) _)
 
   may_start : (o : Option Started) (away : Opening) (other : BlockTree) (more : Started → BlockTree) → StartedMayStand o → OpeningMayStand on away
       → TreeMayStand on other → ((s : Started) → TreeMayStand on (more s)) → TreeMayStand on (start on o away other more)
@@ -432,6 +469,10 @@ no_item : (on : Constructs) → on.list_item ≡ false → (b : Block) → Block
 no_item on off (Holds (Item item) kids) p = absurd (both_ways on.list_item off p.0.0)
 no_item on off b p = refl
 
+no_footnote_definition : (on : Constructs) → on.gfm_footnote_definition ≡ false → (b : Block) → BlockMayStand on b → is_footnote_definition b ≡ false
+no_footnote_definition on off (Holds (Footnote label) kids) p = absurd (both_ways on.gfm_footnote_definition off p.0)
+no_footnote_definition on off b p = refl
+
 not_indented : (on : Constructs) → on.code_indented ≡ false → (b : Block) → BlockMayStand on b → is_indented_code b ≡ false
 not_indented on off (IndentedCode ls) p = absurd (both_ways on.code_indented off p)
 not_indented on off b p = refl
@@ -447,6 +488,10 @@ not_math on off b p = refl
 not_html : (on : Constructs) → on.html_flow ≡ false → (b : Block) → BlockMayStand on b → is_html b ≡ false
 not_html on off (Html ls) p = absurd (both_ways on.html_flow off p)
 not_html on off b p = refl
+
+no_table : (on : Constructs) → on.gfm_table ≡ false → (b : Block) → BlockMayStand on b → is_table b ≡ false
+no_table on off (Table ls) p = absurd (both_ways on.gfm_table off p)
+no_table on off b p = refl
 
 no_break : (on : Constructs) → on.thematic_break ≡ false → (b : Block) → BlockMayStand on b → is_thematic_break b ≡ false
 no_break on off Break p = absurd (both_ways on.thematic_break off p)
@@ -478,6 +523,9 @@ no_quotes on kind text off = never on is_quote (no_quote on off) kind text
 pub no_items : NoItems
 no_items on kind text off = never on is_list_item (no_item on off) kind text
 
+pub no_footnote_definitions : NoFootnoteDefinitions
+no_footnote_definitions on kind text off = never on is_footnote_definition (no_footnote_definition on off) kind text
+
 pub no_indented_code : NoIndentedCode
 no_indented_code on kind text off = never on is_indented_code (not_indented on off) kind text
 
@@ -489,6 +537,9 @@ no_math on kind text off = never on is_math (not_math on off) kind text
 
 pub no_html : NoHtml
 no_html on kind text off = never on is_html (not_html on off) kind text
+
+pub no_tables : NoTables
+no_tables on kind text off = never on is_table (no_table on off) kind text
 
 pub no_breaks : NoBreaks
 no_breaks on kind text off = never on is_thematic_break (no_break on off) kind text

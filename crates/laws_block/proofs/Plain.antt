@@ -2,8 +2,8 @@
 use Rattle.std.proofs.Common.{◌≡◌, false, not, refl, inl, inr}
 use Rattle.std.proofs.lemmas.Bool.{or_parts, both_ways}
 use Rattle.markdown_options.specs.declared.configuration.Constructs.{Constructs}
-use Rattle.definition_block.specs.declared.container.Container.TheVariants.{Quote, Item}
-use Rattle.definition_block.specs.Tree.{Block, Paragraph, Heading, Break, IndentedCode, FencedCode, Html, Definition, Holds, Items, Ending, Blank}
+use Rattle.definition_block.specs.Container.{Quote, Item, Footnote}
+use Rattle.definition_block.specs.Tree.{Block, Paragraph, Heading, Break, IndentedCode, FencedCode, Html, Table, Definition, Holds, Items, Ending, Blank}
 use Rattle.laws_block.specs.Plain.{has_blocks, is_plain, OnlyPlain}
 use Rattle.laws_block.proofs.Occurs.{BlockMayStand, never}
 
@@ -16,16 +16,20 @@ record AreOff (on : Constructs) : Type 0 where
   math_flow : on.math_flow ≡ false
   html_flow : on.html_flow ≡ false
   thematic_break : on.thematic_break ≡ false
+  gfm_table : on.gfm_table ≡ false
   definition : on.definition ≡ false
   heading_atx : on.heading_atx ≡ false
   heading_setext : on.heading_setext ≡ false
+  gfm_footnote_definition : on.gfm_footnote_definition ≡ false
 
 are_off : (on : Constructs) → has_blocks on ≡ false → AreOff on
 are_off on off =
-    let to_setext = or_parts _ on.heading_setext off in
+    let to_footnote = or_parts _ on.gfm_footnote_definition off in
+    let to_setext = or_parts _ on.heading_setext to_footnote.0 in
     let to_atx = or_parts _ on.heading_atx to_setext.0 in
     let to_definition = or_parts _ on.definition to_atx.0 in
-    let to_break = or_parts _ on.thematic_break to_definition.0 in
+    let to_table = or_parts _ on.gfm_table to_definition.0 in
+    let to_break = or_parts _ on.thematic_break to_table.0 in
     let to_html = or_parts _ on.html_flow to_break.0 in
     let to_math = or_parts _ on.math_flow to_html.0 in
     let to_fenced = or_parts _ on.code_fenced to_math.0 in
@@ -39,9 +43,11 @@ are_off on off =
       math_flow = to_math.1;
       html_flow = to_html.1;
       thematic_break = to_break.1;
+      gfm_table = to_table.1;
       definition = to_definition.1;
       heading_atx = to_atx.1;
       heading_setext = to_setext.1;
+      gfm_footnote_definition = to_footnote.1;
     }
 
 plain : (on : Constructs) → AreOff on → (b : Block) → BlockMayStand on b → not (is_plain b) ≡ false
@@ -53,9 +59,11 @@ plain on off (IndentedCode ls) p = absurd (both_ways on.code_indented off.code_i
 plain on off (FencedCode info closed ls) p =
     elim p [ inl h ↦ absurd (both_ways on.code_fenced off.code_fenced h.0) | inr h ↦ absurd (both_ways on.math_flow off.math_flow h.0) ]
 plain on off (Html ls) p = absurd (both_ways on.html_flow off.html_flow p)
+plain on off (Table ls) p = absurd (both_ways on.gfm_table off.gfm_table p)
 plain on off (Definition label destination title) p = absurd (both_ways on.definition off.definition p)
 plain on off (Holds Quote kids) p = absurd (both_ways on.block_quote off.block_quote p.0)
 plain on off (Holds (Item item) kids) p = absurd (both_ways on.list_item off.list_item p.0.0)
+plain on off (Holds (Footnote label) kids) p = absurd (both_ways on.gfm_footnote_definition off.gfm_footnote_definition p.0)
 plain on off (Items items) p = absurd p
 plain on off (Ending ending) p = refl
 plain on off (Blank ending) p = refl

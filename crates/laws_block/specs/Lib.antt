@@ -6,3 +6,4 @@ pub mod Neighbours
 pub mod Plain
 pub mod GfmTable
 pub mod GroupedRows
+pub mod Looseness

@@ -1,7 +1,7 @@
 -- Which items are in one list (CommonMark 5.3).
 use Rattle.std.specs.Prelude.{◌≡◌, ◌≢◌, Bool, true, false}
-use Rattle.definition_block.specs.declared.container.Container.TheVariants.{Quote}
-use Rattle.definition_block.specs.Tree.{Block, Paragraph, Heading, Break, IndentedCode, FencedCode, Html, Definition, Holds, Items, Blocks, Cons, join, one, all_endings}
+use Rattle.definition_block.specs.Container.{Quote, Footnote}
+use Rattle.definition_block.specs.Tree.{Block, Paragraph, Heading, Break, IndentedCode, FencedCode, Html, Table, Definition, Holds, Items, Blocks, Cons, join, one, all_endings}
 use Rattle.definition_block.specs.Lists.{item_marker, grouped_block, grouped}
 
 -- an item has a marker, any other block none
@@ -61,8 +61,10 @@ is_other Break = true
 is_other (IndentedCode ls) = true
 is_other (FencedCode info closed ls) = true
 is_other (Html ls) = true
+is_other (Table ls) = true
 is_other (Definition label destination title) = true
 is_other (Holds Quote kids) = true
+is_other (Holds (Footnote label) kids) = true
 is_other b = false
 
 -- no list goes on over a block that is no item, list or ending: what stands on its two sides is put into lists alone

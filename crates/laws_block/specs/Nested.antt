@@ -3,7 +3,7 @@ use Rattle.std.specs.Prelude.{◌≡◌, ℕ, suc, zero, List, [], ◌∷◌, Op
 use Rattle.markdown_options.specs.declared.configuration.Constructs.{Constructs}
 use Rattle.definition_text.specs.declared.beside.Kind.{Kind}
 use Rattle.definition_block.specs.Tree.{Blocks, blocks}
-use Rattle.block_rows.specs.Rows.{BlockRow, Single, EnterQuote, EnterItem, Exit, rows_of}
+use Rattle.block_rows.specs.Rows.{BlockRow, Single, EnterQuote, EnterItem, EnterFootnote, Exit, rows_of}
 
 -- how many containers are open after these rows, where so many are open before them; no number where one ends that isn't open
 abbrev pub depth_after : ℕ → List BlockRow → Option ℕ
@@ -11,6 +11,7 @@ depth_after depth [] = Some depth
 depth_after depth (Single b ∷ rows) = depth_after depth rows
 depth_after depth (EnterQuote ∷ rows) = depth_after (suc depth) rows
 depth_after depth (EnterItem marker number ∷ rows) = depth_after (suc depth) rows
+depth_after depth (EnterFootnote label ∷ rows) = depth_after (suc depth) rows
 depth_after zero (Exit ∷ rows) = None
 depth_after (suc depth) (Exit ∷ rows) = depth_after depth rows
 

@@ -2,12 +2,12 @@
 use Rattle.std.specs.Prelude.{◌≡◌, ℕ, Bool, true, false, not, ◌||◌, leb, List, [], ◌∷◌}
 use Rattle.markdown_options.specs.declared.configuration.Constructs.{Constructs}
 use Rattle.definition_text.specs.declared.beside.Kind.{Kind}
-use Rattle.definition_block.specs.declared.container.Container.TheVariants.{Quote, Item}
+use Rattle.definition_block.specs.Container.{Quote, Item, Footnote}
 use Rattle.definition_text.specs.BlockLines.{BlockLine}
 use Rattle.definition_text.specs.Columns.{is_white}
 use Rattle.definition_text.specs.Lines.{lines}
 use Rattle.std.specs.List.{list_all}
-use Rattle.definition_block.specs.Tree.{Block, Heading, Break, IndentedCode, FencedCode, Html, Definition, Holds, Items, Blocks, Nil, Cons, blocks, children}
+use Rattle.definition_block.specs.Tree.{Block, Heading, Break, IndentedCode, FencedCode, Html, Table, Definition, Holds, Items, Blocks, Nil, Cons, blocks, children}
 use Rattle.definition_block.specs.Lists.{grouped}
 
 -- whether one of these blocks passes a test, at any depth
@@ -37,6 +37,11 @@ abbrev pub is_list_item : Block → Bool
 is_list_item (Holds (Item item) kids) = true
 is_list_item b = false
 
+-- a footnote definition (in neither standard)
+abbrev pub is_footnote_definition : Block → Bool
+is_footnote_definition (Holds (Footnote label) kids) = true
+is_footnote_definition b = false
+
 -- indented code (CommonMark 4.4)
 abbrev pub is_indented_code : Block → Bool
 is_indented_code (IndentedCode ls) = true
@@ -60,6 +65,11 @@ is_math b = false
 abbrev pub is_html : Block → Bool
 is_html (Html ls) = true
 is_html b = false
+
+-- a table (GFM 4.10)
+abbrev pub is_table : Block → Bool
+is_table (Table ls) = true
+is_table b = false
 
 -- a thematic break (CommonMark 4.1)
 abbrev pub is_thematic_break : Block → Bool
@@ -101,6 +111,10 @@ NoQuotes = Never (λ on. on.block_quote) is_quote
 abbrev pub NoItems : Type 0
 NoItems = Never (λ on. on.list_item) is_list_item
 
+-- without footnote definitions none (in neither standard)
+abbrev pub NoFootnoteDefinitions : Type 0
+NoFootnoteDefinitions = Never (λ on. on.gfm_footnote_definition) is_footnote_definition
+
 -- without indented code none (CommonMark 4.4)
 abbrev pub NoIndentedCode : Type 0
 NoIndentedCode = Never (λ on. on.code_indented) is_indented_code
@@ -116,6 +130,10 @@ NoMath = Never (λ on. on.math_flow) is_math
 -- without HTML blocks none (CommonMark 4.6)
 abbrev pub NoHtml : Type 0
 NoHtml = Never (λ on. on.html_flow) is_html
+
+-- without tables none (GFM 4.10)
+abbrev pub NoTables : Type 0
+NoTables = Never (λ on. on.gfm_table) is_table
 
 -- without thematic breaks none (CommonMark 4.1)
 abbrev pub NoBreaks : Type 0

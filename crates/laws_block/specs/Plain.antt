@@ -8,7 +8,7 @@ use Rattle.laws_block.specs.Occurs.{Never}
 abbrev pub has_blocks : Constructs → Bool
 has_blocks on =
     on.block_quote || on.list_item || on.code_indented || on.code_fenced || on.math_flow || on.html_flow || on.thematic_break
-    || on.definition || on.heading_atx || on.heading_setext
+    || on.gfm_table || on.definition || on.heading_atx || on.heading_setext || on.gfm_footnote_definition
 
 -- a paragraph, or an ending
 abbrev pub is_plain : Block → Bool

@@ -1,5 +1,5 @@
 //! A construct that is off never occurs, at any depth.
-ghost use Rattle.laws_block.specs.Occurs.{NoQuotes, NoItems, NoIndentedCode, NoFencedCode, NoMath, NoHtml, NoBreaks};
+ghost use Rattle.laws_block.specs.Occurs.{NoQuotes, NoItems, NoFootnoteDefinitions, NoIndentedCode, NoFencedCode, NoMath, NoHtml, NoTables, NoBreaks};
 ghost use Rattle.laws_block.specs.Occurs.{NoDefinitions, NoHeadings, NoLongHeadings, NoDeepHeadings, NoLists, NoFrontmatter};
 ghost use Rattle.laws_block.specs.Plain.{OnlyPlain};
 
@@ -13,6 +13,12 @@ pub fn block_quote_law()
 #[tactic(auto, using(crate::proofs::Occurs::no_items))]
 pub fn list_item_law()
     ensures { NoItems }
+{}
+
+/// Where footnote definitions are off, no text has one.
+#[tactic(auto, using(crate::proofs::Occurs::no_footnote_definitions))]
+pub fn gfm_footnote_definition_law()
+    ensures { NoFootnoteDefinitions }
 {}
 
 /// Where indented code is off, no text has it.
@@ -37,6 +43,12 @@ pub fn math_flow_law()
 #[tactic(auto, using(crate::proofs::Occurs::no_html))]
 pub fn html_flow_law()
     ensures { NoHtml }
+{}
+
+/// Where tables are off, no text has one.
+#[tactic(auto, using(crate::proofs::Occurs::no_tables))]
+pub fn gfm_table_law()
+    ensures { NoTables }
 {}
 
 /// Where thematic breaks are off, no text has one.

@@ -1,6 +1,7 @@
 //! Items in lists.
 ghost use Rattle.laws_block.specs.GroupedRows.{ListsOnlyGroup};
 ghost use Rattle.laws_block.specs.ItemMarkers.{ItemsAreMarked};
+ghost use Rattle.laws_block.specs.Looseness.{LoosenessIsOfLines};
 ghost use Rattle.laws_block.specs.Neighbours.{NeighboursAreListed, OthersPartLists};
 
 /// Two items between which only endings stand are in one list if they have the same marker, and otherwise the first ends a list and the second begins the next.
@@ -25,4 +26,10 @@ pub fn marker_law()
 #[tactic(auto, using(crate::proofs::GroupedRows::lists_only_group))]
 pub fn grouped_law()
     ensures { ListsOnlyGroup }
+{}
+
+/// A list is loose exactly if some two neighbouring items, or some two neighbouring children of one item, have a line between them: one whose number lies between that of the first one's last line and that of the second one's first line (CommonMark 5.3).
+#[tactic(auto, using(crate::proofs::Looseness::looseness_is_of_lines))]
+pub fn looseness_law()
+    ensures { LoosenessIsOfLines }
 {}

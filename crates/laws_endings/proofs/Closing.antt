@@ -2,11 +2,10 @@
 use Rattle.std.proofs.Common.{◌≡◌, List, [], ◌∷◌, false, cond, ◌&&◌, refl, ap, ◌∙◌}
 use Rattle.markdown_options.specs.declared.line_ending.LineEnding.{LineEnding}
 use Rattle.markdown_options.specs.declared.configuration.Constructs.{Constructs}
-use Rattle.definition_block.specs.declared.container.Container.{Container}
-use Rattle.definition_block.specs.declared.container.Container.TheVariants.{Quote, Item}
+use Rattle.definition_block.specs.Container.{Container, Quote, Item, Footnote}
 use Rattle.definition_block.specs.Definitions.{Cut, cut}
-use Rattle.definition_block.specs.Tree.{BlockLine, last_ending, own_lines, Block, Paragraph, Heading, Break, IndentedCode, FencedCode, Html, Definition, Holds, Items, Ending, Blank, Blocks, Nil, Cons, join, one, ended}
-use Rattle.definition_block.specs.Tree.{OpenLeaf, Text, Indented, Fenced, OpenHtml, Opening, Leaf, Inside, blanks, paragraph_of, with_paragraph, close_leaf, is_ending, all_endings, front, trailing, without_last, last_of, holds, close}
+use Rattle.definition_block.specs.Tree.{BlockLine, last_ending, own_lines, Block, Paragraph, Heading, Break, IndentedCode, FencedCode, Html, Table, Definition, Holds, Items, Ending, Blank, Blocks, Nil, Cons, join, one, ended}
+use Rattle.definition_block.specs.Tree.{OpenLeaf, Text, Indented, Fenced, OpenHtml, OpenTable, Opening, Leaf, Inside, blanks, paragraph_of, with_paragraph, close_leaf, is_ending, all_endings, front, trailing, without_last, last_of, holds, close}
 use Rattle.laws_endings.specs.Endings.{if_ending_with, lines_with, block_with, blocks_with}
 use Rattle.laws_endings.proofs.Codes.{cond-under}
 use Rattle.laws_endings.proofs.Cuts.{last_ending_or-with, last_ending-with, own_lines-with, cut_with, join-with, cut-with}
@@ -25,7 +24,7 @@ module _ (e : LineEnding) where
   blanks-with [] = refl
   blanks-with (line ∷ ls) = ap (Cons (Blank (if_ending_with e line.ending))) (blanks-with ls)
 
-  paragraph_of-with : (ls : List BlockLine) → paragraph_of (lines_with e ls) ≡ blocks_with e (paragraph_of ls)
+  pub paragraph_of-with : (ls : List BlockLine) → paragraph_of (lines_with e ls) ≡ blocks_with e (paragraph_of ls)
   paragraph_of-with [] = refl
   paragraph_of-with (line ∷ ls) = ended-with Paragraph (λ _. refl) (line ∷ ls)
 
@@ -42,6 +41,7 @@ module _ (e : LineEnding) where
       ∙ join-with e code (blanks pending)
   close_leaf-with on (Fenced fence ending ls) = ap (ended (FencedCode fence.info false (lines_with e ls))) (last_ending_or-with e ending ls)
   close_leaf-with on (OpenHtml kind ls) = ended-with Html (λ _. refl) ls
+  close_leaf-with on (OpenTable ls) = ended-with Table (λ _. refl) ls
 
   -- ---- endings at the end of a container
 
@@ -52,6 +52,7 @@ module _ (e : LineEnding) where
   is_ending-with (IndentedCode ls) = refl
   is_ending-with (FencedCode info closed ls) = refl
   is_ending-with (Html ls) = refl
+  is_ending-with (Table ls) = refl
   is_ending-with (Definition label destination title) = refl
   is_ending-with (Holds c kids) = refl
   is_ending-with (Items items) = refl
@@ -94,6 +95,9 @@ module _ (e : LineEnding) where
   holds-with (Item item) kids =
       ap (λ bs. Cons (Holds (Item item) bs) (trailing (blocks_with e kids))) (front-with kids)
       ∙ ap (Cons (Holds (Item item) (blocks_with e (front kids)))) (trailing-with kids)
+  holds-with (Footnote label) kids =
+      ap (λ bs. Cons (Holds (Footnote label) bs) (trailing (blocks_with e kids))) (front-with kids)
+      ∙ ap (Cons (Holds (Footnote label) (blocks_with e (front kids)))) (trailing-with kids)
 
   pub close-with : (on : Constructs) (now : Opening) → close on (opening_with e now) ≡ blocks_with e (close on now)
   close-with on (Leaf leaf) = close_leaf-with on leaf

@@ -20,15 +20,17 @@ use Rattle.definition_inline.specs.MathText.{math_text_at}
 use Rattle.definition_inline.specs.Autolink.{autolink_at}
 use Rattle.definition_inline.specs.HtmlText.{html_text_at}
 use Rattle.definition_inline.specs.HardBreak.{escaped_break_at, line_end_at, line_spaces_at}
+use Rattle.definition_inline.specs.GfmAutolinkLiteral.{literal_at}
 use Rattle.definition_inline.specs.LabelEnd.{Ended, label_end_at}
 use Rattle.definition_inline.specs.Attention.{Run, is_marker, run_between, run_size, run_at}
 use Rattle.definition_inline.specs.Spans.{Token, Item, Delimiters, emphasized}
-use Rattle.definition_inline.specs.Scan.{InlineContext, leaf_at, LabelStart, LinkStart, ImageStart, label_start_at, start_more, start_tokens, may_form, label_part, makes_link, Text, text, OpenLabel, Reading, reading, read_tokens, unformed, formed, Step, Next, data_step, ended_step, ended_by, label_end_step, last_step, label_step, run_step, leaf_step, step, and_then, scan, whole_text, inlines, inlines_from, unindented}
+use Rattle.definition_inline.specs.Scan.{InlineContext, leaf_at, leaf_here, LabelStart, LinkStart, ImageStart, label_start_at, start_more, start_tokens, may_form, label_part, makes_link, Text, text, OpenLabel, Reading, reading, read_tokens, unformed, formed, Step, Next, data_step, ended_step, ended_by, label_end_step, last_step, label_step, run_step, leaf_step, step, and_then, scan, whole_text, inlines, inlines_from, unindented}
 use Rattle.laws_endings.specs.Endings.{code_with, codes_with}
 use Rattle.laws_endings.specs.Inlines.{inline_code_with, content_with, target_with, inline_with, inlines_with}
 use Rattle.laws_endings.specs.Laws.{InlinesLaw}
 use Rattle.laws_endings.proofs.Codes.{cond-under, same_code, before-with}
-use Rattle.laws_endings.proofs.Leaves.{if_found, same_byte, begins-byte, leaf_at-with}
+use Rattle.laws_endings.proofs.Leaves.{if_found, or_else-with, same_byte, begins-byte, leaf_at-with}
+use Rattle.laws_endings.proofs.Literals.{codes_of-with, literal_at-with}
 use Rattle.laws_endings.proofs.LabelEnds.{begins-two, if_ended, label_end_at-with}
 use Rattle.laws_endings.proofs.Tokens.{token_with, tokens_with, emphasized-with}
 
@@ -42,7 +44,7 @@ pub end_none : (is : Bool) (l : Leaf) → cond is (Some l) None ≡ None → is 
 end_none true l h = absurd (true≢false (ap is_some h))
 end_none false l h = refl
 
-pub no_ending : (context : InlineContext) (c : ℕ) (cs : List ℕ) → leaf_at context (c ∷ cs) ≡ None → is_eol c ≡ false
+no_ending : (context : InlineContext) (c : ℕ) (cs : List ℕ) → leaf_at context (c ∷ cs) ≡ None → is_eol c ≡ false
 no_ending context c cs h =
     let on = context.options.constructs in
     let all = c ∷ cs in
@@ -61,6 +63,10 @@ no_ending context c cs h =
     let h6 = (or_none (autolink_at on all) html h5).1 in
     let h7 = (or_none (html_text_at on all) last h6).1 in
     end_none (is_eol c) _ (or_none (line_end_at all) (line_spaces_at on all) h7).0
+
+pub no_ending_here : (context : InlineContext) (c : InlineCode) (cs : List InlineCode) → leaf_here context (c ∷ cs) ≡ None → is_eol c.code ≡ false
+no_ending_here context c cs h =
+    no_ending context c.code (codes_of cs) (or_none (leaf_at context (codes_of (c ∷ cs))) (literal_at context.options.constructs (c ∷ cs)) h).0
 
 -- which of three bytes it isn't
 none_of : (a b d : Bool) → (a || b || d) ≡ false → (a ≡ false) × ((b ≡ false) × (d ≡ false))
@@ -139,10 +145,6 @@ module _ (e : LineEnding) where
       (begins-two e 33 91 refl refl refl refl cs)
       ∙ ap (λ begins. cond (on.label_start_image && begins_with (codes "![") cs) (Some ImageStart) (link begins)) (begins-byte e 91 refl refl cs)
 
-  pub codes_of-with : (cs : List InlineCode) → codes_of (content_with e cs) ≡ codes_with e (codes_of cs)
-  codes_of-with [] = refl
-  codes_of-with (c ∷ cs) = ap (λ more. code_with e c.code ∷ more) (codes_of-with cs)
-
   prefix-with : (test : ℕ → Bool) → test 13 ≡ test 10 → test 257 ≡ test 10 → (cs : List InlineCode)
       → prefix_len (λ (c : InlineCode). test c.code) (content_with e cs) ≡ prefix_len (λ (c : InlineCode). test c.code) cs
   prefix-with test p q [] = refl
@@ -213,13 +215,13 @@ module _ (e : LineEnding) where
         ∙ label_step-with code content r (label_start_at context.options.constructs content)
     run_step-with code content r (Some run) = ap (Next (run.left - 1)) (read_tokens-with (Delimiters run ∷ []) r)
 
-    leaf_step-with : (c : InlineCode) (cs : List InlineCode) (r : Reading) (found : Option Leaf) → leaf_at context (codes_of (c ∷ cs)) ≡ found
+    leaf_step-with : (c : InlineCode) (cs : List InlineCode) (r : Reading) (found : Option Leaf) → leaf_here context (c ∷ cs) ≡ found
         → leaf_step context (code_with e c.code) (codes_with e (codes_of (c ∷ cs))) (reading_with r)
         (run_at context.options (content_with e (c ∷ cs))) (if_found e found)
         ≡ step_with (leaf_step context c.code (codes_of (c ∷ cs)) r (run_at context.options (c ∷ cs)) found)
     leaf_step-with c cs r None h =
         let content = codes_with e (codes_of (c ∷ cs)) in
-        let apart = no_ending context c.code (codes_of cs) h in
+        let apart = no_ending_here context c cs h in
         ap (λ code. run_step context code content (reading_with r) (run_at context.options (content_with e (c ∷ cs))))
         (same_byte e c.code (none_of (eqb c.code 10) (eqb c.code 13) (eqb c.code 257) apart).0)
         ∙ ap (run_step context c.code content (reading_with r)) (run_at-with context.options c cs apart)
@@ -228,14 +230,22 @@ module _ (e : LineEnding) where
         ap (λ tokens. Next (found.size - 1) (read_tokens tokens (reading_with r))) (all_items found.parts)
         ∙ ap (Next (found.size - 1)) (read_tokens-with (map Item found.parts) r)
 
+    leaf_here-with : (content : List InlineCode) → leaf_here context (content_with e content) ≡ if_found e (leaf_here context content)
+    leaf_here-with content =
+        let on = context.options.constructs in
+        ap (λ all. or_else (leaf_at context all) (literal_at on (content_with e content))) (codes_of-with e content)
+        ∙ ap (λ o. or_else o (literal_at on (content_with e content))) (leaf_at-with e context (codes_of content))
+        ∙ ap (or_else (if_found e (leaf_at context (codes_of content)))) (literal_at-with e on content)
+        ∙ or_else-with e (leaf_at context (codes_of content)) (literal_at on content)
+
     step-with : (r : Reading) (c : InlineCode) (cs : List InlineCode)
         → step context (reading_with r) (inline_code_with e c) (content_with e cs) ≡ step_with (step context r c cs)
     step-with r c cs =
         let content = codes_of (c ∷ cs) in
         let run = run_at context.options (content_with e (c ∷ cs)) in
-        ap (λ all. leaf_step context (code_with e c.code) all (reading_with r) run (leaf_at context all)) (codes_of-with (c ∷ cs))
-        ∙ ap (leaf_step context (code_with e c.code) (codes_with e content) (reading_with r) run) (leaf_at-with e context content)
-        ∙ leaf_step-with c cs r (leaf_at context content) refl
+        ap (λ all. leaf_step context (code_with e c.code) all (reading_with r) run (leaf_here context (content_with e (c ∷ cs)))) (codes_of-with e (c ∷ cs))
+        ∙ ap (leaf_step context (code_with e c.code) (codes_with e content) (reading_with r) run) (leaf_here-with (c ∷ cs))
+        ∙ leaf_step-with c cs r (leaf_here context (c ∷ cs)) refl
 
     -- ---- the whole
 

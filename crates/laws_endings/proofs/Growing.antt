@@ -1,11 +1,11 @@
 -- One more line, with another ending in place of each LF.
-use Rattle.std.proofs.Common.{◌≡◌, ℕ, zero, suc, List, [], ◌∷◌, ◌++◌, None, Some, Option, Bool, true, false, cond, not, ◌&&◌, refl, sym, ap, ◌∙◌, length}
+use Rattle.std.proofs.Common.{◌≡◌, ℕ, zero, suc, List, [], ◌∷◌, ◌++◌, None, Some, Option, Bool, true, false, cond, not, ◌&&◌, ◌||◌, ◌-◌, refl, sym, ap, ◌∙◌, length, take, drop}
 use Rattle.std.specs.Option.{option_map}
-use Rattle.std.proofs.lemmas.List.{map-append}
+use Rattle.std.proofs.lemmas.List.{map-append, take-map, drop-map, length-map}
 use Rattle.markdown_options.specs.declared.line_ending.LineEnding.{LineEnding}
 use Rattle.markdown_options.specs.declared.configuration.Constructs.{Constructs}
 use Rattle.definition_text.specs.declared.beside.Beside.{Beside}
-use Rattle.definition_block.specs.declared.container.Container.{Container}
+use Rattle.definition_block.specs.Container.{Container}
 use Rattle.definition_text.specs.Columns.{Rest, is_blank}
 use Rattle.definition_text.specs.Indents.{outdented}
 use Rattle.definition_block.specs.Started.{Started}
@@ -17,17 +17,20 @@ use Rattle.definition_block.specs.HtmlFlow.{html_start, html_ends_here, ends_bef
 use Rattle.definition_block.specs.HeadingAtx.{Atx, heading_atx}
 use Rattle.definition_block.specs.HeadingSetext.{underline}
 use Rattle.definition_block.specs.ThematicBreak.{is_break}
+use Rattle.definition_block.specs.declared.align_kind.AlignKind.{AlignKind}
+use Rattle.definition_block.specs.GfmTable.{delimiter_row, is_head}
 use Rattle.definition_block.specs.Definitions.{Cut, cut}
-use Rattle.definition_block.specs.Tree.{BlockLine, block_line, spaced_line, own_lines, Paragraph, Heading, Break, IndentedCode, FencedCode, Html, Definition, Holds, Items, Ending, Blank, Blocks, Nil, Cons, join, one, ended}
-use Rattle.definition_block.specs.Tree.{OpenLeaf, Text, Indented, Fenced, OpenHtml, Opening, Leaf, Inside, Tree, tree, nothing, close, leaf_text, open_text, is_some_line, has_text, leaf_with_line, with_line, rest_line}
+use Rattle.definition_block.specs.Tree.{BlockLine, block_line, spaced_line, own_lines, Paragraph, Heading, Break, IndentedCode, FencedCode, Html, Table, Definition, Holds, Items, Ending, Blank, Blocks, Nil, Cons, join, one, ended}
+use Rattle.definition_block.specs.Tree.{OpenLeaf, Text, Indented, Fenced, OpenHtml, OpenTable, Opening, Leaf, Inside, Tree, tree, nothing, close, leaf_text, open_text, is_some_line, has_text, has_table, table_of, table_if, makes_table, paragraph_of, leaf_with_line, with_line, rest_line}
 use Rattle.definition_block.specs.Tree.{indented_takes, fenced_takes, html_with, takes, or_heading, or_fence, or_html, begins, after, text_line_of, break_or_text, text_here, heading_of, underlined, turns, begun, taken, leaf_line}
 use Rattle.definition_block.specs.Tree.{beside_in, start, new, in_container, is_nothing, is_one_blank, began_blank, goes_on, grow}
 use Rattle.laws_endings.specs.Endings.{if_ending_with, line_with, lines_with, blocks_with}
 use Rattle.laws_endings.proofs.Codes.{cond-under}
-use Rattle.laws_endings.proofs.Cuts.{own_lines-with, join-with, cut-with}
+use Rattle.laws_endings.proofs.Cuts.{own_lines-with, join-with, cut_with, cut-with}
 use Rattle.laws_endings.proofs.Rests.{Kept, outdented-kept, block_codes-kept, KeptRest, KeptStarted, starts-kept, continues-kept, KeptAtx, heading_atx-kept}
 use Rattle.laws_endings.proofs.Openings.{leaf_with, opening_with, tree_with, beside_with}
-use Rattle.laws_endings.proofs.Closing.{close-with}
+use Rattle.laws_endings.proofs.Closing.{paragraph_of-with, close-with}
+use Rattle.laws_endings.proofs.GfmTable.{is_head-with}
 
 module _ (e : LineEnding) where
   abbrev if_tree : Option Tree → Option Tree
@@ -40,6 +43,7 @@ module _ (e : LineEnding) where
   leaf_text-with (Indented ls pending) = refl
   leaf_text-with (Fenced fence ending ls) = refl
   leaf_text-with (OpenHtml kind ls) = refl
+  leaf_text-with (OpenTable ls) = refl
 
   open_text-with : (now : Opening) → open_text (opening_with e now) ≡ lines_with e (open_text now)
   open_text-with (Leaf leaf) = leaf_text-with leaf
@@ -52,6 +56,14 @@ module _ (e : LineEnding) where
   has_text-with : (now : Opening) → has_text (opening_with e now) ≡ has_text now
   has_text-with now = ap is_some_line (open_text-with now) ∙ is_some_line-with (open_text now)
 
+  has_table-with : (now : Opening) → has_table (opening_with e now) ≡ has_table now
+  has_table-with (Leaf (Text ls)) = refl
+  has_table-with (Leaf (Indented ls pending)) = refl
+  has_table-with (Leaf (Fenced fence ending ls)) = refl
+  has_table-with (Leaf (OpenHtml kind ls)) = refl
+  has_table-with (Leaf (OpenTable ls)) = refl
+  has_table-with (Inside c kids inner) = refl
+
   one_more : (ls : List BlockLine) (line : BlockLine) → lines_with e ls ++ line_with e line ∷ [] ≡ lines_with e (ls ++ line ∷ [])
   one_more ls line = sym (map-append (line_with e) ls (line ∷ []))
 
@@ -60,6 +72,7 @@ module _ (e : LineEnding) where
   leaf_with_line-with line (Indented ls pending) = refl
   leaf_with_line-with line (Fenced fence ending ls) = refl
   leaf_with_line-with line (OpenHtml kind ls) = refl
+  leaf_with_line-with line (OpenTable ls) = ap OpenTable (one_more ls line)
 
   with_line-with : (line : BlockLine) (now : Opening) → with_line (line_with e line) (opening_with e now) ≡ opening_with e (with_line line now)
   with_line-with line (Leaf leaf) = ap Leaf (leaf_with_line-with line leaf)
@@ -108,6 +121,7 @@ module _ (e : LineEnding) where
   takes-with on (Fenced fence opening ls) rest beside k = fenced_takes-with on fence opening ls rest beside k
   takes-with on (OpenHtml kind ls) rest beside k =
       cond-under if_tree (ends_before_blank kind && is_blank rest) refl (ap Some (html_with-with kind ls rest beside k))
+  takes-with on (OpenTable ls) rest beside k = refl
 
   -- ---- a leaf that begins
 
@@ -149,14 +163,11 @@ module _ (e : LineEnding) where
       let line = rest_line rest beside in
       let begun : BlockLine → Tree = λ l. after on now (tree Nil (Leaf (Text (l ∷ [])))) in
       let more = rest_line rest (beside_with e beside) in
-      ap (λ has. cond has (tree Nil (with_line more now)) (begun more)) (has_text-with away)
-      ∙ ap (λ l. cond (has_text away) (tree Nil (with_line l now)) (begun l)) (rest_line-with rest beside k)
-      ∙ cond-under (tree_with e) (has_text away) (ap (tree Nil) (with_line-with line away)) (after-with on away (tree Nil (Leaf (Text (line ∷ [])))))
-
-  break_or_text-with : (on : Constructs) (away : Opening) (rest : Rest) (beside : Beside) → Kept e rest
-      → break_or_text on (opening_with e away) rest (beside_with e beside) ≡ tree_with e (break_or_text on away rest beside)
-  break_or_text-with on away rest beside k =
-      cond-under (tree_with e) (is_break on rest) (after-with on away (tree (ended Break beside.ending) nothing)) (text_line_of-with on away rest beside k)
+      let goes_on = has_text away || has_table away in
+      ap (λ has. cond (has || has_table now) (tree Nil (with_line more now)) (begun more)) (has_text-with away)
+      ∙ ap (λ has. cond (has_text away || has) (tree Nil (with_line more now)) (begun more)) (has_table-with away)
+      ∙ ap (λ l. cond goes_on (tree Nil (with_line l now)) (begun l)) (rest_line-with rest beside k)
+      ∙ cond-under (tree_with e) goes_on (ap (tree Nil) (with_line-with line away)) (after-with on away (tree Nil (Leaf (Text (line ∷ [])))))
 
   -- ---- underlines
 
@@ -185,16 +196,59 @@ module _ (e : LineEnding) where
       ap (λ ls. underlined on (underline on rest) ls (if_ending_with e ending)) (text_here-with away)
       ∙ underlined-with on (underline on rest) (text_here away) ending
 
+  -- ---- tables
+
+  taken-with : (found : Option Tree) (other : Tree) → taken (if_tree found) (tree_with e other) ≡ tree_with e (taken found other)
+  taken-with None other = refl
+  taken-with (Some t) other = refl
+
+  table_of-with : (definitions : Blocks) (ls : List BlockLine) (row : BlockLine)
+      → table_of (blocks_with e definitions) (lines_with e ls) (line_with e row) ≡ tree_with e (table_of definitions ls row)
+  table_of-with definitions ls row =
+      let head = length ls - 1 in
+      let front : List BlockLine → Blocks = λ own. join (blocks_with e definitions) (paragraph_of own) in
+      let table : Blocks → List BlockLine → Tree = λ done own. tree done (Leaf (OpenTable (own ++ line_with e row ∷ []))) in
+      ap (λ n. table (front (take (n - 1) (lines_with e ls))) (drop (n - 1) (lines_with e ls))) (length-map ls (line_with e))
+      ∙ ap (λ own. table (front own) (drop head (lines_with e ls))) (take-map (line_with e) head ls)
+      ∙ ap (λ own. table (front (lines_with e (take head ls))) own) (drop-map (line_with e) head ls)
+      ∙ ap (λ bs. table (join (blocks_with e definitions) bs) (lines_with e (drop head ls))) (paragraph_of-with e (take head ls))
+      ∙ ap (λ bs. table bs (lines_with e (drop head ls))) (join-with e definitions (paragraph_of (take head ls)))
+      ∙ ap (λ own. tree (blocks_with e (join definitions (paragraph_of (take head ls)))) (Leaf (OpenTable own))) (one_more (drop head ls) row)
+
+  table_if-with : (on : Constructs) (o : Option (List AlignKind)) (ls : List BlockLine) (row : BlockLine)
+      → table_if on o (lines_with e ls) (line_with e row) ≡ if_tree (table_if on o ls row)
+  table_if-with on None ls row = refl
+  table_if-with on (Some columns) ls row =
+      let parts = cut on ls in
+      let count = length columns in
+      let made : Cut → Bool → Option Tree = λ own fits. cond (is_some_line own.left && fits) (Some (table_of own.definitions own.left (line_with e row))) None in
+      ap (λ own. made own (is_head count (lines_with e ls))) (cut-with e on ls)
+      ∙ ap (made (cut_with e parts)) (is_head-with e count ls)
+      ∙ ap (λ some. cond (some && is_head count ls) (Some (table_of (blocks_with e parts.definitions) (lines_with e parts.left) (line_with e row))) None) (is_some_line-with parts.left)
+      ∙ cond-under if_tree (is_some_line parts.left && is_head count ls) (ap Some (table_of-with parts.definitions parts.left row)) refl
+
+  makes_table-with : (on : Constructs) (away : Opening) (rest : Rest) (beside : Beside) → Kept e rest
+      → makes_table on (opening_with e away) rest (beside_with e beside) ≡ if_tree (makes_table on away rest beside)
+  makes_table-with on away rest beside k =
+      ap (λ ls. table_if on (delimiter_row on rest) ls (rest_line rest (beside_with e beside))) (text_here-with away)
+      ∙ ap (table_if on (delimiter_row on rest) (lines_with e (text_here away))) (rest_line-with rest beside k)
+      ∙ table_if-with on (delimiter_row on rest) (text_here away) (rest_line rest beside)
+
+  break_or_text-with : (on : Constructs) (away : Opening) (rest : Rest) (beside : Beside) → Kept e rest
+      → break_or_text on (opening_with e away) rest (beside_with e beside) ≡ tree_with e (break_or_text on away rest beside)
+  break_or_text-with on away rest beside k =
+      let text = text_line_of on away rest beside in
+      cond-under (tree_with e) (is_break on rest) (after-with on away (tree (ended Break beside.ending) nothing))
+      (ap (λ found. taken found (text_line_of on (opening_with e away) rest (beside_with e beside))) (makes_table-with on away rest beside k)
+      ∙ ap (taken (if_tree (makes_table on away rest beside))) (text_line_of-with on away rest beside k)
+      ∙ taken-with (makes_table on away rest beside) text)
+
   -- ---- a rest that starts no container
 
   begun-with : (on : Constructs) (found : Option Tree) (away : Opening) (other : Tree)
       → begun on (if_tree found) (opening_with e away) (tree_with e other) ≡ tree_with e (begun on found away other)
   begun-with on None away other = refl
   begun-with on (Some t) away other = after-with on away t
-
-  taken-with : (found : Option Tree) (other : Tree) → taken (if_tree found) (tree_with e other) ≡ tree_with e (taken found other)
-  taken-with None other = refl
-  taken-with (Some t) other = refl
 
   leaf_line-with : (on : Constructs) (away : Opening) (rest : Rest) (beside : Beside) → Kept e rest
       → leaf_line on (opening_with e away) rest (beside_with e beside) ≡ tree_with e (leaf_line on away rest beside)
@@ -244,6 +298,7 @@ module _ (e : LineEnding) where
   is_nothing-with (Leaf (Indented ls pending)) = refl
   is_nothing-with (Leaf (Fenced fence ending ls)) = refl
   is_nothing-with (Leaf (OpenHtml kind ls)) = refl
+  is_nothing-with (Leaf (OpenTable ls)) = refl
   is_nothing-with (Inside c kids inner) = refl
 
   is_one_blank-with : (bs : Blocks) → is_one_blank (blocks_with e bs) ≡ is_one_blank bs
@@ -254,6 +309,7 @@ module _ (e : LineEnding) where
   is_one_blank-with (Cons (IndentedCode ls) bs) = refl
   is_one_blank-with (Cons (FencedCode info closed ls) bs) = refl
   is_one_blank-with (Cons (Html ls) bs) = refl
+  is_one_blank-with (Cons (Table ls) bs) = refl
   is_one_blank-with (Cons (Definition label destination title) bs) = refl
   is_one_blank-with (Cons (Holds c kids) bs) = refl
   is_one_blank-with (Cons (Items items) bs) = refl

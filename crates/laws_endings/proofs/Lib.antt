@@ -6,9 +6,11 @@ pub mod Cuts
 pub mod Rests
 mod Openings
 mod Closing
+mod GfmTable
 mod Growing
 pub mod Blocks
 pub mod Leaves
+pub mod Literals
 mod LabelEnds
 mod Tokens
 pub mod Contents

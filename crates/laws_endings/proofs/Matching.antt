@@ -10,7 +10,7 @@ use Rattle.definition_text.specs.Columns.{is_tab_column, code_byte}
 use Rattle.definition_text.specs.Content.{line_ending_code, is_space}
 use Rattle.definition_inline.specs.Definition.{Definition as LinkDefinition, definition}
 use Rattle.definition_inline.specs.LabelMatch.{is_word, word_folded, normal_label, place_of}
-use Rattle.definition_block.specs.Blocks.{Block, Paragraph, Heading, Break, IndentedCode, FencedCode, Html, Definition, Holds, Items, Ending, Blank, Blocks, Nil, Cons}
+use Rattle.definition_block.specs.Blocks.{Block, Paragraph, Heading, Break, IndentedCode, FencedCode, Html, Table, Definition, Holds, Items, Ending, Blank, Blocks, Nil, Cons}
 use Rattle.definition_block.specs.Definitions.{block_definitions, definitions}
 use Rattle.definition_block.specs.Tree.{blocks}
 use Rattle.definition_page.specs.Targets.{spaced, document_definitions}
@@ -104,6 +104,7 @@ module _ (e : LineEnding) where
     block_definitions-with (IndentedCode ls) = refl
     block_definitions-with (FencedCode info closed ls) = refl
     block_definitions-with (Html ls) = refl
+    block_definitions-with (Table ls) = refl
     block_definitions-with (Definition label destination title) = refl
     block_definitions-with (Holds c kids) = definitions-with kids
     block_definitions-with (Items items) = definitions-with items

@@ -1,7 +1,7 @@
 -- What is open after some lines, with another line ending in place of each LF.
 use Rattle.markdown_options.specs.declared.line_ending.LineEnding.{LineEnding}
 use Rattle.definition_text.specs.declared.beside.Beside.{Beside}
-use Rattle.definition_block.specs.Tree.{OpenLeaf, Text, Indented, Fenced, OpenHtml, Opening, Leaf, Inside, Tree, tree}
+use Rattle.definition_block.specs.Tree.{OpenLeaf, Text, Indented, Fenced, OpenHtml, OpenTable, Opening, Leaf, Inside, Tree, tree}
 use Rattle.laws_endings.specs.Endings.{if_ending_with, lines_with, blocks_with}
 
 -- an open leaf
@@ -10,6 +10,7 @@ leaf_with e (Text ls) = Text (lines_with e ls)
 leaf_with e (Indented ls pending) = Indented (lines_with e ls) (lines_with e pending)
 leaf_with e (Fenced fence ending ls) = Fenced fence (if_ending_with e ending) (lines_with e ls)
 leaf_with e (OpenHtml kind ls) = OpenHtml kind (lines_with e ls)
+leaf_with e (OpenTable ls) = OpenTable (lines_with e ls)
 
 -- what is open
 abbrev pub opening_with : LineEnding → Opening → Opening

@@ -6,8 +6,7 @@ use Rattle.std.proofs.lemmas.Bool.{cond_both}
 use Rattle.std.proofs.lemmas.List.{drop-map, take-map, map-append}
 use Rattle.markdown_options.specs.declared.line_ending.LineEnding.{LineEnding}
 use Rattle.markdown_options.specs.declared.configuration.Constructs.{Constructs}
-use Rattle.definition_block.specs.declared.container.Container.{Container}
-use Rattle.definition_block.specs.declared.container.Container.TheVariants.{Quote, Item}
+use Rattle.definition_block.specs.Container.{Container, Quote, Item, Footnote}
 use Rattle.definition_text.specs.Columns.{Rest, codes_from, tab_column, columns_after_tab, indent, bare, is_tab_column, is_byte, bytes_of, block_codes, is_white, trimmed}
 use Rattle.definition_text.specs.Indents.{small_indent, outdented}
 use Rattle.definition_text.specs.Content.{line_ending_code}
@@ -16,7 +15,9 @@ use Rattle.definition_block.specs.Started.{Started}
 use Rattle.definition_block.specs.ThematicBreak.{is_break}
 use Rattle.definition_block.specs.BlockQuote.{after_byte, after_mark, quote_prefix}
 use Rattle.definition_block.specs.ListItem.{Marker, marker_of, is_digit, number_of, bullet, delimiter, ordered, marker, gap, is_item, item, item_after, item_start, is_inside}
-use Rattle.definition_block.specs.Containers.{continues, quote_or, starts}
+use Rattle.definition_block.specs.GfmFootnoteDefinition.{footnote_start}
+use Rattle.definition_block.specs.Containers.{continues, quote_or, footnote_or, starts}
+use Rattle.definition_block.proofs.GfmFootnoteDefinition.{fine_after, footnote_fine, footnote_either}
 use Rattle.definition_block.specs.HeadingAtx.{Atx, atx, begins_apart, ends_apart, without_run, without_closing, atx_of, heading_atx}
 use Rattle.laws_endings.specs.Endings.{code_with, codes_with}
 use Rattle.laws_endings.proofs.Codes.{same_code}
@@ -94,12 +95,20 @@ module _ (Fine : List ℕ → Type 0) (dropped : (n : ℕ) (cs : List ℕ) → F
   either_fine other (Some rest) h k = k
 
   pub starts-fine : (on : Constructs) (interrupts : Bool) (rest : Rest) → Fine rest → FineStarted (starts on interrupts rest)
-  starts-fine on interrupts rest k = either_fine (item_start on interrupts rest) (quote_prefix on rest) (item_fine on interrupts rest k) (quote_fine on rest k)
+  starts-fine on interrupts rest k =
+      let item = item_start on interrupts rest in
+      let footnote = footnote_start on rest in
+      either_fine (footnote_or item footnote) (quote_prefix on rest)
+      (footnote_either FineStarted item footnote (item_fine on interrupts rest k)
+      (footnote_fine Fine dropped on rest (fine_after Fine dropped (bare rest) (dropped (indent rest) rest k))))
+      (quote_fine on rest k)
 
   pub continues-fine : (on : Constructs) (c : Container) (blank : Bool) (rest : Rest) → Fine rest → FineRest (continues on c blank rest)
   continues-fine on Quote blank rest k = quote_fine on rest k
   continues-fine on (Item item) blank rest k =
       cond_both (is_inside item.size blank rest) (Some (drop item.size rest)) None FineRest (λ _. dropped item.size rest k) (λ _. tt)
+  continues-fine on (Footnote label) blank rest k =
+      cond_both (is_inside 4 false rest) (Some (drop 4 rest)) None FineRest (λ _. dropped 4 rest k) (λ _. tt)
 
 module _ (e : LineEnding) where
   -- codes that stay as they are

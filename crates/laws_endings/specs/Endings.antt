@@ -9,7 +9,7 @@ use Rattle.definition_text.specs.Lines.{TextLine, text_line}
 use Rattle.definition_text.specs.BlockLines.{BlockLine, block_line}
 use Rattle.definition_text.specs.Content.{line_ending_code}
 use Rattle.definition_inline.specs.Definition.{Definition as LinkDefinition, definition}
-use Rattle.definition_block.specs.Blocks.{Block, Paragraph, Heading, Break, IndentedCode, FencedCode, Html, Definition, Holds, Items, Ending, Blank, Blocks, Nil, Cons}
+use Rattle.definition_block.specs.Blocks.{Block, Paragraph, Heading, Break, IndentedCode, FencedCode, Html, Table, Definition, Holds, Items, Ending, Blank, Blocks, Nil, Cons}
 
 -- the bytes of an ending for an LF, any other byte as it is
 abbrev pub byte_with : LineEnding → ℕ → List ℕ
@@ -63,6 +63,7 @@ abbrev mutual
   block_with e (IndentedCode ls) = IndentedCode (lines_with e ls)
   block_with e (FencedCode info closed ls) = FencedCode info closed (lines_with e ls)
   block_with e (Html ls) = Html (lines_with e ls)
+  block_with e (Table ls) = Table (lines_with e ls)
   block_with e (Definition label destination title) = Definition (codes_with e label) (codes_with e destination) (option_map (codes_with e) title)
   block_with e (Holds c kids) = Holds c (blocks_with e kids)
   block_with e (Items items) = Items (blocks_with e items)

@@ -10,21 +10,25 @@ use Rattle.definition_text.specs.BlockLines.{BlockLine}
 use Rattle.definition_text.specs.Lines.{ending_text}
 use Rattle.definition_text.specs.Columns.{is_byte, is_tab_column, code_byte, bytes_of}
 use Rattle.definition_text.specs.Encode.{encode}
-use Rattle.definition_inline.specs.Inline.{Linked, Inlines}
+use Rattle.definition_inline.specs.Inline.{Linked, Inlines, Nil as NoText}
+use Rattle.definition_block.specs.declared.align_kind.AlignKind.{AlignKind}
+use Rattle.definition_block.specs.declared.align_kind.AlignKind.TheVariants as kind
+use Rattle.definition_page.specs.GfmTable.{TableRow, Table as TableOf, align_attributes, cell_pieces, cells_pieces, row_pieces, ending_piece, body_row_pieces, head_pieces, body_pieces, table_pieces}
 use Rattle.definition_page.specs.Tags.{Words, Number, Attribute, attribute, tag, bare_tag}
 use Rattle.definition_page.specs.Pieces.{Piece, Void, Says, Eol, Fresh}
 use Rattle.definition_page.specs.InlinePieces.{Meaning, raw_html, element, inline_pieces}
-use Rattle.definition_page.specs.Page.{Block, Paragraph, Heading, Break, IndentedCode, FencedCode, Html, Definition, Quote, ItemList, Item, Ending, Blank, Blocks, Nil, Cons}
+use Rattle.definition_page.specs.Page.{Block, Paragraph, Heading, Break, IndentedCode, FencedCode, Html, Table, Definition, Quote, ItemList, Item, Footnote, Ending, Blank, Blocks, Nil, Cons}
 use Rattle.definition_page.specs.BlockPieces.{checkable_attributes, done_attributes, check_pieces, Place, inside, code_line, html_line, says, heading_name, info_attributes, start_attributes, list_tag, is_silent, last_shown, ends_plainly, fresh_unless, fenced_pieces, block_pieces, children_pieces}
 use Rattle.laws_endings.specs.Endings.{with_ending, ending_with, if_ending_with, codes_with, line_with, lines_with}
 use Rattle.laws_endings.specs.Inlines.{inlines_with}
-use Rattle.laws_endings_reads.proofs.Each.{WhereSome, each_filter, each_map}
+use Rattle.laws_endings_reads.proofs.Each.{Each, WhereSome, each_filter, each_map}
 use Rattle.laws_endings_reads.proofs.Fits.{Plain}
 use Rattle.laws_endings_reads.proofs.InlineReads.{AreFit}
 use Rattle.laws_endings_reads.proofs.BlockReads.{IsFed, LineFits, LinesFit}
 use Rattle.laws_endings_page.proofs.Bytes.{IsNoFeed, decimal_no_feed, with-append, kept, encode-with}
 use Rattle.laws_endings_page.proofs.Saids.{plains_no_feed, codes-kept, SaidWith, SaidsWith, says_more, says_one, says_append, words-kept, raw-kept}
 use Rattle.laws_endings_page.proofs.Printed.{LinkedFits, BytesWith, AttributesWith, attribute-with, more_attributes, PiecesWith, no_pieces, append-with, more-with, said-with, void_piece-with, eol_piece-with, fresh_piece-with, element-with, saids-with, linked_with, inlines-with}
+use Rattle.laws_endings_page.proofs.GfmTable.{RowFits, TableFits, row_with, table_with}
 use Rattle.laws_endings_page.proofs.Pages.{page_block_with, page_blocks_with, InfoFits, PageBlockFits, PageFits}
 
 space_plain : (c : ℕ) → Plain c → Plain (code_byte c)
@@ -120,11 +124,13 @@ module _ (e : LineEnding) where
     is_silent-with place None = refl
     is_silent-with place (Some (Paragraph check is)) = refl
     is_silent-with place (Some Definition) = refl
+    is_silent-with place (Some (Footnote label kids)) = refl
     is_silent-with place (Some b) = refl
 
     last_shown-with : (b : Option Block) (bs : Blocks) → last_shown (sibling_with b) (page_blocks_with e bs) ≡ sibling_with (last_shown b bs)
     last_shown-with b Nil = refl
     last_shown-with b (Cons Definition bs) = last_shown-with b bs
+    last_shown-with b (Cons (Footnote label kids) bs) = last_shown-with b bs
     last_shown-with b (Cons (Ending ending) bs) = last_shown-with b bs
     last_shown-with b (Cons (Blank ending) bs) = last_shown-with b bs
     last_shown-with b (Cons c bs) = last_shown-with (Some c) bs
@@ -197,6 +203,87 @@ module _ (e : LineEnding) where
     paragraph-with false ps' ps p =
         fresh-then (element (bare_tag (codes "p")) ps') (element (bare_tag (codes "p")) ps) (bare-with (codes "p") ps' ps refl p)
 
+    -- tables
+    align-with : (align : AlignKind) → AttributesWith e (align_attributes align) (align_attributes align)
+    align-with kind.Left = refl
+    align-with kind.Right = refl
+    align-with kind.Center = refl
+    align-with kind.None = refl
+
+    end-with : (ending : Option LineEnding) → IsFed ending → PiecesWith e (ending_piece (if_ending_with e ending) ∷ []) (ending_piece ending ∷ [])
+    end-with ending f = said-with e (Words (ending_text (if_ending_with e ending))) (Words (ending_text ending)) (ending-words ending f)
+
+    module _ (name : List ℕ) (same : BytesWith e name name) where
+      cell-with : (align : AlignKind) (is : Inlines) → AreFit is → PiecesWith e (cell_pieces m' name align (inlines_with e is)) (cell_pieces m name align is)
+      cell-with align is p =
+          let ps' = inline_pieces m' (inlines_with e is) in
+          let ps = inline_pieces m is in
+          fresh-then (element (tag name (align_attributes align)) ps') (element (tag name (align_attributes align)) ps)
+          (element-with e name (align_attributes align) (align_attributes align) ps' ps same (align-with align) (text-with is p))
+
+      cells-with : (aligns : List AlignKind) (cells : List Inlines) → Each AreFit cells
+          → PiecesWith e (cells_pieces m' name aligns (map (inlines_with e) cells)) (cells_pieces m name aligns cells)
+      cells-with [] cells p = no_pieces e
+      cells-with (align ∷ aligns) [] p =
+          append-with e (cell_pieces m' name align NoText) (cell_pieces m name align NoText) (cells_pieces m' name aligns []) (cells_pieces m name aligns [])
+          (cell-with align NoText tt) (cells-with aligns [] tt)
+      cells-with (align ∷ aligns) (c ∷ cs) p =
+          append-with e (cell_pieces m' name align (inlines_with e c)) (cell_pieces m name align c)
+          (cells_pieces m' name aligns (map (inlines_with e) cs)) (cells_pieces m name aligns cs) (cell-with align c p.0) (cells-with aligns cs p.1)
+
+      row-with : (aligns : List AlignKind) (row : TableRow) → RowFits row → PiecesWith e (row_pieces m' name aligns (row_with e row)) (row_pieces m name aligns row)
+      row-with aligns row p =
+          let ps' = cells_pieces m' name aligns (map (inlines_with e) row.cells) in
+          let ps = cells_pieces m name aligns row.cells in
+          fresh-then (element (bare_tag (codes "tr")) (ps' ++ Fresh ∷ [])) (element (bare_tag (codes "tr")) (ps ++ Fresh ∷ []))
+          (bare-with (codes "tr") (ps' ++ Fresh ∷ []) (ps ++ Fresh ∷ []) refl
+          (append-with e ps' ps (Fresh ∷ []) (Fresh ∷ []) (cells-with aligns row.cells p.0) (fresh_piece-with e)))
+
+    rows-with : (aligns : List AlignKind) (rows : List TableRow) → Each RowFits rows
+        → PiecesWith e (flat_map (body_row_pieces m' aligns) (map (row_with e) rows)) (flat_map (body_row_pieces m aligns) rows)
+    rows-with aligns [] p = no_pieces e
+    rows-with aligns (row ∷ rows) p =
+        append-with e (body_row_pieces m' aligns (row_with e row)) (body_row_pieces m aligns row)
+        (flat_map (body_row_pieces m' aligns) (map (row_with e) rows)) (flat_map (body_row_pieces m aligns) rows)
+        (append-with e (row_pieces m' (codes "td") aligns (row_with e row)) (row_pieces m (codes "td") aligns row)
+        (ending_piece (if_ending_with e row.ending) ∷ []) (ending_piece row.ending ∷ []) (row-with (codes "td") refl aligns row p.0) (end-with row.ending p.0.1))
+        (rows-with aligns rows p.1)
+
+    body-with : (aligns : List AlignKind) (ending : Option LineEnding) (rows : List TableRow) → IsFed ending → Each RowFits rows
+        → PiecesWith e (body_pieces m' aligns (if_ending_with e ending) (map (row_with e) rows)) (body_pieces m aligns ending rows)
+    body-with aligns ending [] f p = no_pieces e
+    body-with aligns ending (row ∷ rows) f p =
+        let ps' = flat_map (body_row_pieces m' aligns) (map (row_with e) (row ∷ rows)) in
+        let ps = flat_map (body_row_pieces m aligns) (row ∷ rows) in
+        append-with e (ending_piece (if_ending_with e ending) ∷ []) (ending_piece ending ∷ [])
+        (element (bare_tag (codes "tbody")) (ps' ++ Fresh ∷ [])) (element (bare_tag (codes "tbody")) (ps ++ Fresh ∷ [])) (end-with ending f)
+        (bare-with (codes "tbody") (ps' ++ Fresh ∷ []) (ps ++ Fresh ∷ []) refl
+        (append-with e ps' ps (Fresh ∷ []) (Fresh ∷ []) (rows-with aligns (row ∷ rows) p) (fresh_piece-with e)))
+
+    head-with : (aligns : List AlignKind) (head : TableRow) → RowFits head → PiecesWith e (head_pieces m' aligns (row_with e head)) (head_pieces m aligns head)
+    head-with aligns head p =
+        let ps' = row_pieces m' (codes "th") aligns (row_with e head) in
+        let ps = row_pieces m (codes "th") aligns head in
+        let end' = ending_piece (if_ending_with e head.ending) in
+        let end = ending_piece head.ending in
+        bare-with (codes "thead") (ps' ++ end' ∷ Fresh ∷ []) (ps ++ end ∷ Fresh ∷ []) refl
+        (append-with e ps' ps (end' ∷ Fresh ∷ []) (end ∷ Fresh ∷ []) (row-with (codes "th") refl aligns head p)
+        (append-with e (end' ∷ []) (end ∷ []) (Fresh ∷ []) (Fresh ∷ []) (end-with head.ending p.1) (fresh_piece-with e)))
+
+    table-printed : (t : TableOf) → TableFits t → PiecesWith e (table_pieces m' (table_with e t)) (table_pieces m t)
+    table-printed t p =
+        let head' = head_pieces m' t.aligns (row_with e t.head) in
+        let head = head_pieces m t.aligns t.head in
+        let body' = body_pieces m' t.aligns (if_ending_with e t.ending) (map (row_with e) t.rows) in
+        let body = body_pieces m t.aligns t.ending t.rows in
+        let all' = head' ++ body' ++ Fresh ∷ [] in
+        let all = head ++ body ++ Fresh ∷ [] in
+        fresh-then (element (bare_tag (codes "table")) (Fresh ∷ all')) (element (bare_tag (codes "table")) (Fresh ∷ all))
+        (bare-with (codes "table") (Fresh ∷ all') (Fresh ∷ all) refl
+        (fresh-then all' all
+        (append-with e (head' ++ body') (head ++ body) (Fresh ∷ []) (Fresh ∷ [])
+        (append-with e head' head body' body (head-with t.aligns t.head p.0) (body-with t.aligns t.ending t.rows p.1 p.2)) (fresh_piece-with e))))
+
     mutual
       block-with : (place : Place) (before : Option Block) (b : Block) → PageBlockFits e b
           → PiecesWith e (block_pieces m' place (sibling_with before) (page_block_with e b)) (block_pieces m place before b)
@@ -236,6 +323,7 @@ module _ (e : LineEnding) where
       block-with place before (Html ls) p =
           fresh-then (says (flat_map (html_line m.compile) (lines_with e ls))) (says (flat_map (html_line m.compile) ls))
           (saids-with e (flat_map (html_line m.compile) (lines_with e ls)) (flat_map (html_line m.compile) ls) (html_lines-with ls p))
+      block-with place before (Table t) p = table-printed t p
       block-with place before Definition p = no_pieces e
       block-with place before (Quote kids) p =
           let kids' = children_pieces m' (inside false) None (page_blocks_with e kids) in
@@ -262,6 +350,7 @@ module _ (e : LineEnding) where
           (bare-with (codes "li") (kids' ++ end) (ps ++ end) refl
           (append-with e kids' ps end end (children-with (inside place.tight) None kids p)
           (fresh_unless-with (ends_plainly place.tight (last_shown None kids))))))
+      block-with place before (Footnote label kids) p = no_pieces e
       block-with place before (Ending ending) p =
           subst (λ silent. PiecesWith e (cond silent [] (Says (Words (ending_bytes (ending_with e ending))) ∷ []))
           (cond (is_silent place before) [] (Says (Words (ending_bytes ending)) ∷ [])))

@@ -1,5 +1,6 @@
 -- The page of the blocks of a text with another line ending in place of each LF.
 use Rattle.std.proofs.Common.{◌≡◌, ℕ, zero, suc, Bool, false, true≢false, cond, eqb, not, ◌||◌, ◌&&◌, leb, List, [], ◌∷◌, ◌++◌, Option, None, Some, refl, sym, ap, ◌∙◌, subst, map, drop}
+use Rattle.std.specs.Prelude.{unwrap_or}
 use Rattle.std.proofs.lemmas.Bool.{cond_both}
 use Rattle.std.proofs.lemmas.List.{drop-map, map-append}
 use Rattle.std.specs.List.{prefix_len}
@@ -15,28 +16,34 @@ use Rattle.definition_text.specs.InlineCode.{InlineCode, codes_of, with_kinds, n
 use Rattle.definition_inline.specs.GfmTaskListItem.{check_at, check_size}
 use Rattle.definition_inline.specs.Scan.{InlineContext, inlines, inlines_from, unindented}
 use Rattle.definition_inline.specs.Strings.{string_text}
-use Rattle.definition_block.specs.declared.container.Container.TheVariants.{Quote, Item}
+use Rattle.definition_block.specs.Container.{Quote, Item, Footnote}
 use Rattle.definition_block.specs.Tree as tree
 use Rattle.definition_block.specs.Tree.{is_ending, join, one}
 use Rattle.definition_block.specs.Lists.{leading, endings_of, after_endings, is_some_block, has_gap, has_gap_inside, is_loose, item_marker, list_marker, list_items, rest_of, before_list, before, grouped_block, grouped}
+use Rattle.definition_block.specs.GfmTable.{Cell, cells, line_cells, delimiters as delimiters_of}
+use Rattle.definition_inline.specs.Inline.{Inlines}
+use Rattle.definition_page.specs.GfmTable.{TableRow, Table, head_line, delimiter_line, body_lines, line_aligns, in_cell}
 use Rattle.definition_page.specs.Page as page
 use Rattle.definition_page.specs.Page.{cons_ending, cons_blank}
-use Rattle.definition_page.specs.Read.{Reading, Standing, in_container, in_item, next_standing, checked_paragraph, read_paragraph, read_text, info_text, code_lines, without_ending, after_code, list_number, read_block, read_blocks, is_blank_ending, ends_blank}
+use Rattle.definition_page.specs.Read.{Reading, Standing, in_container, in_item, next_standing, checked_paragraph, read_paragraph, read_cell, read_row, read_table, read_text, info_text, code_lines, without_ending, after_code, list_number, read_block, read_blocks, is_blank_ending, ends_blank}
 use Rattle.laws_endings.specs.Endings.{with_ending, ending_with, if_ending_with, codes_with, line_with, lines_with, block_with, blocks_with}
 use Rattle.laws_endings.specs.Inlines.{inline_code_with, inlines_with, content_with}
 use Rattle.laws_endings.proofs.Codes.{cond-under}
 use Rattle.laws_endings.proofs.Cuts.{own_lines-with, line_codes-with, join-with}
 use Rattle.laws_endings.proofs.Matching.{bytes-with}
-use Rattle.laws_endings.proofs.Contents.{codes_of-with, unindented-with, from-with, inlines-with}
+use Rattle.laws_endings.proofs.Literals.{codes_of-with}
+use Rattle.laws_endings.proofs.Contents.{unindented-with, from-with, inlines-with}
 use Rattle.laws_endings.proofs.GfmTaskListItem.{check_at-with}
-use Rattle.laws_endings_reads.specs.Runs.{tame, tamed}
-use Rattle.laws_endings_reads.proofs.Each.{Each, each-append, each_map}
+use Rattle.laws_endings_reads.specs.Kinds.{AreAlike}
+use Rattle.laws_endings_reads.proofs.Literals.{alike_codes, alike_drop, alike_append}
+use Rattle.laws_endings_reads.proofs.Each.{Each, each-append, each-drop, each_map}
 use Rattle.laws_endings_reads.proofs.Characters.{Begins, continues_one, AreWhole}
-use Rattle.laws_endings_reads.proofs.Neighbours.{tamed_codes, tamed_unindented, tamed_from, tamed_inlines, kinds-with, kinds-kept}
+use Rattle.laws_endings_reads.proofs.Neighbours.{kinds-with, kinds-kept, alike_unindented, alike_from, alike_inlines}
 use Rattle.laws_endings_reads.proofs.Fits.{Single, Plain}
 use Rattle.laws_endings_reads.proofs.InlineReads.{AreFit, dropped_codes, from_fits, inlines_fit}
 use Rattle.laws_endings_reads.proofs.BlockReads.{IsFed, WholeBefore, LineFits, LinesFit, BlockFits, BlocksFit, line_singles, join_fits, own_fit}
 use Rattle.laws_endings_page.proofs.Bytes.{IsNoFeed}
+use Rattle.laws_endings_page.proofs.GfmTable.{RowFits, TableFits, in_cell_fits, CellFits, cells_fit, head_fits, delimiters_fit, head-with, delimiters-with, row_with, table_with, in_cell-with}
 use Rattle.laws_endings_page.proofs.Saids.{plains_no_feed, codes-kept, string_text-with}
 
 -- ---- lists
@@ -214,17 +221,18 @@ module _ (e : LineEnding) where
   module _ (p : ℕ → Bool) where
     -- the content of a line with this ending
     abbrev content_here : Kind → List ℕ → List InlineCode
-    content_here before cs = tamed (with_kinds p None before Whitespace cs)
+    content_here before cs = with_kinds p None before Whitespace cs
 
     codes_content : (before : Kind) (cs : List ℕ) (ending : Option LineEnding) → Each Plain cs → IsFed ending
         → (WholeBefore ending cs)
-        → content_here before (codes_with e (map code_byte (cs ++ ending_code ending)))
-        ≡ content_with e (content_here before (map code_byte (cs ++ ending_code ending)))
+        → AreAlike (content_here before (codes_with e (map code_byte (cs ++ ending_code ending))))
+        (content_with e (content_here before (map code_byte (cs ++ ending_code ending))))
     codes_content before cs None h f w =
         let all = map code_byte (cs ++ []) in
         let clear : Each IsNoFeed all =
         plains_no_feed all (each_map Plain Plain code_byte (cs ++ []) space_plain (each-append Plain cs [] h tt)) in
-        ap (content_here before) (codes-kept e all clear) ∙ kinds-kept e p None before Whitespace all refl clear
+        subst (λ xs. AreAlike (content_here before xs) (content_with e (content_here before all))) (sym (codes-kept e all clear))
+        (kinds-kept e p None before Whitespace all refl clear)
     codes_content before cs (Some LineFeed) h f w =
         kinds-with e p None before Whitespace (map code_byte (cs ++ 10 ∷ []))
         (subst AreWhole (sym (map-append code_byte cs (10 ∷ []))) (whole_longer (map code_byte cs) w))
@@ -232,28 +240,22 @@ module _ (e : LineEnding) where
     codes_content before cs (Some CarriageReturnLineFeed) h f w = absurd (true≢false f)
 
     line-with : (line : BlockLine) → LineFits line
-        → tamed (line_content p Whitespace (line_with e line)) ≡ content_with e (tamed (line_content p Whitespace line))
+        → AreAlike (line_content p Whitespace (line_with e line)) (content_with e (line_content p Whitespace line))
     line-with line h =
-        ap (λ cs. content_here line.before (map code_byte cs)) (line_codes-with e line)
-        ∙ ap (content_here line.before) (bytes-with e (line_codes line))
-        ∙ codes_content line.before line.codes line.ending h.0 h.1.0 h.1.1
+        subst (λ xs. AreAlike xs (content_with e (line_content p Whitespace line)))
+        (sym (ap (λ cs. content_here line.before (map code_byte cs)) (line_codes-with e line) ∙ ap (content_here line.before) (bytes-with e (line_codes line))))
+        (codes_content line.before line.codes line.ending h.0 h.1.0 h.1.1)
 
     content-with : (ls : List BlockLine) → LinesFit ls
-        → tamed (inline_content p Whitespace (lines_with e ls)) ≡ content_with e (tamed (inline_content p Whitespace ls))
+        → AreAlike (inline_content p Whitespace (lines_with e ls)) (content_with e (inline_content p Whitespace ls))
     content-with [] h = refl
     content-with (line ∷ ls) h =
-        let first' = line_content p Whitespace (line_with e line) in
         let first = line_content p Whitespace line in
-        let more' = inline_content p Whitespace (lines_with e ls) in
         let more = inline_content p Whitespace ls in
-        tamed-append first' more'
-        ∙ ap (λ x. x ++ tamed more') (line-with line h.0)
-        ∙ ap (λ x. content_with e (tamed first) ++ x) (content-with ls h.1)
-        ∙ sym (ap (content_with e) (tamed-append first more) ∙ content-append (tamed first) (tamed more))
+        let other = inline_content p Whitespace (lines_with e ls) in
+        subst (AreAlike (line_content p Whitespace (line_with e line) ++ other)) (sym (content-append first more))
+        (alike_append (line_content p Whitespace (line_with e line)) (content_with e first) other (content_with e more) (line-with line h.0) (content-with ls h.1))
       where
-        tamed-append : (xs ys : List InlineCode) → tamed (xs ++ ys) ≡ tamed xs ++ tamed ys
-        tamed-append xs ys = map-append _ xs ys
-
         content-append : (xs ys : List InlineCode) → content_with e (xs ++ ys) ≡ content_with e xs ++ content_with e ys
         content-append xs ys = map-append _ xs ys
 
@@ -283,10 +285,12 @@ module _ (e : LineEnding) where
     page_block_with (page.IndentedCode ls) = page.IndentedCode (lines_with e ls)
     page_block_with (page.FencedCode info is_closed ls) = page.FencedCode info is_closed (lines_with e ls)
     page_block_with (page.Html ls) = page.Html (lines_with e ls)
+    page_block_with (page.Table t) = page.Table (table_with e t)
     page_block_with page.Definition = page.Definition
     page_block_with (page.Quote kids) = page.Quote (page_blocks_with kids)
     page_block_with (page.ItemList number loose items) = page.ItemList number loose (page_blocks_with items)
     page_block_with (page.Item kids) = page.Item (page_blocks_with kids)
+    page_block_with (page.Footnote label kids) = page.Footnote label (page_blocks_with kids)
     page_block_with (page.Ending ending) = page.Ending (ending_with e ending)
     page_block_with (page.Blank ending) = page.Blank (ending_with e ending)
 
@@ -307,10 +311,12 @@ module _ (e : LineEnding) where
     PageBlockFits (page.IndentedCode ls) = LinesFit ls
     PageBlockFits (page.FencedCode info is_closed ls) = InfoFits info × LinesFit ls
     PageBlockFits (page.Html ls) = LinesFit ls
+    PageBlockFits (page.Table t) = TableFits t
     PageBlockFits page.Definition = Unit {0}
     PageBlockFits (page.Quote kids) = PageFits kids
     PageBlockFits (page.ItemList number loose items) = PageFits items
     PageBlockFits (page.Item kids) = PageFits kids
+    PageBlockFits (page.Footnote label kids) = PageFits kids
     PageBlockFits (page.Ending ending) = IsFed (Some ending)
     PageBlockFits (page.Blank ending) = IsFed (Some ending)
 
@@ -364,31 +370,26 @@ module _ (e : LineEnding) where
     text-with ls h =
         let p = r.tables.is_punctuation in
         let content = inline_content p Whitespace ls in
-        sym (tamed_inlines context (inline_content p Whitespace (lines_with e ls)))
-        ∙ ap (inlines context) (content-with p ls h)
-        ∙ inlines-with e context same (tamed content)
-        ∙ ap (inlines_with e) (tamed_inlines context content)
+        alike_inlines context (inline_content p Whitespace (lines_with e ls)) (content_with e content) (content-with p ls h)
+        ∙ inlines-with e context same content
 
     text_fits : (ls : List BlockLine) → LinesFit ls → AreFit (read_text r ls)
     text_fits ls h = inlines_fit context (inline_content r.tables.is_punctuation Whitespace ls) (content_fits r.tables.is_punctuation ls h)
 
     -- what is read of contents that are the same but for their endings
-    from-same : (other content : List InlineCode) → tamed other ≡ content_with e (tamed content)
+    from-same : (other content : List InlineCode) → AreAlike other (content_with e content)
         → inlines_from context other ≡ inlines_with e (inlines_from context content)
-    from-same other content h =
-        sym (tamed_from context other) ∙ ap (inlines_from context) h ∙ from-with e context same (tamed content)
-        ∙ ap (inlines_with e) (tamed_from context content)
+    from-same other content h = alike_from context other (content_with e content) h ∙ from-with e context same content
 
-    codes-same : (other content : List InlineCode) → tamed other ≡ content_with e (tamed content) → codes_of other ≡ codes_with e (codes_of content)
-    codes-same other content h =
-        sym (tamed_codes other) ∙ ap codes_of h ∙ codes_of-with e (tamed content) ∙ ap (codes_with e) (tamed_codes content)
+    codes-same : (other content : List InlineCode) → AreAlike other (content_with e content) → codes_of other ≡ codes_with e (codes_of content)
+    codes-same other content h = alike_codes other (content_with e content) h ∙ codes_of-with e content
 
-    drop-same : (n : ℕ) (other content : List InlineCode) → tamed other ≡ content_with e (tamed content)
-        → tamed (drop n other) ≡ content_with e (tamed (drop n content))
+    drop-same : (n : ℕ) (other content : List InlineCode) → AreAlike other (content_with e content)
+        → AreAlike (drop n other) (content_with e (drop n content))
     drop-same n other content h =
-        sym (drop-map tame n other) ∙ ap (drop n) h ∙ drop-map (inline_code_with e) n (tamed content) ∙ ap (content_with e) (drop-map tame n content)
+        subst (AreAlike (drop n other)) (drop-map (inline_code_with e) n content) (alike_drop n other (content_with e content) h)
 
-    checked-same : (other content : List InlineCode) → tamed other ≡ content_with e (tamed content) → (found : Option Bool)
+    checked-same : (other content : List InlineCode) → AreAlike other (content_with e content) → (found : Option Bool)
         → checked_paragraph r other found ≡ page_block_with (checked_paragraph r content found)
     checked-same other content h None = ap (page.Paragraph None) (from-same other content h)
     checked-same other content h (Some done) =
@@ -401,9 +402,8 @@ module _ (e : LineEnding) where
         let on = r.options.constructs in
         let other = inline_content p Whitespace (lines_with e ls) in
         let content = inline_content p Whitespace ls in
-        let alike : tamed (unindented other) ≡ content_with e (tamed (unindented content)) =
-        sym (tamed_unindented other) ∙ ap unindented (content-with p ls h) ∙ unindented-with e (tamed content)
-        ∙ ap (content_with e) (tamed_unindented content) in
+        let alike : AreAlike (unindented other) (content_with e (unindented content)) =
+        subst (AreAlike (unindented other)) (unindented-with e content) (alike_unindented other (content_with e content) (content-with p ls h)) in
         ap (λ codes. checked_paragraph r (unindented other) (check_at on first codes)) (codes-same (unindented other) (unindented content) alike)
         ∙ ap (checked_paragraph r (unindented other)) (check_at-with e on first (codes_of (unindented content)))
         ∙ checked-same (unindented other) (unindented content) alike (check_at on first (codes_of (unindented content)))
@@ -422,6 +422,67 @@ module _ (e : LineEnding) where
     singles_of : (cs : List ℕ) → Each Plain cs → Each Single cs
     singles_of [] p = tt
     singles_of (c ∷ cs) p = (p.0.0, singles_of cs p.1)
+
+    -- cells, rows and tables
+    cell-with : (c : Cell) → CellFits c → read_cell r c ≡ inlines_with e (read_cell r c)
+    cell-with c h =
+        let p = r.tables.is_punctuation in
+        let all = map code_byte c.codes in
+        let content = with_kinds p None c.before c.after all in
+        let kept = kinds-kept e p None c.before c.after all refl (plains_no_feed all (each_map Plain Plain code_byte c.codes space_plain h)) in
+        let read = alike_inlines context content (content_with e content) kept ∙ inlines-with e context same content in
+        ap in_cell read ∙ in_cell-with e (inlines context content)
+
+    cells-with : (cs : List Cell) → Each CellFits cs → map (read_cell r) cs ≡ map (inlines_with e) (map (read_cell r) cs)
+    cells-with [] h = refl
+    cells-with (c ∷ cs) h =
+        ap (λ x. x ∷ map (read_cell r) cs) (cell-with c h.0) ∙ ap (λ x. inlines_with e (read_cell r c) ∷ x) (cells-with cs h.1)
+
+    row-with : (line : BlockLine) → LineFits line → read_row r (line_with e line) ≡ row_with e (read_row r line)
+    row-with line h =
+        let made : List Inlines → TableRow = λ cells. record { cells = cells; ending = if_ending_with e line.ending } in
+        ap (λ text. made (map (read_cell r) (cells line.before text))) (codes-kept e line.codes (plains_no_feed line.codes h.0))
+        ∙ ap made (cells-with (line_cells line) (cells_fit line h))
+
+    rows-with : (ls : List BlockLine) → LinesFit ls → map (read_row r) (lines_with e ls) ≡ map (row_with e) (map (read_row r) ls)
+    rows-with [] h = refl
+    rows-with (line ∷ ls) h =
+        ap (λ x. x ∷ map (read_row r) (lines_with e ls)) (row-with line h.0) ∙ ap (λ x. row_with e (read_row r line) ∷ x) (rows-with ls h.1)
+
+    table-with : (ls : List BlockLine) → LinesFit ls → read_table r (lines_with e ls) ≡ table_with e (read_table r ls)
+    table-with ls h =
+        let delimiters = delimiter_line ls in
+        let made : BlockLine → TableRow → List TableRow → Table =
+        λ line head rows. record { aligns = line_aligns line; head = head; ending = line.ending; rows = rows } in
+        let aligned : List ℕ → Table =
+        λ text. record { aligns = unwrap_or (delimiters_of text) []; head = row_with e (read_row r (head_line ls)); ending = if_ending_with e delimiters.ending; rows = map (row_with e) (map (read_row r) (body_lines ls)) } in
+        let body = lines_with e (body_lines ls) in
+        ap (λ line. made line (read_row r (head_line (lines_with e ls))) (map (read_row r) (body_lines (lines_with e ls)))) (delimiters-with e ls)
+        ∙ ap (λ line. made (line_with e delimiters) (read_row r line) (map (read_row r) (body_lines (lines_with e ls)))) (head-with e ls)
+        ∙ ap (λ head. made (line_with e delimiters) head (map (read_row r) (body_lines (lines_with e ls)))) (row-with (head_line ls) (head_fits ls h))
+        ∙ ap (λ own. made (line_with e delimiters) (row_with e (read_row r (head_line ls))) (map (read_row r) own)) (drop-map (line_with e) 2 ls)
+        ∙ ap (made (line_with e delimiters) (row_with e (read_row r (head_line ls)))) (rows-with (body_lines ls) (each-drop LineFits 2 ls h))
+        ∙ ap aligned (codes-kept e delimiters.codes (plains_no_feed delimiters.codes (delimiters_fit ls h).0))
+
+    read_cells_fit : (cs : List Cell) → Each CellFits cs → Each AreFit (map (read_cell r) cs)
+    read_cells_fit [] h = tt
+    read_cells_fit (c ∷ cs) h =
+        let p = r.tables.is_punctuation in
+        let all = map code_byte c.codes in
+        let content = with_kinds p None c.before c.after all in
+        let singles = subst (Each Single) (sym (kinds_codes p None c.before c.after all)) (each_map Single Single code_byte c.codes space_single (singles_of c.codes h.0)) in
+        (in_cell_fits (inlines context content) (inlines_fit context content singles), read_cells_fit cs h.1)
+
+    row_fits : (line : BlockLine) → LineFits line → RowFits (read_row r line)
+    row_fits line h = (read_cells_fit (line_cells line) (cells_fit line h), h.1.0)
+
+    rows_fit : (ls : List BlockLine) → LinesFit ls → Each RowFits (map (read_row r) ls)
+    rows_fit [] h = tt
+    rows_fit (line ∷ ls) h = (row_fits line h.0, rows_fit ls h.1)
+
+    table_fits : (ls : List BlockLine) → LinesFit ls → TableFits (read_table r ls)
+    table_fits ls h =
+        (row_fits (head_line ls) (head_fits ls h), (delimiters_fit ls h).1.0, rows_fit (body_lines ls) (each-drop LineFits 2 ls h))
 
     info_fits : (info : List ℕ) → Each Plain info → InfoFits (info_text r info)
     info_fits [] p = tt
@@ -445,6 +506,8 @@ module _ (e : LineEnding) where
           ap (λ own. page.Cons (code own) (after_code s.top is_closed others')) (code_lines-with s.top is_closed ls)
           ∙ ap (page.Cons (code (lines_with e (code_lines s.top is_closed ls)))) (ap (after_code s.top is_closed) q ∙ after_code-with s.top is_closed others)
       read_block-with s (tree.Html ls) others' others p q = ap (page.Cons (page.Html (lines_with e ls))) q
+      read_block-with s (tree.Table ls) others' others p q =
+          ap (λ t. page.Cons (page.Table t) others') (table-with ls p) ∙ ap (page.Cons (page.Table (table_with e (read_table r ls)))) q
       read_block-with s (tree.Definition label destination title) others' others p q = ap (page.Cons page.Definition) q
       read_block-with s (tree.Holds Quote kids) others' others p q =
           ap (λ inside. page.Cons (page.Quote inside) others') (read_blocks-with in_container kids p)
@@ -452,6 +515,9 @@ module _ (e : LineEnding) where
       read_block-with s (tree.Holds (Item item) kids) others' others p q =
           ap (λ inside. page.Cons (page.Item inside) others') (read_blocks-with in_item kids p)
           ∙ ap (page.Cons (page.Item (page_blocks_with (read_blocks r in_item kids)))) q
+      read_block-with s (tree.Holds (Footnote label) kids) others' others p q =
+          ap (λ inside. page.Cons (page.Footnote label inside) others') (read_blocks-with in_container kids p)
+          ∙ ap (page.Cons (page.Footnote label (page_blocks_with (read_blocks r in_container kids)))) q
       read_block-with s (tree.Items items) others' others p q =
           let items' = read_blocks r in_container (blocks_with e items) in
           ap (λ number. page.Cons (page.ItemList number (is_loose (blocks_with e items)) items') others') (list_number-with items)
@@ -477,9 +543,11 @@ module _ (e : LineEnding) where
       read_block_fits s (tree.FencedCode info is_closed ls) others p q =
           ((info_fits info p.0, code_lines_fit s.top is_closed ls p.1), after_code_fits s.top is_closed others q)
       read_block_fits s (tree.Html ls) others p q = (p, q)
+      read_block_fits s (tree.Table ls) others p q = (table_fits ls p, q)
       read_block_fits s (tree.Definition label destination title) others p q = (tt, q)
       read_block_fits s (tree.Holds Quote kids) others p q = (read_blocks_fit in_container kids p, q)
       read_block_fits s (tree.Holds (Item item) kids) others p q = (read_blocks_fit in_item kids p, q)
+      read_block_fits s (tree.Holds (Footnote label) kids) others p q = (read_blocks_fit in_container kids p, q)
       read_block_fits s (tree.Items items) others p q = (read_blocks_fit in_container items p, q)
       read_block_fits s (tree.Ending ending) others p q = cons_ending_fits ending others p q
       read_block_fits s (tree.Blank ending) others p q = cons_blank_fits ending others p q

@@ -1,9 +1,16 @@
 //! The law of the page of a text with another line ending in place of each LF.
 ghost use Rattle.laws_endings_page.specs.Laws.{EndingPageLaw};
+ghost use Rattle.laws_endings_page.specs.Refused.{RefusedRows};
 
 /// A text in UTF-8 that has an LF, no CR and no `&`, with an ending in place of each LF, prints its
 /// page with that ending in place of each LF.
 #[tactic(auto, using(crate::proofs::Law::ending_page_law))]
 pub fn ending_page_law()
     ensures { EndingPageLaw }
+{}
+
+/// Pages of texts with CR LF that the law refuses by itself.
+#[tactic(auto, using(crate::proofs::Rows::refused_rows))]
+pub fn refused_rows()
+    ensures { RefusedRows }
 {}

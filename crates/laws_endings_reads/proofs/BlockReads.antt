@@ -1,5 +1,5 @@
 -- The blocks of a text of whole characters without CR and `&`: their lines are made of its codes, and end in LF.
-use Rattle.std.proofs.Common.{◌≡◌, ℕ, suc, zero, ◌+◌, Bool, true, false, cond, eqb, ◌&&◌, not, leb, List, [], ◌∷◌, ◌++◌, Option, None, Some, length, take, drop, map, refl, sym, ap, ◌∙◌, subst, arith}
+use Rattle.std.proofs.Common.{◌≡◌, ℕ, suc, zero, ◌+◌, Bool, true, false, cond, eqb, ◌&&◌, ◌||◌, ◌-◌, not, leb, List, [], ◌∷◌, ◌++◌, Option, None, Some, length, take, drop, map, refl, sym, ap, ◌∙◌, subst, arith}
 use Rattle.std.specs.Prelude.{min}
 use Rattle.std.specs.List.{list_all, prefix_len}
 use Rattle.std.proofs.lemmas.Bool.{cond_both, cond-true, and_parts, both_ways}
@@ -16,8 +16,7 @@ use Rattle.definition_text.specs.Indents.{small_indent, outdented}
 use Rattle.definition_text.specs.Lines.{TextLine, lines}
 use Rattle.definition_text.specs.Runs.{run, after_run}
 use Rattle.definition_inline.specs.Definition.{Definition as LinkDefinition, definition_at}
-use Rattle.definition_block.specs.declared.container.Container.{Container}
-use Rattle.definition_block.specs.declared.container.Container.TheVariants.{Quote, Item}
+use Rattle.definition_block.specs.Container.{Container, Quote, Item, Footnote}
 use Rattle.definition_block.specs.Started.{Started}
 use Rattle.definition_block.specs.Containers.{continues, starts}
 use Rattle.definition_block.specs.CodeIndented.{starts_code_indented}
@@ -28,8 +27,10 @@ use Rattle.definition_block.specs.HtmlFlow.{html_start, html_ends_here, ends_bef
 use Rattle.definition_block.specs.HeadingAtx.{Atx, atx, begins_apart, ends_apart, without_run, without_closing, atx_of, heading_atx}
 use Rattle.definition_block.specs.HeadingSetext.{underline}
 use Rattle.definition_block.specs.ThematicBreak.{is_break}
+use Rattle.definition_block.specs.declared.align_kind.AlignKind.{AlignKind}
+use Rattle.definition_block.specs.GfmTable.{delimiter_row, is_head}
 use Rattle.definition_block.specs.Definitions.{lines_before, Cut, cut_into, defined, cut_after, cut_most, cut}
-use Rattle.definition_block.specs.Tree.{Block, Paragraph, Heading, Break, IndentedCode, FencedCode, Html, Definition, Holds, Items, Ending, Blank, Blocks, Nil, Cons, join, one, ended, OpenLeaf, Text, Indented, Fenced, OpenHtml, Opening, Leaf, Inside, Tree as BlockTree, tree, nothing, empty_tree, blanks, paragraph_of, close_leaf, is_ending, all_endings, front, trailing, without_last, last_of, holds, close, leaf_text, has_text, leaf_with_line, with_line, rest_line, html_with, takes, or_heading, or_fence, or_html, begins, after, break_or_text, text_line_of, text_here, heading_of, underlined, turns, begun, taken, leaf_line, beside_in, start, new, began_blank, goes_on, grow, beside_line, step, steps, children, children_after, blocks}
+use Rattle.definition_block.specs.Tree.{Block, Paragraph, Heading, Break, IndentedCode, FencedCode, Html, Table, Definition, Holds, Items, Ending, Blank, Blocks, Nil, Cons, join, one, ended, OpenLeaf, Text, Indented, Fenced, OpenHtml, OpenTable, Opening, Leaf, Inside, Tree as BlockTree, tree, nothing, empty_tree, blanks, paragraph_of, close_leaf, is_ending, all_endings, front, trailing, without_last, last_of, holds, close, leaf_text, has_text, has_table, is_some_line, table_of, table_if, makes_table, leaf_with_line, with_line, rest_line, html_with, takes, or_heading, or_fence, or_html, begins, after, break_or_text, text_line_of, text_here, heading_of, underlined, turns, begun, taken, leaf_line, beside_in, start, new, began_blank, goes_on, grow, beside_line, step, steps, children, children_after, blocks}
 use Rattle.laws_endings.proofs.Rests.{FineRest, FineStarted, starts-fine, continues-fine}
 use Rattle.laws_endings_reads.proofs.Each.{Each, each-append, each-take, each-drop, each_filter, WhereSome, where_passed}
 use Rattle.laws_endings_reads.proofs.Characters.{IsWhole, AreWhole}
@@ -63,6 +64,7 @@ abbrev mutual
   BlockFits (IndentedCode ls) = LinesFit ls
   BlockFits (FencedCode info is_closed ls) = Each Plain info × LinesFit ls
   BlockFits (Html ls) = LinesFit ls
+  BlockFits (Table ls) = LinesFit ls
   BlockFits (Definition label destination title) = Each Plain destination × TitleFits title
   BlockFits (Holds c kids) = BlocksFit kids
   BlockFits (Items items) = BlocksFit items
@@ -78,6 +80,7 @@ LeafFits (Text ls) = LinesFit ls
 LeafFits (Indented ls pending) = LinesFit ls × LinesFit pending
 LeafFits (Fenced fence ending ls) = Each Plain fence.info × (IsFed ending × LinesFit ls)
 LeafFits (OpenHtml kind ls) = LinesFit ls
+LeafFits (OpenTable ls) = LinesFit ls
 
 abbrev OpeningFits : Opening → Type 0
 OpeningFits (Leaf leaf) = LeafFits leaf
@@ -220,6 +223,7 @@ last_of_fits (Cons b (Cons c bs)) p = last_of_fits (Cons c bs) p.1
 holds_fits : (c : Container) (kids : Blocks) → BlocksFit kids → BlocksFit (holds c kids)
 holds_fits Quote kids p = (without_last_fits kids p, last_of_fits kids p)
 holds_fits (Item item) kids p = (front_fits kids p, trailing_fits kids p)
+holds_fits (Footnote label) kids p = (front_fits kids p, trailing_fits kids p)
 
 blanks_fit : (ls : List BlockLine) → LinesFit ls → BlocksFit (blanks ls)
 blanks_fit [] p = tt
@@ -361,6 +365,7 @@ leaf_with_line_fits line (Text ls) l p = each-append LineFits ls (line ∷ []) p
 leaf_with_line_fits line (Indented ls pending) l p = p
 leaf_with_line_fits line (Fenced fence ending ls) l p = p
 leaf_with_line_fits line (OpenHtml kind ls) l p = p
+leaf_with_line_fits line (OpenTable ls) l p = each-append LineFits ls (line ∷ []) p (l, tt)
 
 with_line_fits : (line : BlockLine) (now : Opening) → LineFits line → OpeningFits now → OpeningFits (with_line line now)
 with_line_fits line (Leaf leaf) l p = leaf_with_line_fits line leaf l p
@@ -371,6 +376,7 @@ leaf_text_fits (Text ls) p = p
 leaf_text_fits (Indented ls pending) p = tt
 leaf_text_fits (Fenced fence ending ls) p = tt
 leaf_text_fits (OpenHtml kind ls) p = tt
+leaf_text_fits (OpenTable ls) p = tt
 
 text_here_fits : (now : Opening) → OpeningFits now → LinesFit (text_here now)
 text_here_fits (Leaf leaf) p = leaf_text_fits leaf p
@@ -386,6 +392,7 @@ module _ (on : Constructs) where
   close_leaf_fits (Indented ls pending) p = (own_fit ls p.0, (last_fits ls p.0, blanks_fit pending p.1))
   close_leaf_fits (Fenced fence ending ls) p = ((p.0, p.1.1), (last_or_fits ending ls p.1.0 p.1.1, tt))
   close_leaf_fits (OpenHtml kind ls) p = (own_fit ls p, (last_fits ls p, tt))
+  close_leaf_fits (OpenTable ls) p = (own_fit ls p, (last_fits ls p, tt))
 
   close_fits : (now : Opening) → OpeningFits now → BlocksFit (close on now)
   close_fits (Leaf leaf) p = close_leaf_fits leaf p
@@ -403,6 +410,7 @@ module _ (on : Constructs) where
       (λ _. (tt, (p.0, (p.1.0, more_fit ls (fence_line fence rest) beside p.1.1 (outdented_fits fence.indent rest q) f))))
   takes_fits (OpenHtml kind ls) rest beside p q f =
       cond_both (ends_before_blank kind && is_blank rest) _ _ SomeFits (λ _. tt) (λ _. html_with_fits kind ls rest beside p q f)
+  takes_fits (OpenTable ls) rest beside p q f = tt
 
   begins_fits : (paragraph : Bool) (rest : Rest) (beside : Beside) → RestFits rest → IsFed beside.ending → SomeFits (begins on paragraph rest beside)
   begins_fits paragraph rest beside q f =
@@ -419,14 +427,30 @@ module _ (on : Constructs) where
       → TreeFits (text_line_of on away rest beside)
   text_line_fits away rest beside p q f =
       let line = rest_line_fits rest beside q f in
-      cond_both (has_text away) _ _ TreeFits (λ _. (tt, with_line_fits (rest_line rest beside) away line p))
+      cond_both (has_text away || has_table away) _ _ TreeFits (λ _. (tt, with_line_fits (rest_line rest beside) away line p))
       (λ _. after_fits away (tree Nil (Leaf (Text (rest_line rest beside ∷ [])))) p (tt, (line, tt)))
+
+  table_of_fits : (definitions : Blocks) (ls : List BlockLine) (row : BlockLine) → BlocksFit definitions → LinesFit ls → LineFits row → TreeFits (table_of definitions ls row)
+  table_of_fits definitions ls row p q l =
+      let head = length ls - 1 in (
+        join_fits definitions (paragraph_of (take head ls)) p (paragraph_fits (take head ls) (each-take LineFits head ls q)),
+        each-append LineFits (drop head ls) (row ∷ []) (each-drop LineFits head ls q) (l, tt),
+      )
+
+  table_fits : (o : Option (List AlignKind)) (ls : List BlockLine) (row : BlockLine) → LinesFit ls → LineFits row → SomeFits (table_if on o ls row)
+  table_fits None ls row p l = tt
+  table_fits (Some columns) ls row p l =
+      let parts = cut_fits ls p in
+      cond_both (is_some_line (cut on ls).left && is_head (length columns) ls) _ _ SomeFits
+      (λ _. table_of_fits (cut on ls).definitions (cut on ls).left row parts.0 parts.1 l) (λ _. tt)
 
   break_fits : (away : Opening) (rest : Rest) (beside : Beside) → OpeningFits away → RestFits rest → IsFed beside.ending
       → TreeFits (break_or_text on away rest beside)
   break_fits away rest beside p q f =
       cond_both (is_break on rest) _ _ TreeFits (λ _. after_fits away (tree (ended Break beside.ending) nothing) p ((tt, (f, tt)), tt))
-      (λ _. text_line_fits away rest beside p q f)
+      (λ _. taken_fits (makes_table on away rest beside) _
+      (table_fits (delimiter_row on rest) (text_here away) (rest_line rest beside) (text_here_fits away p) (rest_line_fits rest beside q f))
+      (text_line_fits away rest beside p q f))
 
   underlined_fits : (o : Option ℕ) (ls : List BlockLine) (ending : Option LineEnding) → LinesFit ls → IsFed ending → SomeFits (underlined on o ls ending)
   underlined_fits None ls ending p f = tt

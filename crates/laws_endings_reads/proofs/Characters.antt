@@ -5,7 +5,7 @@ use Rattle.std.specs.Str.{encode_utf8_all, all_scalars}
 use lib.Utf8.{scalar_cases}
 use Rattle.std.proofs.lemmas.Bool.{cases_lt, cond-true, cond-false, lt-ltb, le-ltb, le-leb, and_left, and_from, and_right, lt-leb, ne_eqb, and_parts, both_ways}
 use Rattle.definition_text.specs.InlineCode.{is_continuation}
-use Rattle.laws_endings_reads.specs.Runs.{may_mark}
+use Rattle.laws_endings_reads.specs.Kinds.{counts_after}
 use Rattle.laws_endings_reads.proofs.Each.{Each}
 
 -- how many bytes of a character follow its first
@@ -23,9 +23,9 @@ abbrev pub continues_one : List ℕ → Bool
 continues_one [] = false
 continues_one (c ∷ cs) = is_continuation c
 
--- the bytes of a character that begins here follow it, and after such a byte a character begins
+-- the bytes of a character that begins here follow it, and a character begins after a byte after which its kind counts
 abbrev pub IsWhole : ℕ → List ℕ → Type 0
-IsWhole c cs = (is_continuation c ≡ false → Begins (need c) cs) × (may_mark c ≡ true → continues_one cs ≡ false)
+IsWhole c cs = (is_continuation c ≡ false → Begins (need c) cs) × (counts_after c ≡ true → continues_one cs ≡ false)
 
 abbrev pub AreWhole : List ℕ → Type 0
 AreWhole [] = Unit {0}
@@ -47,21 +47,23 @@ starts_low x l = and_left (leb 128 x) (ltb x 192) (lt-leb 128 x l)
 starts_high : (x : ℕ) → 192 ≤ x → is_continuation x ≡ false
 starts_high x h = and_right (leb 128 x) (ltb x 192) (le-ltb x 192 h)
 
-no_mark : (x : ℕ) → 128 ≤ x → may_mark x ≡ false
-no_mark x h =
+no_count : (x : ℕ) → 128 ≤ x → counts_after x ≡ false
+no_count x h =
     let apart : (y : ℕ) → y < 128 → eqb x y ≡ false = λ y l. ne_eqb x y (λ is. omega (arith, is, h, l)) in
-    ap (λ b. b || (eqb x 95 || eqb x 126)) (apart 42 (omega arith))
-    ∙ ap (λ b. b || eqb x 126) (apart 95 (omega arith))
-    ∙ apart 126 (omega arith)
+    ap (λ b. (b || (eqb x 95 || eqb x 126)) || (eqb x 46 || eqb x 47)) (apart 42 (omega arith))
+    ∙ ap (λ b. (b || eqb x 126) || (eqb x 46 || eqb x 47)) (apart 95 (omega arith))
+    ∙ ap (λ b. b || (eqb x 46 || eqb x 47)) (apart 126 (omega arith))
+    ∙ ap (λ b. b || eqb x 47) (apart 46 (omega arith))
+    ∙ apart 47 (omega arith)
 
--- a byte that continues a character marks nothing and begins nothing
+-- after a byte that continues a character no kind counts, and none begins there
 whole_more : (x : ℕ) (cs : List ℕ) → 128 ≤ x → x < 192 → IsWhole x cs
 whole_more x cs h l =
-    (λ starts. absurd (both_ways (is_continuation x) starts (goes_on x h l)), λ marks. absurd (both_ways (may_mark x) (no_mark x h) marks))
+    (λ starts. absurd (both_ways (is_continuation x) starts (goes_on x h l)), λ marks. absurd (both_ways (counts_after x) (no_count x h) marks))
 
 -- the first byte of a character of several
 whole_first : (x : ℕ) (cs : List ℕ) → 192 ≤ x → Begins (need x) cs → IsWhole x cs
-whole_first x cs h b = (λ _. b, λ marks. absurd (both_ways (may_mark x) (no_mark x (omega (arith, h))) marks))
+whole_first x cs h b = (λ _. b, λ marks. absurd (both_ways (counts_after x) (no_count x (omega (arith, h))) marks))
 
 need_one : (x : ℕ) → 128 ≤ x → x < 224 → need x ≡ 1
 need_one x h l = cond-false (ltb x 128) _ _ (le-ltb x 128 h) ∙ cond-true (ltb x 224) _ _ (lt-ltb x 224 l)

@@ -27,11 +27,13 @@ use Rattle.definition_inline.specs.LabelEnd.{Ended, by_text, by_label, by_resour
 use Rattle.definition_inline.specs.Attention.{Run, is_marker, run_at}
 use Rattle.definition_inline.specs.Pairing.{Pair, pairs}
 use Rattle.definition_inline.specs.Spans.{Token, Item, Delimiters, runs_of, Span, IsEmphasis, IsStrong, IsStrikethrough, span_of, SpanRow, Holds, Opens, Closes, bytes_taken, run_rows, rows_from, OpenSpan, Nest, nest, spanned, leave, nest_row, emphasized}
-use Rattle.definition_inline.specs.Scan.{InlineContext, leaf_at, LabelStart, LinkStart, ImageStart, label_start_at, start_tokens, may_form, label_part, Text, text, OpenLabel, Reading, reading, read_tokens, unformed, formed, Step, Next, data_step, ended_step, ended_by, label_end_step, last_step, label_step, run_step, leaf_step, step, and_then, scan, whole_text, inlines, inlines_from, unindented}
-use Rattle.laws_endings.proofs.Contents.{no_ending}
-use Rattle.laws_endings_reads.specs.Runs.{may_mark}
+use Rattle.definition_inline.specs.GfmAutolinkLiteral.{LiteralStart, literal_start_at, literal_name, literal_after, literal_at}
+use Rattle.definition_inline.specs.Scan.{InlineContext, leaf_at, leaf_here, LabelStart, LinkStart, ImageStart, label_start_at, start_tokens, may_form, label_part, Text, text, OpenLabel, Reading, reading, read_tokens, unformed, formed, Step, Next, data_step, ended_step, ended_by, label_end_step, last_step, label_step, run_step, leaf_step, step, and_then, scan, whole_text, inlines, inlines_from, unindented}
+use Rattle.laws_endings.proofs.Contents.{no_ending_here}
+use Rattle.laws_endings_reads.specs.Kinds.{may_mark}
 use Rattle.laws_endings_reads.proofs.Each.{Each, each-append, each-take, each-drop, each_map, each_same, WhereSome, where_passed}
 use Rattle.laws_endings_reads.proofs.Neighbours.{marker_marks}
+use Rattle.laws_endings_reads.proofs.LiteralTexts.{name_plain, StartPlain, start_plain}
 use Rattle.laws_endings_reads.proofs.Fits.{Single, Plain, each_plain, no_ending_by, plain_byte, all_passed, Apart, before_apart, after_all_apart, after_byte_apart, apart_from, white_fits, PartFits, title_fits, DestinationFits, destination_fits, TitleFits, code_text_fits}
 
 -- where something leads: a destination without line endings, and a title
@@ -127,6 +129,21 @@ BeginsFit o = WhereSome LeafFits o
 pub begin_or : (a b : Option Leaf) → BeginsFit a → BeginsFit b → BeginsFit (or_else a b)
 begin_or None b p q = q
 begin_or (Some l) b p q = p
+
+-- a literal
+literal_fits : (on : Constructs) (content : List InlineCode) → Each Single (codes_of content) → BeginsFit (literal_at on content)
+literal_fits on [] p = tt
+literal_fits on (c ∷ cs) p =
+    cond_both on.gfm_autolink_literal (literal_after c cs (literal_start_at c.previous (codes_of (c ∷ cs)))) None BeginsFit
+    (λ _. after (literal_start_at c.previous (codes_of (c ∷ cs))) (start_plain c.previous (codes_of (c ∷ cs)) p)) (λ _. tt)
+  where
+    after : (o : Option LiteralStart) → StartPlain (codes_of (c ∷ cs)) o → BeginsFit (literal_after c cs o)
+    after None h = tt
+    after (Some start) h =
+        let front = codes_of (c ∷ cs) in
+        let name = literal_name (drop start.size front) in
+        cond_both _ (Some (leaf (Literal start.kind (take start.size front ++ name) ∷ []) _)) None BeginsFit
+        (λ _. (each-append Plain (take start.size front) name h (name_plain (drop start.size front) (each-drop Single start.size front p)), tt)) (λ _. tt)
 
 part_fits : (marker : ℕ) (text : List ℕ) → Each Single text → IsFit (raw_part marker text)
 part_fits marker text p = cond_both (marker == 36) _ _ IsFit (λ _. code_text_fits text p) (λ _. code_text_fits text p)
@@ -405,6 +422,11 @@ module _ (context : InlineContext) where
       (begin_or (html_text_at on content) _ (html_at_fits on content p)
       (begin_or (line_end_at content) (line_spaces_at on content) (line_end_fits content p) (spaces_fits on content))))))))
 
+  here_fits : (content : List InlineCode) → Each Single (codes_of content) → BeginsFit (leaf_here context content)
+  here_fits content p =
+      begin_or (leaf_at context (codes_of content)) (literal_at context.options.constructs content) (leaf_fits (codes_of content) p)
+      (literal_fits context.options.constructs content p)
+
   run_at_fits : (c : InlineCode) (cs : List InlineCode) → Single c.code → RunFits (run_at context.options (c ∷ cs))
   run_at_fits c cs p =
       cond_both (is_marker context.options c.code) _ None RunFits
@@ -413,8 +435,8 @@ module _ (context : InlineContext) where
   step_fits : (r : Reading) (c : InlineCode) (cs : List InlineCode) → Each Single (codes_of (c ∷ cs)) → ReadingFits r → StepFits (step context r c cs)
   step_fits r c cs p q =
       let content = codes_of (c ∷ cs) in
-      leaf_step_fits c.code content r (run_at context.options (c ∷ cs)) (leaf_at context content)
-      (λ none. (p.0, no_ending context c.code (codes_of cs) none)) p (run_at_fits c cs p.0) q (leaf_fits content p)
+      leaf_step_fits c.code content r (run_at context.options (c ∷ cs)) (leaf_here context (c ∷ cs))
+      (λ none. (p.0, no_ending_here context c cs none)) p (run_at_fits c cs p.0) q (here_fits (c ∷ cs) p)
 
   then_fits : (s : Step) (rest : ℕ → Reading → Reading) → StepFits s → ((k : ℕ) (r : Reading) → ReadingFits r → ReadingFits (rest k r))
       → ReadingFits (and_then s rest)

@@ -1,7 +1,9 @@
 pub mod Each
 pub mod Characters
+pub mod Literals
 pub mod Neighbours
 pub mod Fits
+pub mod LiteralTexts
 pub mod InlineReads
 pub mod BlockReads
 pub mod TextLines

@@ -1,10 +1,8 @@
 -- What stands beside the codes of a line with another ending: the same wherever a run may stand.
-use Rattle.std.proofs.Common.{◌≡◌, ℕ, zero, suc, ◌+◌, ◌-◌, ◌*◌, ◌<◌, Bool, true, false, cond, eqb, ltb, ◌||◌, ◌&&◌, List, [], ◌∷◌, Option, None, Some, ⊎_elim, refl, sym, ap, ◌∙◌, arith, drop, map, slice_index, slice_index_or}
+use Rattle.std.proofs.Common.{◌≡◌, ℕ, zero, suc, ◌+◌, ◌-◌, ◌*◌, ◌<◌, Bool, true, false, cond, eqb, ltb, ◌||◌, ◌&&◌, List, [], ◌∷◌, Option, None, Some, ⊎_elim, refl, sym, ap, ap₂, ◌∙◌, subst, arith, drop, slice_index, slice_index_or}
 use Rattle.std.specs.Option.{option_map}
 use Rattle.std.specs.List.{prefix_len}
-use Rattle.std.proofs.Math.ListN.{get_or-map}
-use Rattle.std.proofs.lemmas.Bool.{cond-true, cond-false, both_ways, false_from_ne_true, eqb-true, eq-eqb, and_parts, or_cases, or_left, or_right, cases_Bool}
-use Rattle.std.proofs.lemmas.List.{drop-map}
+use Rattle.std.proofs.lemmas.Bool.{cond-true, cond-false, both_ways, false_from_ne_true, eqb-true, eq-eqb, and_parts, or_cases, or_left, or_right, cases_Bool, true≢false}
 use Rattle.markdown_options.specs.declared.line_ending.LineEnding.{LineEnding}
 use Rattle.markdown_options.specs.declared.configuration.ParseOptions.{ParseOptions}
 use Rattle.definition_text.specs.declared.beside.Kind.{Kind}
@@ -14,43 +12,37 @@ use Rattle.definition_text.specs.Content.{is_eol}
 use Rattle.definition_text.specs.InlineCode.{InlineCode, inline_code, codes_of, first_character, is_continuation, character_kind, first_kind, next_kind, with_kinds}
 use Rattle.definition_inline.specs.GfmStrikethrough.{is_tilde}
 use Rattle.definition_inline.specs.Attention.{Run, is_marker, run_between, run_size, run_at}
-use Rattle.definition_inline.specs.Scan.{InlineContext, leaf_at, text, Reading, reading, Step, Next, leaf_step, step, and_then, scan, whole_text, inlines, inlines_from, unindented}
+use Rattle.definition_inline.specs.Inline.{or_else}
+use Rattle.definition_inline.specs.Scan.{InlineContext, leaf_at, leaf_here, text, Reading, reading, Step, Next, leaf_step, step, and_then, scan, whole_text, inlines, inlines_from, unindented}
 use Rattle.definition_inline.specs.Spans.{emphasized}
 use Rattle.laws_endings.specs.Endings.{code_with, codes_with}
 use Rattle.laws_endings.specs.Inlines.{inline_code_with, content_with}
 use Rattle.laws_endings.proofs.Codes.{same_code}
 use Rattle.laws_endings.proofs.Leaves.{same_byte}
-use Rattle.laws_endings_reads.specs.Runs.{may_mark, flat_unless, tame, tamed, RunsLaw}
+use Rattle.laws_endings_reads.specs.Kinds.{may_mark, counts_after, goes_on, IsAlike, AreAlike, KindsLaw}
 use Rattle.laws_endings_reads.proofs.Each.{Each}
+use Rattle.laws_endings_reads.proofs.Literals.{alike_codes, alike_drop, alike_at, same_of, alike_literal}
 use Rattle.laws_endings_reads.proofs.Characters.{need, Begins, continues_one, IsWhole, AreWhole}
 
 -- what passes a test that LF doesn't is no LF
 pub no_feed : (test : ℕ → Bool) (c : ℕ) → test 10 ≡ false → test c ≡ true → eqb c 10 ≡ false
 no_feed test c h k = false_from_ne_true (eqb c 10) (λ is. both_ways (test c) (ap test (eqb-true c 10 is) ∙ h) k)
 
--- ---- kinds count where a run may stand alone
+-- ---- contents that are alike
 
-code_by : (marks : Bool) (c : InlineCode) → (flat_unless marks c).code ≡ c.code
-code_by true c = refl
-code_by false c = refl
+alike_prefix : (test : ℕ → Bool) (one other : List InlineCode) → AreAlike one other
+    → prefix_len (λ (c : InlineCode). test c.code) one ≡ prefix_len (λ (c : InlineCode). test c.code) other
+alike_prefix test [] [] h = refl
+alike_prefix test [] (b ∷ bs) h = absurd (true≢false h)
+alike_prefix test (a ∷ rest) [] h = absurd (true≢false h)
+alike_prefix test (a ∷ rest) (b ∷ bs) h =
+    ap (λ code. cond (test code) (1 + prefix_len (λ (x : InlineCode). test x.code) rest) 0) h.0.code
+    ∙ ap (λ n. cond (test b.code) (1 + n) 0) (alike_prefix test rest bs h.1)
 
-tame_code : (c : InlineCode) → (tame c).code ≡ c.code
-tame_code c = code_by (may_mark c.code) c
-
-pub tamed_codes : (cs : List InlineCode) → codes_of (tamed cs) ≡ codes_of cs
-tamed_codes [] = refl
-tamed_codes (c ∷ cs) = ap (λ code. code ∷ codes_of (tamed cs)) (tame_code c) ∙ ap (λ more. c.code ∷ more) (tamed_codes cs)
-
-tamed_prefix : (test : ℕ → Bool) (cs : List InlineCode)
-    → prefix_len (λ (c : InlineCode). test c.code) (tamed cs) ≡ prefix_len (λ (c : InlineCode). test c.code) cs
-tamed_prefix test [] = refl
-tamed_prefix test (c ∷ cs) =
-    ap (λ code. cond (test code) (1 + prefix_len (λ (x : InlineCode). test x.code) (tamed cs)) 0) (tame_code c)
-    ∙ ap (λ n. cond (test c.code) (1 + n) 0) (tamed_prefix test cs)
-
-pub tamed_unindented : (content : List InlineCode) → unindented (tamed content) ≡ tamed (unindented content)
-tamed_unindented content =
-    ap (λ n. drop n (tamed content)) (tamed_prefix is_white content) ∙ drop-map tame (prefix_len (λ (c : InlineCode). is_white c.code) content) content
+pub alike_unindented : (one other : List InlineCode) → AreAlike one other → AreAlike (unindented one) (unindented other)
+alike_unindented one other h =
+    let n = prefix_len (λ (c : InlineCode). is_white c.code) one in
+    subst (λ m. AreAlike (drop n one) (drop m other)) (alike_prefix is_white one other h) (alike_drop n one other h)
 
 -- the last of the elements at the front that pass a test passes it
 last_by : {A : Type 0} (test : A → Bool) (c x : A) (xs : List A) (d : A) (n : ℕ) → test c ≡ true → (passes : Bool) → test x ≡ passes
@@ -76,61 +68,64 @@ marker_marks options code h =
     (or_right (eqb code 95) (eqb code 126) (and_parts options.constructs.gfm_strikethrough (is_tilde code) r).1))
     (or_cases (options.constructs.attention && (eqb code 42 || eqb code 95)) (options.constructs.gfm_strikethrough && is_tilde code) h)
 
-tame_marker : (c : InlineCode) → may_mark c.code ≡ true → tame c ≡ c
-tame_marker c h = ap (λ marks. flat_unless marks c) h
-
 module _ (options : ParseOptions) where
   -- the run of a marker
-  tamed_run : (c : InlineCode) (cs : List InlineCode) → is_marker options c.code ≡ true → run_at options (tamed (c ∷ cs)) ≡ run_at options (c ∷ cs)
-  tamed_run c cs h =
-      let marks = marker_marks options c.code h in
-      let test : InlineCode → Bool = λ x. eqb x.code c.code in
-      let run : InlineCode → ℕ → InlineCode → Option Run =
-      λ first size last. cond (is_marker options first.code) (Some (run_between options first.code size first.before last.after)) None in
-      let size = run_size c.code (c ∷ cs) in
-      let last = slice_index_or (c ∷ cs) (size - 1) c in
-      let same_first : eqb c.code c.code ≡ true = eq-eqb c.code c.code refl in
-      let size_is : size ≡ 1 + prefix_len test cs = cond-true (eqb c.code c.code) (1 + prefix_len test cs) 0 same_first in
-      let last_code : eqb last.code c.code ≡ true =
-      ap (λ n. test (slice_index_or (c ∷ cs) (n - 1) c)) size_is ∙ last_passes test c cs c same_first in
-      let last_marks : may_mark last.code ≡ true = ap may_mark (eqb-true last.code c.code last_code) ∙ marks in
-      ap (λ first. run first (run_size first.code (first ∷ tamed cs)) (slice_index_or (first ∷ tamed cs) (run_size first.code (first ∷ tamed cs) - 1) first))
-      (tame_marker c marks)
-      ∙ ap (λ first. let n = run_size c.code (first ∷ tamed cs) in run c n (slice_index_or (first ∷ tamed cs) (n - 1) c)) (sym (tame_marker c marks))
-      ∙ ap (λ n. run c n (slice_index_or (tamed (c ∷ cs)) (n - 1) c)) (tamed_prefix (λ code. eqb code c.code) (c ∷ cs))
-      ∙ ap (λ d. run c size (slice_index_or (tamed (c ∷ cs)) (size - 1) d)) (sym (tame_marker c marks))
-      ∙ ap (run c size) (get_or-map tame (c ∷ cs) (size - 1) c ∙ tame_marker last last_marks)
+  alike_run : (a b : InlineCode) (rest bs : List InlineCode) → AreAlike (a ∷ rest) (b ∷ bs) → is_marker options a.code ≡ true
+      → run_at options (a ∷ rest) ≡ run_at options (b ∷ bs)
+  alike_run a b rest bs h is =
+      let test : InlineCode → Bool = λ x. eqb x.code a.code in
+      let made : ℕ → ℕ → Kind → Kind → Option Run =
+      λ code size before after. cond (is_marker options code) (Some (run_between options code size before after)) None in
+      let size = run_size a.code (a ∷ rest) in
+      let last = slice_index_or (a ∷ rest) (size - 1) a in
+      let other = slice_index_or (b ∷ bs) (size - 1) b in
+      let same_first : eqb a.code a.code ≡ true = eq-eqb a.code a.code refl in
+      let size_is : size ≡ 1 + prefix_len test rest = cond-true (eqb a.code a.code) (1 + prefix_len test rest) 0 same_first in
+      let last_code : eqb last.code a.code ≡ true = ap (λ n. test (slice_index_or (a ∷ rest) (n - 1) a)) size_is ∙ last_passes test a rest a same_first in
+      let low : counts_after last.code ≡ true =
+      ap counts_after (eqb-true last.code a.code last_code) ∙ or_left (may_mark a.code) (eqb a.code 46 || eqb a.code 47) (marker_marks options a.code is) in
+      let same = alike_at (size - 1) (a ∷ rest) (b ∷ bs) a b h (same_of a b rest h.0) in
+      let size_same : size ≡ run_size b.code (b ∷ bs) =
+      alike_prefix (λ code. eqb code a.code) (a ∷ rest) (b ∷ bs) h ∙ ap (λ code. run_size code (b ∷ bs)) h.0.code in
+      ap (made a.code size a.before) (same.after low)
+      ∙ ap (λ n. made a.code n a.before (slice_index_or (b ∷ bs) (n - 1) b).after) size_same
+      ∙ ap₂ (λ code before. let n = run_size b.code (b ∷ bs) in made code n before (slice_index_or (b ∷ bs) (n - 1) b).after) h.0.code h.0.before
 
-  tamed_run_at : (c : InlineCode) (cs : List InlineCode) → run_at options (tamed (c ∷ cs)) ≡ run_at options (c ∷ cs)
-  tamed_run_at c cs =
-      ⊎_elim (λ h. tamed_run c cs h)
-      (λ h. cond-false (is_marker options (tame c).code) _ None (ap (is_marker options) (tame_code c) ∙ h)
-      ∙ sym (cond-false (is_marker options c.code) _ None h))
-      (cases_Bool (is_marker options c.code))
+  alike_run_at : (a b : InlineCode) (rest bs : List InlineCode) → AreAlike (a ∷ rest) (b ∷ bs) → run_at options (a ∷ rest) ≡ run_at options (b ∷ bs)
+  alike_run_at a b rest bs h =
+      ⊎_elim (λ is. alike_run a b rest bs h is)
+      (λ isnt. cond-false (is_marker options a.code) _ None isnt
+      ∙ sym (cond-false (is_marker options b.code) _ None (ap (is_marker options) (sym h.0.code) ∙ isnt)))
+      (cases_Bool (is_marker options a.code))
 
 module _ (context : InlineContext) where
-  tamed_step : (r : Reading) (c : InlineCode) (cs : List InlineCode) → step context r (tame c) (tamed cs) ≡ step context r c cs
-  tamed_step r c cs =
-      let run = run_at context.options (tamed (c ∷ cs)) in
-      ap (λ code. leaf_step context code (codes_of (tamed (c ∷ cs))) r run (leaf_at context (codes_of (tamed (c ∷ cs))))) (tame_code c)
-      ∙ ap (λ all. leaf_step context c.code all r run (leaf_at context all)) (tamed_codes (c ∷ cs))
-      ∙ ap (λ found. leaf_step context c.code (codes_of (c ∷ cs)) r found (leaf_at context (codes_of (c ∷ cs)))) (tamed_run_at context.options c cs)
+  alike_here : (one other : List InlineCode) → AreAlike one other → leaf_here context one ≡ leaf_here context other
+  alike_here one other h =
+      ap₂ (λ cs o. or_else (leaf_at context cs) o) (alike_codes one other h) (alike_literal context.options.constructs one other h)
+
+  alike_step : (r : Reading) (a b : InlineCode) (rest bs : List InlineCode) → AreAlike (a ∷ rest) (b ∷ bs) → step context r a rest ≡ step context r b bs
+  alike_step r a b rest bs h =
+      ap (λ code. leaf_step context code (codes_of (a ∷ rest)) r (run_at context.options (a ∷ rest)) (leaf_here context (a ∷ rest))) h.0.code
+      ∙ ap (λ all. leaf_step context b.code all r (run_at context.options (a ∷ rest)) (leaf_here context (a ∷ rest))) (alike_codes (a ∷ rest) (b ∷ bs) h)
+      ∙ ap₂ (leaf_step context b.code (codes_of (b ∷ bs)) r) (alike_run_at context.options a b rest bs h) (alike_here (a ∷ rest) (b ∷ bs) h)
 
   then_same : (s : Step) (f g : ℕ → Reading → Reading) → ((k : ℕ) (r : Reading) → f k r ≡ g k r) → and_then s f ≡ and_then s g
   then_same (Next more r) f g h = h more r
 
-  tamed_scan : (k : ℕ) (r : Reading) (cs : List InlineCode) → scan context k r (tamed cs) ≡ scan context k r cs
-  tamed_scan k r [] = refl
-  tamed_scan zero r (c ∷ cs) =
-      ap (λ s. and_then s (λ k next. scan context k next (tamed cs))) (tamed_step r c cs)
-      ∙ then_same (step context r c cs) (λ k next. scan context k next (tamed cs)) (λ k next. scan context k next cs) (λ k next. tamed_scan k next cs)
-  tamed_scan (suc k) r (c ∷ cs) = tamed_scan k r cs
+  alike_scan : (k : ℕ) (r : Reading) (one other : List InlineCode) → AreAlike one other → scan context k r one ≡ scan context k r other
+  alike_scan k r [] [] h = refl
+  alike_scan k r [] (b ∷ bs) h = absurd (true≢false h)
+  alike_scan k r (a ∷ rest) [] h = absurd (true≢false h)
+  alike_scan zero r (a ∷ rest) (b ∷ bs) h =
+      ap (λ s. and_then s (λ k next. scan context k next rest)) (alike_step r a b rest bs h)
+      ∙ then_same (step context r b bs) (λ k next. scan context k next rest) (λ k next. scan context k next bs) (λ k next. alike_scan k next rest bs h.1)
+  alike_scan (suc k) r (a ∷ rest) (b ∷ bs) h = alike_scan k r rest bs h.1
 
-  pub tamed_from : (content : List InlineCode) → inlines_from context (tamed content) ≡ inlines_from context content
-  tamed_from content = ap (λ r. emphasized (whole_text r).tokens) (tamed_scan 0 (reading (text [] false) []) content)
+  pub alike_from : (one other : List InlineCode) → AreAlike one other → inlines_from context one ≡ inlines_from context other
+  alike_from one other h = ap (λ r. emphasized (whole_text r).tokens) (alike_scan 0 (reading (text [] false) []) one other h)
 
-  pub tamed_inlines : (content : List InlineCode) → inlines context (tamed content) ≡ inlines context content
-  tamed_inlines content = ap (inlines_from context) (tamed_unindented content) ∙ tamed_from (unindented content)
+  pub alike_inlines : (one other : List InlineCode) → AreAlike one other → inlines context one ≡ inlines context other
+  alike_inlines one other h = alike_from (unindented one) (unindented other) (alike_unindented one other h)
 
 -- ---- kinds of whole characters
 
@@ -193,43 +188,40 @@ module _ (e : LineEnding) where
         ap (λ continues. cond continues k (first_kind p k (codes_with e (c ∷ cs)))) (same_code e is_continuation c refl refl)
         ∙ kind_before k c cs w (is_continuation c) refl
 
-    -- a code, whether runs have it or not
-    one-with : (q : Option ℕ) (k after : Kind) (c : ℕ) (cs : List ℕ) → AreWhole cs → (marks : Bool) → (marks ≡ true → continues_one cs ≡ false)
-        → flat_unless marks (inline_code (code_with e c) (option_map (code_with e) q) k (first_kind p after (codes_with e cs)))
-        ≡ inline_code_with e (flat_unless marks (inline_code c q k (first_kind p after cs)))
-    one-with q k after c cs w true h = ap (inline_code (code_with e c) (option_map (code_with e) q) k) (kind_ahead after cs (h refl) w)
-    one-with q k after c cs w false h = refl
+    -- a code with another ending after it, before others that go on alike
+    goes_with : (q : Option ℕ) (k after : Kind) (cs : List ℕ) → goes_on (with_kinds p q k after (codes_with e cs)) ≡ continues_one cs
+    goes_with q k after [] = refl
+    goes_with q k after (c ∷ cs) = same_code e is_continuation c refl refl
+
+    one-with : (q : Option ℕ) (k after : Kind) (c : ℕ) (cs : List ℕ) (others : List InlineCode) → goes_on others ≡ continues_one cs → IsWhole c cs → AreWhole cs
+        → IsAlike (inline_code (code_with e c) (option_map (code_with e) q) k (first_kind p after (codes_with e cs)))
+        (inline_code_with e (inline_code c q k (first_kind p after cs))) others
+    one-with q k after c cs others on w ws = record {
+      code = refl;
+      previous = refl;
+      before = refl;
+      after = λ h. kind_ahead after cs
+          (⊎_elim (λ counts. w.1 (sym (same_code e counts_after c refl refl) ∙ counts)) (λ whole. sym on ∙ whole) h) ws;
+    }
 
     pub kinds-with : (q : Option ℕ) (k after : Kind) (cs : List ℕ) → AreWhole cs
-        → tamed (with_kinds p (option_map (code_with e) q) k after (codes_with e cs)) ≡ content_with e (tamed (with_kinds p q k after cs))
+        → AreAlike (with_kinds p (option_map (code_with e) q) k after (codes_with e cs)) (content_with e (with_kinds p q k after cs))
     kinds-with q k after [] w = refl
     kinds-with q k after (c ∷ cs) w =
-        let others : Kind → List InlineCode = λ before. tamed (with_kinds p (Some (code_with e c)) before after (codes_with e cs)) in
-        let first = inline_code (code_with e c) (option_map (code_with e) q) k (first_kind p after (codes_with e cs)) in
-        ap (λ marks. flat_unless marks first ∷ others (next_kind p k (codes_with e (c ∷ cs)))) (same_code e may_mark c refl refl)
-        ∙ ap (λ x. x ∷ others (next_kind p k (codes_with e (c ∷ cs)))) (one-with q k after c cs w.1 (may_mark c) w.0.1)
-        ∙ ap (λ before. inline_code_with e (tame (inline_code c q k (first_kind p after cs))) ∷ others before) (next_kind-with k c cs w.0)
-        ∙ ap (λ more. inline_code_with e (tame (inline_code c q k (first_kind p after cs))) ∷ more)
-        (kinds-with (Some c) (next_kind p k (c ∷ cs)) after cs w.1)
+        let next' = next_kind p k (codes_with e (c ∷ cs)) in (
+          one-with q k after c cs (with_kinds p (Some (code_with e c)) next' after (codes_with e cs)) (goes_with (Some (code_with e c)) next' after cs) w.0 w.1,
+          subst (λ before. AreAlike (with_kinds p (Some (code_with e c)) before after (codes_with e cs)) (content_with e (with_kinds p (Some c) (next_kind p k (c ∷ cs)) after cs)))
+              (sym (next_kind-with k c cs w.0)) (kinds-with (Some c) (next_kind p k (c ∷ cs)) after cs w.1),
+        )
 
     -- codes without LF stay as they are
-    kept_by : (c : InlineCode) (marks : Bool) → eqb c.code 10 ≡ false → option_map (code_with e) c.previous ≡ c.previous
-        → flat_unless marks c ≡ inline_code_with e (flat_unless marks c)
-    kept_by c true h q =
-        ap (λ code. inline_code code c.previous c.before c.after) (sym (same_byte e c.code h))
-        ∙ ap (λ previous. inline_code (code_with e c.code) previous c.before c.after) (sym q)
-    kept_by c false h q =
-        ap (λ code. inline_code code c.previous Whitespace Whitespace) (sym (same_byte e c.code h))
-        ∙ ap (λ previous. inline_code (code_with e c.code) previous Whitespace Whitespace) (sym q)
-
     pub kinds-kept : (q : Option ℕ) (k after : Kind) (cs : List ℕ) → option_map (code_with e) q ≡ q → Each (λ c. eqb c 10 ≡ false) cs
-        → tamed (with_kinds p q k after cs) ≡ content_with e (tamed (with_kinds p q k after cs))
+        → AreAlike (with_kinds p q k after cs) (content_with e (with_kinds p q k after cs))
     kinds-kept q k after [] same h = refl
-    kinds-kept q k after (c ∷ cs) same h =
-        let first = inline_code c q k (first_kind p after cs) in
-        let next = next_kind p k (c ∷ cs) in
-        ap (λ x. x ∷ tamed (with_kinds p (Some c) next after cs)) (kept_by first (may_mark c) h.0 same)
-        ∙ ap (λ more. inline_code_with e (tame first) ∷ more) (kinds-kept (Some c) next after cs (ap Some (same_byte e c h.0)) h.1)
+    kinds-kept q k after (c ∷ cs) same h = (
+      record { code = sym (same_byte e c h.0); previous = sym same; before = refl; after = λ _. refl },
+      kinds-kept (Some c) (next_kind p k (c ∷ cs)) after cs (ap Some (same_byte e c h.0)) h.1,
+    )
 
-pub runs_law : RunsLaw
-runs_law context content = tamed_inlines context content
+pub kinds_law : KindsLaw
+kinds_law context one other h = alike_inlines context one other h

@@ -12,7 +12,8 @@ use Rattle.definition_text.specs.Bytes.{begins_with}
 use Rattle.definition_text.specs.Runs.{run}
 use Rattle.definition_block.specs.BlockQuote.{after_byte, after_mark, quote_prefix}
 use Rattle.definition_block.specs.ListItem.{is_digit, number_of, bullet, delimiter, ordered, marker, item_after, item_start}
-use Rattle.definition_block.specs.Containers.{quote_or, starts}
+use Rattle.definition_block.specs.GfmFootnoteDefinition.{after_bracket, footnote_mark, footnote_of, footnote_start}
+use Rattle.definition_block.specs.Containers.{quote_or, footnote_or, starts}
 use Rattle.definition_block.specs.CodeIndented.{starts_code_indented}
 use Rattle.definition_block.specs.CodeFenced.{Fence, fence_of, fence_start}
 use Rattle.definition_block.specs.MathFlow.{math_fence_of, math_start}
@@ -92,8 +93,15 @@ module _ (on : Constructs) (c : ℕ) (cs : List ℕ) (line : BeginsNothing c cs)
   no_item : (interrupts : Bool) → item_start on interrupts here ≡ None
   no_item interrupts = unless _ _ (ap (item_after (indent here) interrupts) (ap marker same_bare ∙ no_marker))
 
+  no_footnote : footnote_start on here ≡ None
+  no_footnote =
+      unless _ _ (ap (λ xs. footnote_of (footnote_mark xs)) same_bare
+      ∙ ap (λ o. footnote_of (after_bracket o)) (cond-false (c == 91) _ _ (line.no_punctuation 91 refl refl)))
+
   pub no_start : (interrupts : Bool) → starts on interrupts here ≡ None
-  no_start interrupts = ap (quote_or (item_start on interrupts here)) no_quote ∙ no_item interrupts
+  no_start interrupts =
+      ap (quote_or (footnote_or (item_start on interrupts here) (footnote_start on here))) no_quote
+      ∙ ap (footnote_or (item_start on interrupts here)) no_footnote ∙ no_item interrupts
 
   -- ---- leaves
 

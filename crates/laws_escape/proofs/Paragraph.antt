@@ -1,5 +1,5 @@
 -- A text of one line that begins nothing is a paragraph.
-use Rattle.std.proofs.Common.{◌≡◌, ℕ, zero, suc, true, false, ◌||◌, List, [], ◌∷◌, ◌++◌, Option, None, refl, ap, ◌∙◌, take, length}
+use Rattle.std.proofs.Common.{◌≡◌, ℕ, zero, suc, true, false, ◌&&◌, ◌||◌, List, [], ◌∷◌, ◌++◌, Option, None, Some, refl, ap, ◌∙◌, take, length}
 use Rattle.std.specs.Prelude.{◌+◌, ◌==◌}
 use Rattle.std.specs.List.{list_all}
 use Rattle.std.proofs.lemmas.Bool.{cond-false, cond_both, and_parts, or_parts}
@@ -13,11 +13,13 @@ use Rattle.definition_text.specs.Runs.{run}
 use Rattle.definition_inline.specs.Label.{label_at}
 use Rattle.definition_inline.specs.Definition.{with_label, definition_at}
 use Rattle.definition_block.specs.Started.{Started}
-use Rattle.definition_block.specs.Definitions.{cut_into, cut_after, cut_most, cut}
+use Rattle.definition_block.specs.Definitions.{Cut, cut_into, cut_after, cut_most, cut}
 use Rattle.definition_block.specs.Frontmatter.{is_metadata_fence, after_frontmatter}
 use Rattle.definition_block.specs.HeadingSetext.{underline}
 use Rattle.definition_block.specs.ThematicBreak.{is_break}
-use Rattle.definition_block.specs.Tree.{Nil, Paragraph, join, ended, Text, Leaf, Tree, tree, nothing, empty_tree, with_paragraph, rest_line, begun, taken, underlined, text_line_of, break_or_text, beside_in, leaf_line, start, new, grow, beside_line, step, closed, children, children_after, blocks}
+use Rattle.definition_block.specs.declared.align_kind.AlignKind.{AlignKind}
+use Rattle.definition_block.specs.GfmTable.{delimiter_row, is_head}
+use Rattle.definition_block.specs.Tree.{is_some_line, table_if, Nil, Paragraph, join, ended, Text, Leaf, Tree, tree, nothing, empty_tree, with_paragraph, rest_line, begun, taken, underlined, text_line_of, break_or_text, beside_in, leaf_line, start, new, grow, beside_line, step, closed, children, children_after, blocks}
 use Rattle.laws_visible.proofs.PlainText.{and_no, bare_other}
 use Rattle.laws_inline.specs.Escaped.{is_line_byte}
 use Rattle.laws_inline.proofs.Escaped.{no_and, no_column, line_byte}
@@ -58,6 +60,11 @@ module _ (on : Constructs) (c : ℕ) (cs : List ℕ) (line : BeginsNothing c cs)
   its_text : (beside : Beside) → text_line_of on nothing here beside ≡ in_paragraph beside
   its_text beside = ap (λ x. tree (join (with_paragraph x) Nil) (Leaf (Text (rest_line here beside ∷ [])))) cut_none
 
+  no_table : (o : Option (List AlignKind)) (row : BlockLine) → table_if on o [] row ≡ None
+  no_table None row = refl
+  no_table (Some columns) row =
+      cond-false (is_some_line (cut on []).left && is_head (length columns) []) _ _ (ap (λ (x : Cut). is_some_line x.left && false) cut_none)
+
   its_leaf : (beside : Beside) → leaf_line on nothing here beside ≡ in_paragraph beside
   its_leaf beside =
       let text = break_or_text on nothing here beside in
@@ -65,7 +72,8 @@ module _ (on : Constructs) (c : ℕ) (cs : List ℕ) (line : BeginsNothing c cs)
       cond-false (is_blank here) _ _ (not_blank on c cs line)
       ∙ ap (λ o. begun on o nothing (turned (underline on here))) (no_leaf on c cs line beside)
       ∙ ap turned (no_underline on c cs line)
-      ∙ cond-false (is_break on here) _ _ (no_break on c cs line) ∙ its_text beside
+      ∙ cond-false (is_break on here) _ _ (no_break on c cs line)
+      ∙ ap (λ o. taken o (text_line_of on nothing here beside)) (no_table (delimiter_row on here) (rest_line here beside)) ∙ its_text beside
 
   its_place : (most : ℕ) (beside : Beside) → new most on true nothing beside here ≡ in_paragraph beside
   its_place zero beside = its_leaf beside

@@ -1,9 +1,9 @@
 -- An escaped line prints itself as text.
-use Rattle.std.proofs.Common.{inl, inr, ◌≡◌, ℕ, Bool, true, false, cond, not, ◌&&◌, ◌||◌, List, [], ◌∷◌, ◌++◌, map, Option, None, Some, refl, sym, ap, ◌∙◌, length, get_or, drop, arith, append_assoc}
+use Rattle.std.proofs.Common.{inl, inr, ◌≡◌, ◌+◌, ◌<◌, ℕ, Bool, true, false, cond, not, ◌&&◌, ◌||◌, List, [], ◌∷◌, ◌++◌, map, Option, None, Some, refl, sym, ap, ◌∙◌, length, get_or, drop, arith, subst, append_assoc}
 use Rattle.std.specs.Prelude.{◌==◌, nat_lt, nat_le, codes}
 use Rattle.std.specs.List.{list_all, flat_map, prefix_len}
-use Rattle.std.specs.Char.{is_ascii_punctuation}
-use Rattle.std.proofs.lemmas.Bool.{cases_Bool, cond-true, cond-false, cond_both, both_ways, and_parts, or_parts, or_from, eqb-true, not-true}
+use Rattle.std.specs.Char.{is_ascii_punctuation, to_ascii_lowercase}
+use Rattle.std.proofs.lemmas.Bool.{cases_Bool, cond-true, cond-false, cond_both, both_ways, and_parts, or_parts, or_from, eqb-true, ne_eqb, ltb-false, not-true}
 use Rattle.std.proofs.lemmas.Grind.{common_steps}
 use Rattle.markdown_options.specs.declared.configuration.Constructs.{Constructs}
 use Rattle.definition_text.specs.Columns.{is_white, indent, bare}
@@ -23,7 +23,9 @@ use Rattle.definition_inline.specs.HtmlText.{html_text_at}
 use Rattle.definition_inline.specs.HardBreak.{ends_inner_line, ends_here, line_end_at, escaped_break_at, line_spaces_at}
 use Rattle.definition_inline.specs.Attention.{is_marker, run_at}
 use Rattle.definition_inline.specs.Spans.{Token, Item, emphasized}
-use Rattle.definition_inline.specs.Scan.{InlineContext, leaf_at, label_start_at, text, Reading, reading, read_tokens, Next, data_step, label_end_step, step, scan, whole_text}
+use Rattle.definition_inline.specs.GfmAutolinkLiteral.{begins_caselessly}
+use Rattle.definition_inline.proofs.GfmAutolinkLiteral.{HasNoStart, no_literal}
+use Rattle.definition_inline.specs.Scan.{InlineContext, leaf_at, leaf_here, label_start_at, text, Reading, reading, read_tokens, Next, data_step, label_end_step, step, scan, whole_text}
 use Rattle.html_bytes.specs.InlineHtml.{InlineMeaning, part_html, inline_html}
 use Rattle.definition_inline.proofs.Scanning.{scan_step, step_leaf, step_last}
 use Rattle.laws_visible.proofs.InlineParts.{read_nothing, white_codes, html_of_parts}
@@ -181,6 +183,45 @@ goes_on b (next ∷ bs) lines trimmed =
     let parts = and_parts (is_line_byte b) (list_all is_line_byte (next ∷ bs)) lines in
     goes_on_from b (next ∷ bs) parts.0 (λ white. goes_on next bs parts.1 trimmed)
 
+-- ---- literals in an escaped line
+
+-- a byte in lower case that is punctuation is that byte
+punctuation_is : (b p : ℕ) → p < 65 → to_ascii_lowercase b ≡ p → b ≡ p
+punctuation_is b p low =
+    cond_both (nat_lt b 65) b (cond (nat_lt b 91) (b + 32) b) (λ l. l ≡ p → b ≡ p) (λ _ e. e)
+    (λ high. cond_both (nat_lt b 91) (b + 32) b (λ l. l ≡ p → b ≡ p) (λ _ e. absurd (omega (arith, e, low, ltb-false b 65 high))) (λ _ e. e))
+
+-- letters and then punctuation don't come first in an escaped text, since a backslash stands before punctuation
+no_text_escaped : (letters : List ℕ) (p : ℕ) (more bs : List ℕ) → list_all (λ l. not (to_ascii_lowercase l == 92)) letters ≡ true → p < 65
+    → (to_ascii_lowercase p ≡ p) × (is_ascii_punctuation p ≡ true) → begins_caselessly (letters ++ p ∷ more) (escaped bs) ≡ false
+no_text_escaped [] p more [] apart low is = refl
+no_text_escaped (l ∷ ls) p more [] apart low is = refl
+no_text_escaped [] p more (b ∷ bs) apart low is = elim (cases_Bool (is_ascii_punctuation b)) [
+  | inl on ↦
+      ap (begins_caselessly (p ∷ more)) (escaped_punctuation b bs on)
+      ∙ no_and (to_ascii_lowercase p == 92) _ (ne_eqb (to_ascii_lowercase p) 92 (λ e. omega (arith, e, is.0, low)))
+  | inr off ↦
+      ap (begins_caselessly (p ∷ more)) (escaped_other b bs off)
+      ∙ no_and (to_ascii_lowercase p == to_ascii_lowercase b) _
+      (ne_eqb (to_ascii_lowercase p) (to_ascii_lowercase b)
+      (λ e. both_ways (is_ascii_punctuation b) off (ap is_ascii_punctuation (punctuation_is b p low (sym e ∙ is.0)) ∙ is.1)))
+]
+no_text_escaped (l ∷ ls) p more (b ∷ bs) apart low is =
+    let others = and_parts (not (to_ascii_lowercase l == 92)) (list_all (λ l. not (to_ascii_lowercase l == 92)) ls) apart in
+    elim (cases_Bool (is_ascii_punctuation b)) [
+      | inl on ↦ ap (begins_caselessly (l ∷ ls ++ p ∷ more)) (escaped_punctuation b bs on) ∙ no_and (to_ascii_lowercase l == 92) _ (not-true _ others.0)
+      | inr off ↦
+          ap (begins_caselessly (l ∷ ls ++ p ∷ more)) (escaped_other b bs off)
+          ∙ and_no (to_ascii_lowercase l == to_ascii_lowercase b) _ (no_text_escaped ls p more bs others.1 low is)
+    ]
+
+no_start_escaped : (bs : List ℕ) → HasNoStart (escaped bs)
+no_start_escaped bs = record {
+  www = no_text_escaped (codes "www") 46 [] bs refl (omega arith) (refl, refl);
+  http = no_text_escaped (codes "http") 58 (codes "//") bs refl (omega arith) (refl, refl);
+  https = no_text_escaped (codes "https") 58 (codes "//") bs refl (omega arith) (refl, refl);
+}
+
 -- ---- the scan
 
 part_of : ℕ → Inline
@@ -209,12 +250,15 @@ module _ (context : InlineContext) (on : context.options.constructs.character_es
       or_first (escape_at context.options.constructs (92 ∷ b ∷ rest)) _ (leaf (Escape b ∷ []) 2) found
 
   data_place : (b : ℕ) (rest : List ℕ) (r : Reading) (c : InlineCode) (cs : List InlineCode) → is_ascii_punctuation b ≡ false → is_line_byte b ≡ true
-      → (is_white b ≡ true → ends_here (bare (b ∷ rest)) ≡ false) → codes_of (c ∷ cs) ≡ b ∷ rest
+      → (is_white b ≡ true → ends_here (bare (b ∷ rest)) ≡ false) → HasNoStart (b ∷ rest) → codes_of (c ∷ cs) ≡ b ∷ rest
       → step context r c cs ≡ Next 0 (read_tokens (Item (Data b) ∷ []) r)
-  data_place b rest r c cs off line spaces e =
+  data_place b rest r c cs off line spaces start e =
       let is : c.code ≡ b = ap (λ xs. get_or xs 0 0) e in
       let no_label : (c.code == 93) ≡ false = ap (λ x. x == 93) is ∙ other b 93 off refl in
-      step_last context r c cs (ap (leaf_at context) e ∙ no_leaf context b off line rest spaces) (no_run context b off line c cs is)
+      let no_other : leaf_at context (codes_of (c ∷ cs)) ≡ None = ap (leaf_at context) e ∙ no_leaf context b off line rest spaces in
+      let none : leaf_here context (c ∷ cs) ≡ None =
+      or_none (leaf_at context (codes_of (c ∷ cs))) _ no_other (no_literal context.options.constructs (c ∷ cs) (subst HasNoStart (sym e) start)) in
+      step_last context r c cs none (no_run context b off line c cs is)
       (ap (label_start_at context.options.constructs) e ∙ no_start context b off line rest)
       ∙ cond-false (context.options.constructs.label_end && (c.code == 93))
       (label_end_step context (codes_of (c ∷ cs)) r.now r.open_labels) (data_step c.code r)
@@ -256,7 +300,7 @@ module _ (context : InlineContext) (on : context.options.constructs.character_es
       escape_step b bs (c ∷ d ∷ cs) r punctuation e more =
           let next = read_tokens (Item (Escape b) ∷ []) r in
           let found : leaf_at context (codes_of (c ∷ d ∷ cs)) ≡ Some (leaf (Escape b ∷ []) 2) = ap (leaf_at context) e ∙ escape_leaf b (escaped bs) punctuation in
-          scan_step context r next c (d ∷ cs) 1 (step_leaf context r c (d ∷ cs) (leaf (Escape b ∷ []) 2) found)
+          scan_step context r next c (d ∷ cs) 1 (step_leaf context r c (d ∷ cs) (leaf (Escape b ∷ []) 2) (or_first (leaf_at context (codes_of (c ∷ d ∷ cs))) _ (leaf (Escape b ∷ []) 2) found))
           ∙ more cs (ap (drop 2) e) ∙ read_more (Item (Escape b)) (tokens_of bs) r
           ∙ ap (λ i. read_tokens (Item i ∷ tokens_of bs) r) (sym (escape_part b punctuation))
 
@@ -268,7 +312,7 @@ module _ (context : InlineContext) (on : context.options.constructs.character_es
       other_step b bs [] r off line spaces e more = let n : 0 ≡ length (b ∷ escaped bs) = ap length e in absurd (omega arith)
       other_step b bs (c ∷ cs) r off line spaces e more =
           let next = read_tokens (Item (Data b) ∷ []) r in
-          scan_step context r next c cs 0 (data_place b (escaped bs) r c cs off line spaces e)
+          scan_step context r next c cs 0 (data_place b (escaped bs) r c cs off line spaces (subst HasNoStart (escaped_other b bs off) (no_start_escaped (b ∷ bs))) e)
           ∙ more cs (ap (drop 1) e) ∙ read_more (Item (Data b)) (tokens_of bs) r
           ∙ ap (λ i. read_tokens (Item i ∷ tokens_of bs) r) (sym (data_part b off))
 

@@ -1,6 +1,7 @@
 mod Each
 pub mod Occurs
 pub mod Pairs
+pub mod Emphasis
 pub mod Escaped
 pub mod EscapedString
 pub mod NestedLinks

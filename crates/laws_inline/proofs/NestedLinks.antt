@@ -20,7 +20,9 @@ use Rattle.definition_inline.specs.LabelEnd.{Ended, label_end_at}
 use Rattle.definition_inline.specs.Attention.{Run, run_at}
 use Rattle.definition_inline.specs.Pairing.{Pair, pairs}
 use Rattle.definition_inline.specs.Spans.{Token, Item, Delimiters, runs_of, Span, IsEmphasis, IsStrong, IsStrikethrough, span_of, SpanRow, Holds, Opens, Closes, bytes_taken, run_rows, rows_from, OpenSpan, Nest, nest, spanned, leave, nest_row, emphasized}
-use Rattle.definition_inline.specs.Scan.{InlineContext, leaf_at, LabelStart, LinkStart, ImageStart, label_start_at, start_bytes, start_tokens, may_form, Text, text, OpenLabel, Reading, reading, read_tokens, unformed, formed, Step, Next, data_step, ended_step, label_end_step, last_step, label_step, run_step, leaf_step, step, and_then, scan, whole_text}
+use Rattle.definition_inline.specs.GfmAutolinkLiteral.{literal_at}
+use Rattle.definition_inline.proofs.GfmAutolinkLiteral.{any_literal}
+use Rattle.definition_inline.specs.Scan.{InlineContext, leaf_at, leaf_here, LabelStart, LinkStart, ImageStart, label_start_at, start_bytes, start_tokens, may_form, Text, text, OpenLabel, Reading, reading, read_tokens, unformed, formed, Step, Next, data_step, ended_step, label_end_step, last_step, label_step, run_step, leaf_step, step, and_then, scan, whole_text}
 use Rattle.laws_inline.specs.Occurs.{part_has, has, is_link}
 use Rattle.laws_inline.specs.NestedLinks.{is_nesting, LinksHoldNoLinks}
 use Rattle.laws_inline.proofs.Each.{Each, each-append, each_map, each_same}
@@ -175,7 +177,7 @@ plain_spaces on content =
     plain_if _ (leaf (cond (on.hard_break_trailing && is_trailing_break content) (TrailingBreak ∷ []) []) (indent content))
     (cond_both (on.hard_break_trailing && is_trailing_break content) (TrailingBreak ∷ []) [] (Each IsPlain) (λ _. (tt, tt)) (λ _. tt))
 
-pub plain_leaf : (context : InlineContext) (content : List ℕ) → PlainLeaf (leaf_at context content)
+plain_leaf : (context : InlineContext) (content : List ℕ) → PlainLeaf (leaf_at context content)
 plain_leaf context content =
     let on = context.options.constructs in
     plain_or (escape_at on content) _ (plain_escape on content)
@@ -186,6 +188,13 @@ plain_leaf context content =
     (plain_or (autolink_at on content) _ (plain_autolink on content)
     (plain_or (html_text_at on content) _ (plain_html on content)
     (plain_or (line_end_at content) (line_spaces_at on content) (plain_line_end content) (plain_spaces on content))))))))
+
+-- the same of codes that know what stands beside them, with a literal
+pub plain_here : (context : InlineContext) (content : List InlineCode) → PlainLeaf (leaf_here context content)
+plain_here context content =
+    let on = context.options.constructs in
+    plain_or (leaf_at context (codes_of content)) (literal_at on content) (plain_leaf context (codes_of content))
+    (any_literal PlainLeaf on content tt (λ kind text size is. (tt, tt)))
 
 -- ---- texts
 
@@ -358,7 +367,7 @@ module _ (context : InlineContext) where
   good_step : (r : Reading) (c : InlineCode) (cs : List InlineCode) → IsGoodReading r → IsGoodStep (step context r c cs)
   good_step r c cs h =
       let content = codes_of (c ∷ cs) in
-      good_leaf c.code content r (run_at context.options (c ∷ cs)) (leaf_at context content) h (plain_leaf context content)
+      good_leaf c.code content r (run_at context.options (c ∷ cs)) (leaf_here context (c ∷ cs)) h (plain_here context (c ∷ cs))
 
   good_then : (s : Step) (rest : ℕ → Reading → Reading) → IsGoodStep s → ((k : ℕ) (r : Reading) → IsGoodReading r → IsGoodReading (rest k r))
       → IsGoodReading (and_then s rest)

@@ -22,7 +22,9 @@ use Rattle.definition_inline.specs.LabelEnd.{Ended}
 use Rattle.definition_inline.specs.Attention.{Run, run_at, is_marker}
 use Rattle.definition_inline.specs.Pairing.{Pair, pairs}
 use Rattle.definition_inline.specs.Spans.{Token, Item, Delimiters, runs_of, Span, IsEmphasis, IsStrong, IsStrikethrough, span_of, SpanRow, Holds, Opens, Closes, bytes_taken, run_rows, rows_from, OpenSpan, Nest, nest, spanned, leave, nest_row, emphasized}
-use Rattle.definition_inline.specs.Scan.{InlineContext, leaf_at, LabelStart, LinkStart, ImageStart, label_start_at, start_bytes, start_tokens, label_part, Text, text, OpenLabel, Reading, reading, read_tokens, unformed, formed, Step, Next, data_step, ended_step, ended_by, label_end_step, last_step, label_step, run_step, leaf_step, step, and_then, scan, whole_text, inlines}
+use Rattle.definition_inline.specs.GfmAutolinkLiteral.{literal_at}
+use Rattle.definition_inline.proofs.GfmAutolinkLiteral.{any_literal}
+use Rattle.definition_inline.specs.Scan.{InlineContext, leaf_at, leaf_here, LabelStart, LinkStart, ImageStart, label_start_at, start_bytes, start_tokens, label_part, Text, text, OpenLabel, Reading, reading, read_tokens, unformed, formed, Step, Next, data_step, ended_step, ended_by, label_end_step, last_step, label_step, run_step, leaf_step, step, and_then, scan, whole_text, inlines}
 use Rattle.laws_inline.specs.Occurs.{part_has, has, is_escape, is_character, is_code, is_math, is_autolink, is_literal, is_html, is_escaped_break, is_trailing_break as is_trailing, is_span, is_strikethrough, is_link, is_image, is_labelled}
 use Rattle.laws_inline.specs.Occurs.{NoEscapes, NoCharacters, NoCode, NoMath, NoAutolinks, NoLiterals, NoHtml, NoEscapedBreaks, NoTrailingBreaks, NoSpans, NoStrikethrough, NoLinks, NoImages, NoLabelEnds}
 use Rattle.laws_inline.proofs.Each.{Each, each-append, each_map, each_same}
@@ -357,10 +359,15 @@ module _ (context : InlineContext) where
       (begin_or constructs (line_end_at content) (line_spaces_at constructs content)
       (may_end_line constructs content) (may_space_line constructs content))))))))
 
+  may_here : (content : List InlineCode) → MayBegin constructs (leaf_here context content)
+  may_here content =
+      begin_or constructs (leaf_at context (codes_of content)) (literal_at constructs content) (may_leaf (codes_of content))
+      (any_literal (MayBegin constructs) constructs content tt (λ kind text size is. (is, tt)))
+
   may_step : (r : Reading) (c : InlineCode) (cs : List InlineCode) → ReadingMayStand constructs r → StepMayStand constructs (step context r c cs)
   may_step r c cs p =
       let content = codes_of (c ∷ cs) in
-      may_leaf_step c.code content r (run_at context.options (c ∷ cs)) (leaf_at context content) p (may_run (c ∷ cs)) (may_leaf content)
+      may_leaf_step c.code content r (run_at context.options (c ∷ cs)) (leaf_here context (c ∷ cs)) p (may_run (c ∷ cs)) (may_here (c ∷ cs))
 
   may_then : (s : Step) (rest : ℕ → Reading → Reading) → StepMayStand constructs s
       → ((k : ℕ) (r : Reading) → ReadingMayStand constructs r → ReadingMayStand constructs (rest k r)) → ReadingMayStand constructs (and_then s rest)

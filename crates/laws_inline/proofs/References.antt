@@ -11,11 +11,11 @@ use Rattle.definition_inline.specs.Resource.{LinkResource, resource_at}
 use Rattle.definition_inline.specs.LabelEnd.{Ended, ended, is_label_text, by_text, by_label, by_resource, label_end_at}
 use Rattle.definition_inline.specs.Attention.{Run, run_at}
 use Rattle.definition_inline.specs.Spans.{Token, Item, Delimiters, Span, IsEmphasis, IsStrong, IsStrikethrough, spanned, emphasized}
-use Rattle.definition_inline.specs.Scan.{InlineContext, leaf_at, LabelStart, LinkStart, ImageStart, label_start_at, start_bytes, start_tokens, may_form, label_part, Text, text, OpenLabel, Reading, reading, read_tokens, unformed, formed, Step, Next, data_step, ended_step, ended_by, label_end_step, last_step, label_step, run_step, leaf_step, step, and_then, scan, whole_text}
+use Rattle.definition_inline.specs.Scan.{InlineContext, leaf_here, LabelStart, LinkStart, ImageStart, label_start_at, start_bytes, start_tokens, may_form, label_part, Text, text, OpenLabel, Reading, reading, read_tokens, unformed, formed, Step, Next, data_step, ended_step, ended_by, label_end_step, last_step, label_step, run_step, leaf_step, step, and_then, scan, whole_text}
 use Rattle.laws_inline.specs.Occurs.{part_has, has}
 use Rattle.laws_inline.specs.References.{is_undefined, leads_nowhere, ReferencesAreDefined}
 use Rattle.laws_inline.proofs.Each.{Each, each-append, each_map}
-use Rattle.laws_inline.proofs.NestedLinks.{Lacks, emphasized_lacks, IsPlain, PlainLeaf, plain_leaf}
+use Rattle.laws_inline.proofs.NestedLinks.{Lacks, emphasized_lacks, IsPlain, PlainLeaf, plain_here}
 
 module _ (is_defined : List ℕ → Bool) where
   -- ---- what a `]` forms
@@ -157,7 +157,7 @@ module _ (context : InlineContext) where
   sound_step : (r : Reading) (c : InlineCode) (cs : List InlineCode) → Sound r → SoundStep (step context r c cs)
   sound_step r c cs p =
       let content = codes_of (c ∷ cs) in
-      sound_leaf c.code content r (run_at context.options (c ∷ cs)) (leaf_at context content) p (plain_leaf context content)
+      sound_leaf c.code content r (run_at context.options (c ∷ cs)) (leaf_here context (c ∷ cs)) p (plain_here context (c ∷ cs))
 
   sound_then : (s : Step) (rest : ℕ → Reading → Reading) → SoundStep s → ((k : ℕ) (r : Reading) → Sound r → Sound (rest k r)) → Sound (and_then s rest)
   sound_then (Next more r) rest p h = h more r p

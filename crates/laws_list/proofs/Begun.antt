@@ -1,5 +1,5 @@
 -- After a first line that isn't blank, a tree doesn't hold a blank line alone: so an item that holds it goes on over blank lines.
-use Rattle.std.proofs.Common.{◌≡◌, ℕ, zero, suc, List, [], ◌∷◌, ◌++◌, None, Some, Option, Bool, true, false, ◌&&◌, not, inl, inr, ◌⊎◌, ⊎_elim, refl, sym, ap, subst, length}
+use Rattle.std.proofs.Common.{◌≡◌, ℕ, zero, suc, List, [], ◌∷◌, ◌++◌, None, Some, Option, Bool, true, false, ◌&&◌, ◌||◌, ◌-◌, take, not, inl, inr, ◌⊎◌, ⊎_elim, refl, sym, ap, subst, length}
 use Rattle.std.proofs.lemmas.Bool.{cond_both, both_ways, true≢false}
 use Rattle.markdown_options.specs.declared.line_ending.LineEnding.{LineEnding}
 use Rattle.markdown_options.specs.declared.configuration.Constructs.{Constructs}
@@ -7,8 +7,7 @@ use Rattle.definition_text.specs.declared.beside.Beside.{Beside}
 use Rattle.definition_text.specs.Columns.{Rest, is_blank}
 use Rattle.definition_text.specs.Content.{content_of}
 use Rattle.definition_inline.specs.Definition.{Definition as LinkDefinition, definition_at}
-use Rattle.definition_block.specs.declared.container.Container.{Container}
-use Rattle.definition_block.specs.declared.container.Container.TheVariants.{Quote, Item}
+use Rattle.definition_block.specs.Container.{Container, Quote, Item, Footnote}
 use Rattle.definition_block.specs.Started.{Started}
 use Rattle.definition_block.specs.Containers.{continues, starts}
 use Rattle.definition_block.specs.CodeIndented.{starts_code_indented}
@@ -18,8 +17,10 @@ use Rattle.definition_block.specs.HtmlFlow.{html_start, html_ends_here, ends_bef
 use Rattle.definition_block.specs.HeadingAtx.{Atx, heading_atx}
 use Rattle.definition_block.specs.HeadingSetext.{underline}
 use Rattle.definition_block.specs.ThematicBreak.{is_break}
+use Rattle.definition_block.specs.declared.align_kind.AlignKind.{AlignKind}
+use Rattle.definition_block.specs.GfmTable.{delimiter_row, is_head}
 use Rattle.definition_block.specs.Definitions.{Cut, cut_into, cut_after, cut_most, cut}
-use Rattle.definition_block.specs.Tree.{BlockLine, own_lines, Break, Blank, Blocks, Nil, Cons, join, one, ended, OpenLeaf, Text, Indented, Fenced, OpenHtml, Opening, Leaf, Inside, Tree, tree, nothing, with_paragraph, holds, close, has_text, leaf_with_line, with_line, rest_line, html_with, takes, or_heading, or_fence, or_html, begins, after, break_or_text, text_line_of, text_here, heading_of, underlined, turns, begun, taken, leaf_line, beside_in, start, new, is_nothing, is_one_blank, began_blank, goes_on, grow}
+use Rattle.definition_block.specs.Tree.{BlockLine, own_lines, Break, Blank, Blocks, Nil, Cons, join, one, ended, OpenLeaf, Text, Indented, Fenced, OpenHtml, OpenTable, Opening, Leaf, Inside, Tree, tree, nothing, paragraph_of, with_paragraph, holds, close, has_text, has_table, is_some_line, table_of, table_if, makes_table, leaf_with_line, with_line, rest_line, html_with, takes, or_heading, or_fence, or_html, begins, after, break_or_text, text_line_of, text_here, heading_of, underlined, turns, begun, taken, leaf_line, beside_in, start, new, is_nothing, is_one_blank, began_blank, goes_on, grow}
 
 -- the first of these blocks is there, and is no blank line
 abbrev IsDark : Blocks → Type 0
@@ -100,6 +101,18 @@ taken_begun : (o : Option Tree) (other : Tree) → SomeBegun o → IsBegun other
 taken_begun None other p q = q
 taken_begun (Some t) other p q = p
 
+paragraph_either : (ls : List BlockLine) → NoneOrDark (paragraph_of ls)
+paragraph_either [] = inl refl
+paragraph_either (line ∷ ls) = inr tt
+
+join_either : (bs others : Blocks) → NoneOrDark bs → NoneOrDark others → NoneOrDark (join bs others)
+join_either bs others h k = ⊎_elim (λ none. subst (λ x. NoneOrDark (join x others)) (sym none) k) (λ dark. inr (dark_join bs others dark)) h
+
+table_of_begun : (definitions : Blocks) (ls : List BlockLine) (row : BlockLine) → NoneOrDark definitions → IsBegun (table_of definitions ls row)
+table_of_begun definitions ls row h =
+    let front = take (length ls - 1) ls in
+    ⊎_elim (λ none. inr (none, tt)) (λ dark. inl dark) (join_either definitions (paragraph_of front) h (paragraph_either front))
+
 longer_open : (ls : List BlockLine) (line : BlockLine) → IsOpen (Leaf (Text (ls ++ line ∷ [])))
 longer_open [] line = tt
 longer_open (l ∷ ls) line = tt
@@ -109,6 +122,7 @@ leaf_line_open line (Text ls) = longer_open ls line
 leaf_line_open line (Indented ls pending) = tt
 leaf_line_open line (Fenced fence ending ls) = tt
 leaf_line_open line (OpenHtml kind ls) = tt
+leaf_line_open line (OpenTable ls) = tt
 
 line_open : (line : BlockLine) (now : Opening) → IsOpen (with_line line now)
 line_open line (Leaf leaf) = leaf_line_open line leaf
@@ -129,6 +143,7 @@ module _ (on : Constructs) where
   holds_dark : (c : Container) (kids : Blocks) → IsDark (holds c kids)
   holds_dark Quote kids = tt
   holds_dark (Item item) kids = tt
+  holds_dark (Footnote label) kids = tt
 
   -- what is open is something where it is closed
   close_dark : (now : Opening) → IsOpen now → IsDark (close on now)
@@ -137,6 +152,7 @@ module _ (on : Constructs) where
   close_dark (Leaf (Indented ls pending)) h = tt
   close_dark (Leaf (Fenced fence ending ls)) h = tt
   close_dark (Leaf (OpenHtml kind ls)) h = tt
+  close_dark (Leaf (OpenTable ls)) h = tt
   close_dark (Inside c kids inner) h = holds_dark c (join kids (close on inner))
 
   closed_nothing : NoneOrDark (close on nothing)
@@ -149,6 +165,7 @@ module _ (on : Constructs) where
   close_either (Leaf (Indented ls pending)) = inr tt
   close_either (Leaf (Fenced fence ending ls)) = inr tt
   close_either (Leaf (OpenHtml kind ls)) = inr tt
+  close_either (Leaf (OpenTable ls)) = inr tt
   close_either (Inside c kids inner) = inr (holds_dark c (join kids (close on inner)))
 
   after_begun : (away : Opening) (t : Tree) → IsBegun t → IsBegun (after on away t)
@@ -165,6 +182,7 @@ module _ (on : Constructs) where
   takes_begun (Fenced fence opening ls) rest beside = cond_both (is_fence_end on fence rest) _ _ SomeBegun (λ _. inl tt) (λ _. inr (refl, tt))
   takes_begun (OpenHtml kind ls) rest beside =
       cond_both (ends_before_blank kind && is_blank rest) _ _ SomeBegun (λ _. tt) (λ _. html_begun kind ls rest beside)
+  takes_begun (OpenTable ls) rest beside = tt
 
   begins_begun : (paragraph : Bool) (rest : Rest) (beside : Beside) → SomeBegun (begins on paragraph rest beside)
   begins_begun paragraph rest beside =
@@ -175,12 +193,20 @@ module _ (on : Constructs) where
 
   text_begun : (away : Opening) (rest : Rest) (beside : Beside) → IsBegun (text_line_of on away rest beside)
   text_begun away rest beside =
-      cond_both (has_text away) _ _ IsBegun (λ _. inr (refl, line_open (rest_line rest beside) away))
+      cond_both (has_text away || has_table away) _ _ IsBegun (λ _. inr (refl, line_open (rest_line rest beside) away))
       (λ _. after_begun away (tree Nil (Leaf (Text (rest_line rest beside ∷ [])))) (inr (refl, tt)))
+
+  table_begun : (o : Option (List AlignKind)) (ls : List BlockLine) (row : BlockLine) → SomeBegun (table_if on o ls row)
+  table_begun None ls row = tt
+  table_begun (Some columns) ls row =
+      let parts = cut on ls in
+      cond_both (is_some_line parts.left && is_head (length columns) ls) _ _ SomeBegun
+      (λ _. table_of_begun parts.definitions parts.left row (cut_dark ls)) (λ _. tt)
 
   break_begun : (away : Opening) (rest : Rest) (beside : Beside) → IsBegun (break_or_text on away rest beside)
   break_begun away rest beside =
-      cond_both (is_break on rest) _ _ IsBegun (λ _. after_begun away (tree (ended Break beside.ending) nothing) (inl tt)) (λ _. text_begun away rest beside)
+      cond_both (is_break on rest) _ _ IsBegun (λ _. after_begun away (tree (ended Break beside.ending) nothing) (inl tt))
+      (λ _. taken_begun (makes_table on away rest beside) _ (table_begun (delimiter_row on rest) (text_here away) (rest_line rest beside)) (text_begun away rest beside))
 
   underlined_begun : (o : Option ℕ) (ls : List BlockLine) (ending : Option LineEnding) → SomeBegun (underlined on o ls ending)
   underlined_begun None ls ending = tt

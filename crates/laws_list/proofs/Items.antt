@@ -8,13 +8,13 @@ use Rattle.definition_text.specs.declared.beside.Kind.TheVariants.{Whitespace}
 use Rattle.definition_text.specs.Columns.{Rest, is_white, is_blank, indent, bare, bytes_of, codes_from}
 use Rattle.definition_text.specs.Indents.{small_indent}
 use Rattle.definition_text.specs.Lines.{TextLine, text_line, lines, first_of}
-use Rattle.definition_block.specs.declared.container.Container.{Container}
-use Rattle.definition_block.specs.declared.container.Container.TheVariants.{Item}
+use Rattle.definition_block.specs.Container.{Container, Item}
 use Rattle.definition_block.specs.Started.{Started, started}
 use Rattle.definition_block.specs.BlockQuote.{quote_prefix}
 use Rattle.definition_block.specs.ListItem.{item_after, item_start, item_continues, marker}
 use Rattle.definition_block.specs.ThematicBreak.{is_break, is_break_text}
-use Rattle.definition_block.specs.Containers.{quote_or, starts}
+use Rattle.definition_block.specs.GfmFootnoteDefinition.{footnote_start}
+use Rattle.definition_block.specs.Containers.{quote_or, footnote_or, starts}
 use Rattle.definition_block.specs.Tree.{Block, Blocks, Nil, Cons, join, Inside, Tree, tree, nothing, empty_tree, all_endings, front, trailing, holds, beside_in, beside_line, leaf_line, start, new, began_blank, goes_on, grow, step, steps, closed, children, blocks}
 use Rattle.definition_block.specs.Definitions.{definitions}
 use Rattle.laws_quote.proofs.Tabs.{Tabless, Tabless-from_All, codes_from-Tabless, LinesTabless, lines_tabless}
@@ -50,19 +50,23 @@ item_found c cs h = ap (λ white. found_by white c cs) h
 no_break : (on : Constructs) (codes : Rest) → is_break on (43 ∷ 32 ∷ codes) ≡ false
 no_break on codes = and_right (on.thematic_break && small_indent on (43 ∷ 32 ∷ codes)) (is_break_text (bytes_of (bare (43 ∷ 32 ∷ codes)))) refl
 
-either_way : (test : Bool) (o : Option Rest) → cond test o o ≡ o
+either_way : {X : Type 0} (test : Bool) (o : Option X) → cond test o o ≡ o
 either_way true o = refl
 either_way false o = refl
 
 no_quote : (on : Constructs) (codes : Rest) → quote_prefix on (43 ∷ codes) ≡ None
 no_quote on codes = either_way (on.block_quote && small_indent on (43 ∷ codes)) None
 
+no_footnote : (on : Constructs) (codes : Rest) → footnote_start on (43 ∷ codes) ≡ None
+no_footnote on codes = either_way (on.gfm_footnote_definition && small_indent on (43 ∷ codes)) None
+
 module _ (on : Constructs) (items : on.list_item ≡ true) where
   starts_item : (c : ℕ) (cs : Rest) → is_white c ≡ false → starts on false (43 ∷ 32 ∷ c ∷ cs) ≡ Some (started plus_item (c ∷ cs))
   starts_item c cs h =
       let rest = 43 ∷ 32 ∷ c ∷ cs in
       let found = item_after 0 false (marker rest) in
-      ap (λ o. quote_or (item_start on false rest) o) (no_quote on (32 ∷ c ∷ cs))
+      ap (λ o. quote_or (footnote_or (item_start on false rest) (footnote_start on rest)) o) (no_quote on (32 ∷ c ∷ cs))
+      ∙ ap (λ o. footnote_or (item_start on false rest) o) (no_footnote on (32 ∷ c ∷ cs))
       ∙ ap (λ is. cond (is && true && not (is_break on rest)) found None) items
       ∙ ap (λ breaks. cond (not breaks) found None) (no_break on (c ∷ cs))
       ∙ item_found c cs h

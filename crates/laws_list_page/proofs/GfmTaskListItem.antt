@@ -3,7 +3,7 @@ use Rattle.std.proofs.Common.{◌≡◌, Bool, false, ◌&&◌, List, refl, ap, 
 use Rattle.definition_text.specs.BlockLines.{BlockLine}
 use Rattle.definition_text.specs.InlineCode.{codes_of}
 use Rattle.definition_inline.specs.Scan.{unindented}
-use Rattle.definition_block.specs.declared.container.Container.TheVariants.{Quote, Item}
+use Rattle.definition_block.specs.Container.{Quote, Item, Footnote}
 use Rattle.definition_block.specs.Blocks as tree
 use Rattle.definition_block.specs.Tree.{is_ending}
 use Rattle.definition_page.specs.Page as page
@@ -26,9 +26,11 @@ module _ (r : Reading) (off : r.options.constructs.gfm_task_list_item ≡ false)
   same_block first (tree.IndentedCode ls) others = refl
   same_block first (tree.FencedCode info is_closed ls) others = refl
   same_block first (tree.Html ls) others = refl
+  same_block first (tree.Table ls) others = refl
   same_block first (tree.Definition label destination title) others = refl
   same_block first (tree.Holds Quote kids) others = refl
   same_block first (tree.Holds (Item item) kids) others = refl
+  same_block first (tree.Holds (Footnote label) kids) others = refl
   same_block first (tree.Items items) others = refl
   same_block first (tree.Ending ending) others = refl
   same_block first (tree.Blank ending) others = refl

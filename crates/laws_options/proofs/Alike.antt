@@ -3,13 +3,16 @@ use Rattle.std.proofs.Common.{◌≡◌, ℕ, Bool, false, not, cond, List, [], 
 use Rattle.std.specs.Prelude.{codes}
 use Rattle.std.specs.List.{flat_map}
 use Rattle.markdown_options.specs.declared.configuration.CompileOptions.{CompileOptions}
+use Rattle.markdown_options.specs.declared.line_ending.LineEnding.{LineEnding}
 use Rattle.definition_text.specs.BlockLines.{BlockLine}
 use Rattle.definition_text.specs.Columns.{bytes_of, bare}
 use Rattle.definition_text.specs.Lines.{ending_text}
 use Rattle.definition_inline.specs.Inline.{Linked, Inline, Autolink, Literal, Html, Emphasis, Strong, Strikethrough, Link, Image, Inlines, Nil, Cons}
 use Rattle.definition_page.specs.Tags.{Said, Words, EndOfLine, Attribute, attribute, tag, bare_tag}
-use Rattle.definition_page.specs.Pieces.{Void, Says, Eol, Fresh}
+use Rattle.definition_page.specs.Pieces.{Piece, Void, Says, Eol, Fresh}
 use Rattle.definition_page.specs.InlinePieces.{Meaning, link_url, image_url, url_of, title_attribute, address, literal_address, raw_html, HtmlLine, html_lines, html_line_says, later_line_says, html_lines_say, leads_to, link_tag, image_tag, part_says, description, element, part_pieces, inline_pieces}
+use Rattle.definition_block.specs.declared.align_kind.AlignKind.{AlignKind}
+use Rattle.definition_page.specs.GfmTable.{Table, TableRow, align_attributes, cell_pieces, cells_pieces, row_pieces, ending_piece, body_row_pieces, head_pieces, body_pieces, table_pieces}
 use Rattle.definition_page.specs.Page as page
 use Rattle.definition_page.specs.Page.{Page}
 use Rattle.definition_page.specs.BlockPieces.{checkable_attributes, done_attributes, check_pieces, Place, at_top, inside, html_line, says, heading_name, list_tag, last_shown, ends_plainly, fresh_unless, block_pieces, children_pieces, document_pieces}
@@ -98,6 +101,41 @@ module _ (m : Meaning) (compile : CompileOptions) (alike : Alike compile m.compi
       ap (λ said. (said ∷ Words (ending_text l.ending) ∷ []) ++ flat_map (html_line compile) ls) (alike.raw (bytes_of l.codes))
       ∙ ap (λ said. html_line m.compile l ++ said) (same_html ls)
 
+  -- ---- tables
+
+  same_cell : (name : List ℕ) (align : AlignKind) (c : Inlines) → cell_pieces other name align c ≡ cell_pieces m name align c
+  same_cell name align c = ap (λ ps. Fresh ∷ element (tag name (align_attributes align)) ps) (same_inlines c)
+
+  same_cells : (name : List ℕ) (aligns : List AlignKind) (cells : List Inlines) → cells_pieces other name aligns cells ≡ cells_pieces m name aligns cells
+  same_cells name [] cells = refl
+  same_cells name (align ∷ aligns) [] = ap (λ ps. cell_pieces m name align Nil ++ ps) (same_cells name aligns [])
+  same_cells name (align ∷ aligns) (c ∷ cs) =
+      ap (λ ps. ps ++ cells_pieces other name aligns cs) (same_cell name align c) ∙ ap (λ ps. cell_pieces m name align c ++ ps) (same_cells name aligns cs)
+
+  same_row : (name : List ℕ) (aligns : List AlignKind) (row : TableRow) → row_pieces other name aligns row ≡ row_pieces m name aligns row
+  same_row name aligns row = ap (λ ps. Fresh ∷ element (bare_tag (codes "tr")) (ps ++ Fresh ∷ [])) (same_cells name aligns row.cells)
+
+  same_rows : (aligns : List AlignKind) (rows : List TableRow) → flat_map (body_row_pieces other aligns) rows ≡ flat_map (body_row_pieces m aligns) rows
+  same_rows aligns [] = refl
+  same_rows aligns (row ∷ rows) =
+      ap (λ ps. (ps ++ ending_piece row.ending ∷ []) ++ flat_map (body_row_pieces other aligns) rows) (same_row (codes "td") aligns row)
+      ∙ ap (λ ps. body_row_pieces m aligns row ++ ps) (same_rows aligns rows)
+
+  same_body : (aligns : List AlignKind) (ending : Option LineEnding) (rows : List TableRow) → body_pieces other aligns ending rows ≡ body_pieces m aligns ending rows
+  same_body aligns ending [] = refl
+  same_body aligns ending (row ∷ rows) =
+      ap (λ ps. ending_piece ending ∷ element (bare_tag (codes "tbody")) (ps ++ Fresh ∷ [])) (same_rows aligns (row ∷ rows))
+
+  same_head : (aligns : List AlignKind) (head : TableRow) → head_pieces other aligns head ≡ head_pieces m aligns head
+  same_head aligns head =
+      ap (λ ps. element (bare_tag (codes "thead")) (ps ++ ending_piece head.ending ∷ Fresh ∷ [])) (same_row (codes "th") aligns head)
+
+  same_table : (t : Table) → table_pieces other t ≡ table_pieces m t
+  same_table t =
+      let whole : List Piece → List Piece → List Piece = λ head body. Fresh ∷ element (bare_tag (codes "table")) (Fresh ∷ head ++ body ++ Fresh ∷ []) in
+      ap (λ head. whole head (body_pieces other t.aligns t.ending t.rows)) (same_head t.aligns t.head)
+      ∙ ap (whole (head_pieces m t.aligns t.head)) (same_body t.aligns t.ending t.rows)
+
   same_check : (check : Option Bool) → check_pieces compile check ≡ check_pieces m.compile check
   same_check None = refl
   same_check (Some done) =
@@ -115,6 +153,7 @@ module _ (m : Meaning) (compile : CompileOptions) (alike : Alike compile m.compi
     same_block place before (page.Paragraph check is) = same_paragraph place before check is
     same_block place before (page.Heading rank is) = ap (λ ps. Fresh ∷ element (bare_tag (heading_name rank)) ps) (same_inlines is)
     same_block place before (page.Html ls) = ap (λ said. Fresh ∷ says said) (same_html ls)
+    same_block place before (page.Table t) = same_table t
     same_block place before (page.Quote kids) =
         ap (λ ps. Fresh ∷ element (bare_tag (codes "blockquote")) (ps ++ Fresh ∷ [])) (same_children (inside false) None kids)
     same_block place before (page.ItemList number loose items) =

@@ -7,7 +7,7 @@ use Rattle.definition_text.specs.InlineCode.{InlineCode, codes_of}
 use Rattle.definition_text.specs.Lines.{without_mark, kind_before_text}
 use Rattle.definition_inline.specs.GfmTaskListItem.{check_of, check_at}
 use Rattle.definition_inline.specs.Scan.{unindented}
-use Rattle.definition_block.specs.declared.container.Container.TheVariants.{Quote, Item}
+use Rattle.definition_block.specs.Container.{Quote, Item, Footnote}
 use Rattle.definition_block.specs.Tree as tree
 use Rattle.definition_block.specs.Tree.{blocks}
 use Rattle.definition_block.specs.Lists.{grouped}
@@ -52,9 +52,11 @@ module _ (r : Reading) (off : r.options.constructs.gfm_task_list_item ≡ false)
     unchecked_block s (tree.IndentedCode ls) others p = (tt, p)
     unchecked_block s (tree.FencedCode info is_closed ls) others p = (tt, unchecked_after_code s.top is_closed others p)
     unchecked_block s (tree.Html ls) others p = (tt, p)
+    unchecked_block s (tree.Table ls) others p = (tt, p)
     unchecked_block s (tree.Definition label destination title) others p = (tt, p)
     unchecked_block s (tree.Holds Quote kids) others p = (unchecked_blocks in_container kids, p)
     unchecked_block s (tree.Holds (Item item) kids) others p = (unchecked_blocks in_item kids, p)
+    unchecked_block s (tree.Holds (Footnote label) kids) others p = (unchecked_blocks in_container kids, p)
     unchecked_block s (tree.Items items) others p = (unchecked_blocks in_container items, p)
     unchecked_block s (tree.Ending ending) others p = unchecked_ending ending others p
     unchecked_block s (tree.Blank ending) others p = unchecked_blank ending others p

@@ -2,7 +2,7 @@
 use Rattle.std.specs.Prelude.{◌≡◌, ℕ, Bool, false, List, Option, None, Some}
 use Rattle.markdown_options.specs.declared.configuration.ParseOptions.{ParseOptions}
 use Rattle.definition_page.specs.TextTables.{TextTables}
-use Rattle.definition_page.specs.Page.{Block, Paragraph, Quote, ItemList, Item, Blocks, Nil, Cons}
+use Rattle.definition_page.specs.Page.{Block, Paragraph, Quote, ItemList, Item, Footnote, Blocks, Nil, Cons}
 use Rattle.definition_page.specs.Read.{read}
 
 abbrev pub IsUnchecked : Option Bool → Type 0
@@ -16,6 +16,7 @@ abbrev mutual
   HasNoCheck (Quote kids) = HaveNoChecks kids
   HasNoCheck (ItemList number loose items) = HaveNoChecks items
   HasNoCheck (Item kids) = HaveNoChecks kids
+  HasNoCheck (Footnote label kids) = HaveNoChecks kids
   HasNoCheck b = Unit {0}
 
   pub HaveNoChecks : Blocks → Type 0

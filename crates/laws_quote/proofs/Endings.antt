@@ -1,7 +1,7 @@
 -- The ending at the end of blocks.
 use Rattle.std.proofs.Common.{◌≡◌, ◌++◌, Bool, true, false, if◌then◌else◌, refl, sym, ap, ◌∙◌, append_assoc}
 use Rattle.std.proofs.lemmas.Bool.{cond-true, cond_both}
-use Rattle.definition_block.specs.declared.container.Container.TheVariants.{Quote}
+use Rattle.definition_block.specs.Container.{Quote}
 use Rattle.definition_block.specs.Tree.{Block, Holds, Blocks, Nil, Cons, join, one, is_ending, without_last, last_of, holds}
 use Rattle.definition_block.specs.Definitions.{block_definitions, definitions}
 use Rattle.laws_quote.specs.Laws.{quote_of}

@@ -12,7 +12,9 @@ use Rattle.definition_block.specs.Started.{Started}
 use Rattle.definition_block.specs.ThematicBreak.{is_break}
 use Rattle.definition_block.specs.BlockQuote.{after_byte, after_mark, quote_prefix}
 use Rattle.definition_block.specs.ListItem.{Marker, marker_of, is_digit, number_of, bullet, delimiter, ordered, marker, gap, is_item, item, item_after, item_start}
-use Rattle.definition_block.specs.Containers.{quote_or, starts}
+use Rattle.definition_block.specs.GfmFootnoteDefinition.{footnote_start}
+use Rattle.definition_block.specs.Containers.{quote_or, footnote_or, starts}
+use Rattle.definition_block.proofs.GfmFootnoteDefinition.{FineAfter, footnote_fine, footnote_either}
 use Rattle.definition_block.specs.Tree.{beside_in, Nil, Inside, Tree, tree, nothing, after, leaf_line, start, new}
 
 -- ---- what starts a container makes the rest shorter
@@ -84,9 +86,22 @@ either_below : (n : ℕ) (other : Option Started) (o : Option Rest) → StartedB
 either_below n other None h k = h
 either_below n other (Some rest) h k = k
 
+below_dropped : (n k : ℕ) (rest : Rest) → length rest < n → length (drop k rest) < n
+below_dropped n k rest h = omega (arith, h, length-drop k rest)
+
+below_after : (n : ℕ) (rest : Rest) → length rest ≤ n → FineAfter (λ r. length r < n) (below_dropped n) rest
+below_after n [] le = tt
+below_after n (c ∷ cs) le = omega (arith, le)
+
 starts_below : (on : Constructs) (interrupts : Bool) (rest : Rest) → StartedBelow (length rest) (starts on interrupts rest)
 starts_below on interrupts rest =
-    either_below (length rest) (item_start on interrupts rest) (quote_prefix on rest) (item_below on interrupts rest) (quote_below on rest)
+    let n = length rest in
+    let item = item_start on interrupts rest in
+    let footnote = footnote_start on rest in
+    either_below n (footnote_or item footnote) (quote_prefix on rest)
+    (footnote_either (StartedBelow n) item footnote (item_below on interrupts rest)
+    (footnote_fine (λ r. length r < n) (below_dropped n) on rest (below_after n (bare rest) (omega (arith, length-drop (indent rest) rest)))))
+    (quote_below on rest)
 
 -- ---- as many as the rest has codes are enough
 

@@ -5,7 +5,7 @@ use Rattle.std.specs.Fn.{iterate}
 use Rattle.markdown_options.specs.declared.configuration.Constructs.{Constructs}
 use Rattle.definition_text.specs.declared.beside.Kind.{Kind}
 use Rattle.definition_text.specs.declared.beside.Kind.TheVariants.{Whitespace}
-use Rattle.definition_block.specs.declared.container.Container.TheVariants.{Quote}
+use Rattle.definition_block.specs.Container.{Quote}
 use Rattle.definition_text.specs.Lines.{TextLine, text_line, lines}
 use Rattle.definition_block.specs.Tree.{Blocks, Holds, join, one, without_last, last_of, blocks}
 use Rattle.definition_block.specs.Definitions.{definitions}

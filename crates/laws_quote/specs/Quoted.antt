@@ -1,4 +1,4 @@
--- A text with `> ` before every line.
+-- A text with two bytes before every line, as `> `.
 use Rattle.std.specs.Prelude.{ℕ, Bool, false, not, if◌then◌else◌, ◌==◌, ◌&&◌, ◌||◌, List, [], ◌∷◌}
 
 -- whether an LF comes next
@@ -10,16 +10,24 @@ begins_with_feed (b ∷ bs) = b == 10
 abbrev pub is_last_of_ending : ℕ → List ℕ → Bool
 is_last_of_ending b bs = (b == 10) || ((b == 13) && not (begins_with_feed bs))
 
+-- two bytes before these, if there are any
+abbrev pub pair_before : ℕ → ℕ → List ℕ → List ℕ
+pair_before x y [] = []
+pair_before x y (b ∷ bs) = x ∷ y ∷ b ∷ bs
+
+-- two bytes after each ending that more bytes follow
+abbrev pub pair_after_endings : ℕ → ℕ → List ℕ → List ℕ
+pair_after_endings x y [] = []
+pair_after_endings x y (b ∷ bs) =
+    b ∷ (if is_last_of_ending b bs then pair_before x y (pair_after_endings x y bs) else pair_after_endings x y bs)
+
 -- `> ` before these bytes, if there are any
 abbrev pub marked : List ℕ → List ℕ
-marked [] = []
-marked (b ∷ bs) = 62 ∷ 32 ∷ b ∷ bs
+marked bs = pair_before 62 32 bs
 
 -- `> ` after each ending that more bytes follow
 abbrev pub marked_after_endings : List ℕ → List ℕ
-marked_after_endings [] = []
-marked_after_endings (b ∷ bs) =
-    b ∷ (if is_last_of_ending b bs then marked (marked_after_endings bs) else marked_after_endings bs)
+marked_after_endings bs = pair_after_endings 62 32 bs
 
 -- `> ` before every line
 abbrev pub quoted : List ℕ → List ℕ

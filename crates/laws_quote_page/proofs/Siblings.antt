@@ -8,13 +8,13 @@ use Rattle.markdown_options.specs.declared.line_ending.LineEnding.{LineEnding}
 use Rattle.markdown_options.specs.LineEndings.{ending_bytes}
 use Rattle.definition_text.specs.BlockLines.{BlockLine, own_lines}
 use Rattle.definition_text.specs.Columns.{code_byte}
-use Rattle.definition_block.specs.declared.container.Container.TheVariants.{Quote, Item}
+use Rattle.definition_block.specs.Container.{Quote, Item, Footnote}
 use Rattle.definition_block.specs.Tree as tree
 use Rattle.definition_page.specs.Tags.{Words, said_bytes, end_tag, tag, bare_tag}
 use Rattle.definition_page.specs.Pieces.{Piece, Open, Close, Says, Eol, Fresh}
 use Rattle.definition_page.specs.InlinePieces.{Meaning, element}
 use Rattle.definition_page.specs.Page as page
-use Rattle.definition_page.specs.Read.{Reading, Standing, on_page, in_container, in_item, read_text, info_text, without_ending, list_number, read_block, read_blocks}
+use Rattle.definition_page.specs.Read.{Reading, Standing, on_page, in_container, in_item, read_text, read_table, info_text, without_ending, list_number, read_block, read_blocks}
 use Rattle.definition_block.specs.Lists.{is_loose}
 use Rattle.definition_page.specs.BlockPieces.{Place, at_top, inside, code_line, says, info_attributes, is_silent, fenced_pieces, block_pieces, children_pieces}
 use Rattle.laws_quote_page.specs.Squeeze.{Squeezed, with_bytes}
@@ -29,6 +29,7 @@ ending_alike : (m : Meaning) (before : Option page.Block) (ending : LineEnding)
 ending_alike m None ending = refl
 ending_alike m (Some (page.Paragraph check is)) ending = refl
 ending_alike m (Some page.Definition) ending = refl
+ending_alike m (Some (page.Footnote label kids)) ending = refl
 ending_alike m (Some b) ending = refl
 
 -- so does fenced code that is closed
@@ -69,9 +70,11 @@ read_both m r (tree.FencedCode info true ls) =
     Alike (page.FencedCode (info_text r info) true ls) (closed_read r info ls) (λ before. fenced_alike m before (info_text r info) ls)
 read_both m r (tree.FencedCode info false ls) = Unclosed (info_text r info) ls (λ others. refl) (λ others. refl)
 read_both m r (tree.Html ls) = Alike (page.Html ls) (λ top others. refl) (λ before. refl)
+read_both m r (tree.Table ls) = Alike (page.Table (read_table r ls)) (λ top others. refl) (λ before. refl)
 read_both m r (tree.Definition label destination title) = Alike page.Definition (λ top others. refl) (λ before. refl)
 read_both m r (tree.Holds Quote kids) = Alike (page.Quote (read_blocks r in_container kids)) (λ top others. refl) (λ before. refl)
 read_both m r (tree.Holds (Item item) kids) = Alike (page.Item (read_blocks r in_item kids)) (λ top others. refl) (λ before. refl)
+read_both m r (tree.Holds (Footnote label) kids) = Alike (page.Footnote label (read_blocks r in_container kids)) (λ top others. refl) (λ before. refl)
 read_both m r (tree.Items items) =
     Alike (page.ItemList (list_number items) (is_loose items) (read_blocks r in_container items)) (λ top others. refl) (λ before. refl)
 read_both m r (tree.Ending None) = Nothing (λ top others. refl)

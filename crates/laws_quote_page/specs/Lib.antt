@@ -1,2 +1,3 @@
 pub mod Squeeze
 pub mod Laws
+pub mod Refused

@@ -1,5 +1,6 @@
 //! The law of the page of a text with `> ` before every line.
 ghost use Rattle.laws_quote_page.specs.Laws.{QuotePageLaw, QuotePagesLaw, SqueezeRows};
+ghost use Rattle.laws_quote_page.specs.Refused.{RefusedRows};
 
 /// Where block quotes are on, and frontmatter and footnotes off, a text that has a byte, no tab and no byte order mark,
 /// with `> ` before every line, prints a block quote around what it prints alone: the two pages are the same
@@ -19,4 +20,10 @@ pub fn quote_pages_law()
 #[tactic(auto, using(crate::proofs::Rows::squeeze_rows))]
 pub fn squeeze_rows()
     ensures { SqueezeRows }
+{}
+
+/// Pages of quoted texts that the law refuses by itself.
+#[tactic(auto, using(crate::proofs::Rows::refused_rows))]
+pub fn refused_rows()
+    ensures { RefusedRows }
 {}

@@ -7,9 +7,14 @@ use Rattle.markdown_options.specs.declared.line_ending.LineEnding.TheVariants.{C
 use Rattle.markdown_options.specs.LineEndings.{ending_bytes}
 use Rattle.definition_text.specs.BlockLines.{BlockLine}
 use Rattle.definition_text.specs.Columns.{bytes_of}
+use Rattle.definition_text.specs.Lines.{ending_text}
+use Rattle.definition_inline.specs.Inline.{Inlines, Nil}
+use Rattle.definition_block.specs.declared.align_kind.AlignKind.{AlignKind}
+use Rattle.definition_block.specs.declared.align_kind.AlignKind.TheVariants as kind
+use Rattle.definition_page.specs.GfmTable.{TableRow, Table as TableOf, align_attributes, cell_pieces, cells_pieces, row_pieces, ending_piece, body_row_pieces, head_pieces, body_pieces, table_pieces}
 use Rattle.definition_page.specs.Tags.{Words, Number, Tag, tag, bare_tag, attribute}
 use Rattle.definition_page.specs.Pieces.{Piece, Void, Says, Eol, Fresh, layout}
-use Rattle.definition_page.specs.Page.{Page, Block, Paragraph, Heading, Break, IndentedCode, FencedCode, Html, Definition, Quote, ItemList, Item, Ending, Blank, Blocks, Nil, Cons}
+use Rattle.definition_page.specs.Page.{Page, Block, Paragraph, Heading, Break, IndentedCode, FencedCode, Html, Table, Definition, Quote, ItemList, Item, Footnote, Ending, Blank, Blocks, Nil as NoBlocks, Cons}
 use Rattle.definition_page.specs.InlinePieces.{Meaning, element, inline_pieces}
 use Rattle.definition_page.specs.BlockPieces.{checkable_attributes, done_attributes, check_tag, check_pieces, Place, at_top, inside, code_line, html_line, says, heading_name, info_attributes, list_tag, is_silent, last_shown, ends_plainly, fresh_unless, fenced_pieces, block_pieces, children_pieces, document_pieces}
 use Rattle.html_safe_page.specs.Table.{start_rows, void_rows}
@@ -17,7 +22,7 @@ use Rattle.html_safe_page.specs.SafePage.{IsSafePage}
 use Rattle.html_safe_page.proofs.Closing.{closed}
 use Rattle.laws_safe_page.specs.SafeHtml.{AreSafe}
 use Rattle.laws_safe_page.proofs.Values.{IsTextPart, value_spelled}
-use Rattle.laws_safe_page.proofs.Each.{each_flat_map}
+use Rattle.laws_safe_page.proofs.Each.{Each, each_flat_map}
 use Rattle.laws_safe_page.proofs.Tags.{IsTag}
 use Rattle.laws_safe_page.proofs.Pieces.{Adds, adds_nothing, adds_append, adds_says, adds_void, adds_element, adds_parts, adds_eol, adds_fresh, page_of_pieces}
 use Rattle.laws_safe_page.proofs.Links.{words_text}
@@ -29,18 +34,27 @@ use Rattle.laws_safe_page.proofs.InlineAdds.{AllEndLines, html_is_text, inline_a
 abbrev pub is_rank : ℕ → Bool
 is_rank rank = (eqb rank 1 || eqb rank 2 || eqb rank 3) || (eqb rank 4 || eqb rank 5 || eqb rank 6)
 
+-- cells of tables
+abbrev pub CellsEndLines : List Inlines → Type 0
+CellsEndLines cells = Each AllEndLines cells
+
+abbrev pub RowsEndLines : List TableRow → Type 0
+RowsEndLines rows = Each (λ (row : TableRow). CellsEndLines row.cells) rows
+
 -- headings have such ranks, and the codes of line endings are those, at any depth
 abbrev mutual
   pub IsReadable : Block → Type 0
   IsReadable (Paragraph check is) = AllEndLines is
   IsReadable (Heading rank is) = (is_rank rank ≡ true) × AllEndLines is
+  IsReadable (Table t) = CellsEndLines t.head.cells × RowsEndLines t.rows
   IsReadable (Quote kids) = AreReadable kids
   IsReadable (ItemList number loose items) = AreReadable items
   IsReadable (Item kids) = AreReadable kids
+  IsReadable (Footnote label kids) = AreReadable kids
   IsReadable b = Unit {0}
 
   pub AreReadable : Blocks → Type 0
-  AreReadable Nil = Unit {0}
+  AreReadable NoBlocks = Unit {0}
   AreReadable (Cons b bs) = IsReadable b × AreReadable bs
 
 -- ---- tags
@@ -81,6 +95,38 @@ check_is_tag true false = ((words_text (codes "checkbox"), tt), refl)
 check_is_tag false true = ((words_text (codes "checkbox"), (words_text [], (words_text [], tt))), refl)
 check_is_tag false false = ((words_text (codes "checkbox"), (words_text [], tt)), refl)
 
+-- the parts of a table
+table_is_tag : IsTag start_rows (bare_tag (codes "table"))
+unfolding start_rows
+table_is_tag = (tt, refl)
+
+head_is_tag : IsTag start_rows (bare_tag (codes "thead"))
+unfolding start_rows
+head_is_tag = (tt, refl)
+
+body_is_tag : IsTag start_rows (bare_tag (codes "tbody"))
+unfolding start_rows
+body_is_tag = (tt, refl)
+
+row_is_tag : IsTag start_rows (bare_tag (codes "tr"))
+unfolding start_rows
+row_is_tag = (tt, refl)
+
+-- a cell, aligned or not
+head_cell_is_tag : (align : AlignKind) → IsTag start_rows (tag (codes "th") (align_attributes align))
+unfolding start_rows
+head_cell_is_tag kind.Left = ((words_text (codes "left"), tt), refl)
+head_cell_is_tag kind.Right = ((words_text (codes "right"), tt), refl)
+head_cell_is_tag kind.Center = ((words_text (codes "center"), tt), refl)
+head_cell_is_tag kind.None = (tt, refl)
+
+body_cell_is_tag : (align : AlignKind) → IsTag start_rows (tag (codes "td") (align_attributes align))
+unfolding start_rows
+body_cell_is_tag kind.Left = ((words_text (codes "left"), tt), refl)
+body_cell_is_tag kind.Right = ((words_text (codes "right"), tt), refl)
+body_cell_is_tag kind.Center = ((words_text (codes "center"), tt), refl)
+body_cell_is_tag kind.None = (tt, refl)
+
 pub ending_is_safe : (ending : LineEnding) → IsSafePage (ending_bytes ending)
 ending_is_safe CarriageReturnLineFeed = closed.both
 ending_is_safe CarriageReturn = closed.carriage_return
@@ -116,6 +162,58 @@ module _ (default : List ℕ) (ending : IsSafePage default) (m : Meaning) (safe 
   check_adds None = adds_nothing default
   check_adds (Some done) = adds_void default (check_tag m.compile done) (check_is_tag m.compile.gfm_task_list_item_checkable done)
 
+  -- the cells of a row
+  module _ (name : List ℕ) (is_tag : (align : AlignKind) → IsTag start_rows (tag name (align_attributes align))) where
+    cell_adds : (align : AlignKind) (c : Inlines) → AllEndLines c → Adds default (cell_pieces m name align c)
+    cell_adds align c h = block_element (tag name (align_attributes align)) (inline_pieces m c) (is_tag align) (inline_adds default m safe c h)
+
+    cells_add : (aligns : List AlignKind) (cells : List Inlines) → CellsEndLines cells → Adds default (cells_pieces m name aligns cells)
+    cells_add [] cells h = adds_nothing default
+    cells_add (align ∷ aligns) [] h =
+        adds_append default (cell_pieces m name align Nil) (cells_pieces m name aligns []) (cell_adds align Nil tt) (cells_add aligns [] tt)
+    cells_add (align ∷ aligns) (c ∷ cs) h =
+        adds_append default (cell_pieces m name align c) (cells_pieces m name aligns cs) (cell_adds align c h.0) (cells_add aligns cs h.1)
+
+    row_adds : (aligns : List AlignKind) (row : TableRow) → CellsEndLines row.cells → Adds default (row_pieces m name aligns row)
+    row_adds aligns row h =
+        let cells = cells_pieces m name aligns row.cells in
+        block_element (bare_tag (codes "tr")) (cells ++ Fresh ∷ []) row_is_tag (and_fresh cells (cells_add aligns row.cells h))
+
+  ending_adds : (ending : Option LineEnding) → Adds default (ending_piece ending ∷ [])
+  ending_adds ending = adds_says default (Words (ending_text ending)) tt
+
+  -- tables
+  body_rows_add : (aligns : List AlignKind) (rows : List TableRow) → RowsEndLines rows → Adds default (flat_map (body_row_pieces m aligns) rows)
+  body_rows_add aligns [] h = adds_nothing default
+  body_rows_add aligns (row ∷ rows) h =
+      adds_append default (body_row_pieces m aligns row) (flat_map (body_row_pieces m aligns) rows)
+      (adds_append default (row_pieces m (codes "td") aligns row) (ending_piece row.ending ∷ []) (row_adds (codes "td") body_cell_is_tag aligns row h.0)
+      (ending_adds row.ending))
+      (body_rows_add aligns rows h.1)
+
+  body_adds : (aligns : List AlignKind) (ending : Option LineEnding) (rows : List TableRow) → RowsEndLines rows → Adds default (body_pieces m aligns ending rows)
+  body_adds aligns ending [] h = adds_nothing default
+  body_adds aligns ending (row ∷ rows) h =
+      let all = flat_map (body_row_pieces m aligns) (row ∷ rows) ++ Fresh ∷ [] in
+      adds_append default (ending_piece ending ∷ []) (element (bare_tag (codes "tbody")) all) (ending_adds ending)
+      (adds_element default (bare_tag (codes "tbody")) all body_is_tag (and_fresh (flat_map (body_row_pieces m aligns) (row ∷ rows)) (body_rows_add aligns (row ∷ rows) h)))
+
+  head_adds : (aligns : List AlignKind) (head : TableRow) → CellsEndLines head.cells → Adds default (head_pieces m aligns head)
+  head_adds aligns head h =
+      let row = row_pieces m (codes "th") aligns head in
+      let end = ending_piece head.ending ∷ Fresh ∷ [] in
+      adds_element default (bare_tag (codes "thead")) (row ++ end) head_is_tag
+      (adds_append default row end (row_adds (codes "th") head_cell_is_tag aligns head h)
+      (adds_append default (ending_piece head.ending ∷ []) (Fresh ∷ []) (ending_adds head.ending) (adds_fresh default ending)))
+
+  table_adds : (t : TableOf) → CellsEndLines t.head.cells → RowsEndLines t.rows → Adds default (table_pieces m t)
+  table_adds t h k =
+      let head = head_pieces m t.aligns t.head in
+      let body = body_pieces m t.aligns t.ending t.rows in
+      block_element (bare_tag (codes "table")) (Fresh ∷ head ++ body ++ Fresh ∷ []) table_is_tag
+      (fresh_line (head ++ body ++ Fresh ∷ [])
+      (and_fresh (head ++ body) (adds_append default head body (head_adds t.aligns t.head h) (body_adds t.aligns t.ending t.rows k))))
+
   mutual
     unfolding start_rows void_rows
 
@@ -142,6 +240,7 @@ module _ (default : List ℕ) (ending : IsSafePage default) (m : Meaning) (safe 
         fresh_line (says (flat_map (html_line m.compile) ls))
         (adds_parts default (flat_map (html_line m.compile) ls)
         (each_flat_map IsTextPart (html_line m.compile) ls (λ line. (html_is_text m.compile safe (bytes_of line.codes), (tt, tt)))))
+    block_adds place before (Table t) h = table_adds t h.0 h.1
     block_adds place before Definition h = adds_nothing default
     block_adds place before (Quote kids) h =
         let lines = children_pieces m (inside false) None kids in
@@ -155,13 +254,14 @@ module _ (default : List ℕ) (ending : IsSafePage default) (m : Meaning) (safe 
         let plainly = ends_plainly place.tight (last_shown None kids) in
         block_element (bare_tag (codes "li")) (lines ++ fresh_unless plainly) (tt, refl)
         (adds_append default lines (fresh_unless plainly) (children_add (inside place.tight) None kids h) (adds_fresh_unless plainly))
+    block_adds place before (Footnote label kids) h = adds_nothing default
     block_adds place before (Ending ending) h =
         cond_both (is_silent place before) [] (Says (Words (ending_bytes ending)) ∷ []) (Adds default) (λ _. adds_nothing default)
         (λ _. adds_says default (Words (ending_bytes ending)) tt)
     block_adds place before (Blank ending) h = adds_nothing default
 
     children_add : (place : Place) (before : Option Block) (bs : Blocks) → AreReadable bs → Adds default (children_pieces m place before bs)
-    children_add place before Nil h = adds_nothing default
+    children_add place before NoBlocks h = adds_nothing default
     children_add place before (Cons b bs) h =
         adds_append default (block_pieces m place before b) (children_pieces m place (Some b) bs) (block_adds place before b h.0)
         (children_add place (Some b) bs h.1)

@@ -1,5 +1,5 @@
 -- In the blocks of every text each heading has a rank from 1 to 6.
-use Rattle.std.proofs.Common.{◌≡◌, ℕ, suc, zero, Bool, true, false, ◌&&◌, not, leb, List, [], ◌∷◌, Option, None, Some, length, drop, refl, arith}
+use Rattle.std.proofs.Common.{◌≡◌, ℕ, suc, zero, Bool, true, false, ◌&&◌, ◌||◌, ◌-◌, not, leb, List, [], ◌∷◌, ◌++◌, Option, None, Some, length, take, drop, refl, arith}
 use Rattle.std.proofs.lemmas.Bool.{cond_both, and_parts}
 use Rattle.std.proofs.lemmas.Bool.Decides.{nat_tests}
 use Rattle.markdown_options.specs.declared.line_ending.LineEnding.{LineEnding}
@@ -14,8 +14,7 @@ use Rattle.definition_text.specs.Indents.{small_indent}
 use Rattle.definition_text.specs.Lines.{TextLine, lines}
 use Rattle.definition_text.specs.Runs.{run, after_run, is_run}
 use Rattle.definition_inline.specs.Definition.{Definition as LinkDefinition, definition_at}
-use Rattle.definition_block.specs.declared.container.Container.{Container}
-use Rattle.definition_block.specs.declared.container.Container.TheVariants.{Quote, Item}
+use Rattle.definition_block.specs.Container.{Container, Quote, Item, Footnote}
 use Rattle.definition_block.specs.Started.{Started}
 use Rattle.definition_block.specs.Containers.{continues, starts}
 use Rattle.definition_block.specs.CodeIndented.{starts_code_indented}
@@ -26,8 +25,10 @@ use Rattle.definition_block.specs.HtmlFlow.{html_start, html_ends_here, ends_bef
 use Rattle.definition_block.specs.HeadingAtx.{Atx, begins_apart, atx_of, heading_atx}
 use Rattle.definition_block.specs.HeadingSetext.{underline, underline_of}
 use Rattle.definition_block.specs.ThematicBreak.{is_break}
+use Rattle.definition_block.specs.declared.align_kind.AlignKind.{AlignKind}
+use Rattle.definition_block.specs.GfmTable.{delimiter_row, is_head}
 use Rattle.definition_block.specs.Definitions.{lines_before, Cut, cut_into, cut_after, cut_most, cut}
-use Rattle.definition_block.specs.Tree.{Block, Heading, Break, Holds, Items, Blank, Blocks, Nil, Cons, join, one, ended, Text, Indented, Fenced, OpenHtml, OpenLeaf, Leaf, Inside, Opening, Tree as BlockTree, tree, nothing, empty_tree, blanks, paragraph_of, close_leaf, is_ending, all_endings, front, trailing, without_last, last_of, holds, close, has_text, with_line, rest_line, html_with, takes, or_heading, or_fence, or_html, begins, after, break_or_text, text_line_of, text_here, heading_of, underlined, turns, begun, taken, leaf_line, beside_in, start, new, began_blank, goes_on, grow, beside_line, step, steps, children, children_after, blocks}
+use Rattle.definition_block.specs.Tree.{Block, Heading, Break, Holds, Items, Blank, Blocks, Nil, Cons, join, one, ended, Text, Indented, Fenced, OpenHtml, OpenTable, OpenLeaf, Leaf, Inside, Opening, Tree as BlockTree, tree, nothing, empty_tree, blanks, paragraph_of, close_leaf, is_ending, all_endings, front, trailing, without_last, last_of, holds, close, has_text, has_table, is_some_line, table_of, table_if, makes_table, with_line, rest_line, html_with, takes, or_heading, or_fence, or_html, begins, after, break_or_text, text_line_of, text_here, heading_of, underlined, turns, begun, taken, leaf_line, beside_in, start, new, began_blank, goes_on, grow, beside_line, step, steps, children, children_after, blocks}
 use Rattle.laws_safe_page.proofs.Each.{WhereSome}
 use Rattle.laws_safe_page.proofs.BlockAdds.{is_rank}
 
@@ -110,6 +111,7 @@ ranked_last (Cons b (Cons c bs)) p = ranked_last (Cons c bs) p.1
 ranked_holds : (c : Container) (kids : Blocks) → AreRanked kids → AreRanked (holds c kids)
 ranked_holds Quote kids p = (ranked_without_last kids p, ranked_last kids p)
 ranked_holds (Item item) kids p = (ranked_front kids p, ranked_trailing kids p)
+ranked_holds (Footnote label) kids p = (ranked_front kids p, ranked_trailing kids p)
 
 ranked_blanks : (ls : List BlockLine) → AreRanked (blanks ls)
 ranked_blanks [] = tt
@@ -167,6 +169,7 @@ module _ (on : Constructs) where
   ranked_leaf (Indented ls pending) = (tt, (tt, ranked_blanks pending))
   ranked_leaf (Fenced fence ending ls) = (tt, (tt, tt))
   ranked_leaf (OpenHtml kind ls) = (tt, (tt, tt))
+  ranked_leaf (OpenTable ls) = (tt, (tt, tt))
 
   ranked_close : (now : Opening) → OpeningIsRanked now → AreRanked (close on now)
   ranked_close (Leaf leaf) p = ranked_leaf leaf
@@ -182,6 +185,7 @@ module _ (on : Constructs) where
       cond_both (is_fence_end on fence rest) _ _ SomeIsRanked (λ _. ((tt, (tt, tt)), tt)) (λ _. (tt, tt))
   ranked_takes (OpenHtml kind ls) rest beside =
       cond_both (ends_before_blank kind && is_blank rest) _ _ SomeIsRanked (λ _. tt) (λ _. html_is_ranked kind ls rest beside)
+  ranked_takes (OpenTable ls) rest beside = tt
 
   ranked_begins : (paragraph : Bool) (rest : Rest) (beside : Beside) → SomeIsRanked (begins on paragraph rest beside)
   ranked_begins paragraph rest beside =
@@ -195,13 +199,24 @@ module _ (on : Constructs) where
 
   ranked_text : (away : Opening) (rest : Rest) (beside : Beside) → OpeningIsRanked away → TreeIsRanked (text_line_of on away rest beside)
   ranked_text away rest beside p =
-      cond_both (has_text away) _ _ TreeIsRanked (λ _. (tt, ranked_with_line (rest_line rest beside) away p))
+      cond_both (has_text away || has_table away) _ _ TreeIsRanked (λ _. (tt, ranked_with_line (rest_line rest beside) away p))
       (λ _. ranked_after away (tree Nil (Leaf (Text (rest_line rest beside ∷ [])))) p (tt, tt))
+
+  ranked_table_of : (definitions : Blocks) (ls : List BlockLine) (row : BlockLine) → AreRanked definitions → TreeIsRanked (table_of definitions ls row)
+  ranked_table_of definitions ls row p =
+      let front = take (length ls - 1) ls in (ranked_join definitions (paragraph_of front) p (ranked_paragraph front), tt)
+
+  ranked_table : (o : Option (List AlignKind)) (ls : List BlockLine) (row : BlockLine) → SomeIsRanked (table_if on o ls row)
+  ranked_table None ls row = tt
+  ranked_table (Some columns) ls row =
+      let parts = cut on ls in
+      cond_both (is_some_line parts.left && is_head (length columns) ls) _ _ SomeIsRanked
+      (λ _. ranked_table_of parts.definitions parts.left row (ranked_cut ls)) (λ _. tt)
 
   ranked_break : (away : Opening) (rest : Rest) (beside : Beside) → OpeningIsRanked away → TreeIsRanked (break_or_text on away rest beside)
   ranked_break away rest beside p =
       cond_both (is_break on rest) _ _ TreeIsRanked (λ _. ranked_after away (tree (ended Break beside.ending) nothing) p ((tt, (tt, tt)), tt))
-      (λ _. ranked_text away rest beside p)
+      (λ _. ranked_taken (makes_table on away rest beside) _ (ranked_table (delimiter_row on rest) (text_here away) (rest_line rest beside)) (ranked_text away rest beside p))
 
   ranked_underlined : (o : Option ℕ) (ls : List BlockLine) (ending : Option LineEnding) → IsUnderline o → SomeIsRanked (underlined on o ls ending)
   ranked_underlined None ls ending h = tt

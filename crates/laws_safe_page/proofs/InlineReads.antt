@@ -1,10 +1,10 @@
 -- In the inline structure of every content the codes of line endings are those of endings.
 use Rattle.std.proofs.Common.{ℕ, suc, zero, Bool, true, false, cond, ◌&&◌, ◌==◌, List, [], ◌∷◌, ◌++◌, map, Option, None, Some, length, take, drop, ◌+◌, ◌-◌}
 use Rattle.std.specs.Prelude.{replicate, reverse}
-use Rattle.std.specs.List.{fold, prefix_len, filter}
+use Rattle.std.specs.List.{fold, filter}
 use Rattle.std.proofs.lemmas.Bool.{cond_both}
 use Rattle.markdown_options.specs.declared.configuration.Constructs.{Constructs}
-use Rattle.definition_text.specs.Columns.{is_white, indent}
+use Rattle.definition_text.specs.Columns.{indent}
 use Rattle.definition_text.specs.Content.{Part, before, up_to, is_eol}
 use Rattle.definition_text.specs.Runs.{run, after_run}
 use Rattle.definition_text.specs.InlineCode.{InlineCode, codes_of}
@@ -20,7 +20,9 @@ use Rattle.definition_inline.specs.LabelEnd.{Ended}
 use Rattle.definition_inline.specs.Attention.{Run, run_at}
 use Rattle.definition_inline.specs.Pairing.{Pair, pairs}
 use Rattle.definition_inline.specs.Spans.{Token, Item, Delimiters, runs_of, Span, IsEmphasis, IsStrong, IsStrikethrough, span_of, SpanRow, Holds, Opens, Closes, bytes_taken, run_rows, rows_from, OpenSpan, Nest, nest, spanned, leave, nest_row, emphasized}
-use Rattle.definition_inline.specs.Scan.{InlineContext, leaf_at, LabelStart, LinkStart, ImageStart, label_start_at, start_bytes, start_tokens, label_part, Text, text, OpenLabel, Reading, reading, read_tokens, unformed, formed, Step, Next, data_step, ended_step, ended_by, label_end_step, last_step, label_step, run_step, leaf_step, step, and_then, scan, whole_text, inlines, inlines_from, unindented}
+use Rattle.definition_inline.specs.GfmAutolinkLiteral.{literal_at}
+use Rattle.definition_inline.proofs.GfmAutolinkLiteral.{any_literal}
+use Rattle.definition_inline.specs.Scan.{InlineContext, leaf_at, leaf_here, LabelStart, LinkStart, ImageStart, label_start_at, start_bytes, start_tokens, label_part, Text, text, OpenLabel, Reading, reading, read_tokens, unformed, formed, Step, Next, data_step, ended_step, ended_by, label_end_step, last_step, label_step, run_step, leaf_step, step, and_then, scan, whole_text, inlines, inlines_from, unindented}
 use Rattle.laws_safe_page.proofs.Each.{Each, each-append, each_map, each_mapped, each_same, WhereSome, where_passed}
 use Rattle.laws_safe_page.proofs.InlineAdds.{EndsLines, AllEndLines}
 
@@ -248,10 +250,16 @@ module _ (context : InlineContext) where
       (begin_or (html_text_at on content) _ (html_ends on content)
       (begin_or (line_end_at content) (line_spaces_at on content) (line_ends on content) (spaces_end on content))))))))
 
+  here_ends : (content : List InlineCode) → BeginsWell (leaf_here context content)
+  here_ends content =
+      let on = context.options.constructs in
+      begin_or (leaf_at context (codes_of content)) (literal_at on content) (leaf_ends (codes_of content))
+      (any_literal BeginsWell on content tt (λ kind text size is. (tt, tt)))
+
   step_ends : (r : Reading) (c : InlineCode) (cs : List InlineCode) → ReadingEndsLines r → StepEndsLines (step context r c cs)
   step_ends r c cs p =
       let content = codes_of (c ∷ cs) in
-      leaf_step_ends c.code content r (run_at context.options (c ∷ cs)) (leaf_at context content) p (leaf_ends content)
+      leaf_step_ends c.code content r (run_at context.options (c ∷ cs)) (leaf_here context (c ∷ cs)) p (here_ends (c ∷ cs))
 
   then_ends : (s : Step) (rest : ℕ → Reading → Reading) → StepEndsLines s
       → ((k : ℕ) (r : Reading) → ReadingEndsLines r → ReadingEndsLines (rest k r)) → ReadingEndsLines (and_then s rest)

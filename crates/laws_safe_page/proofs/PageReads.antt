@@ -1,24 +1,28 @@
 -- Every text is read to a page whose headings have the ranks 1 to 6, and the codes of whose line endings are those.
-use Rattle.std.proofs.Common.{ℕ, Bool, true, false, eqb, ◌&&◌, not, List, Option, None, Some, drop}
+use Rattle.std.proofs.Common.{ℕ, Bool, eqb, ◌&&◌, not, List, [], ◌∷◌, Option, None, Some, drop, map}
 use Rattle.std.proofs.lemmas.Bool.{cond_both}
 use Rattle.markdown_options.specs.declared.line_ending.LineEnding.{LineEnding}
 use Rattle.markdown_options.specs.declared.configuration.ParseOptions.{ParseOptions}
 use Rattle.definition_text.specs.BlockLines.{BlockLine}
-use Rattle.definition_text.specs.InlineCode.{InlineCode, codes_of}
+use Rattle.definition_text.specs.Columns.{code_byte}
+use Rattle.definition_text.specs.InlineCode.{InlineCode, codes_of, with_kinds}
 use Rattle.definition_text.specs.Lines.{without_mark, kind_before_text}
+use Rattle.definition_inline.specs.Inline.{Inline, Data, Escape, Character, Code, Math, Autolink, Literal, Html, EscapedBreak, TrailingBreak, LineEnd, Emphasis, Strong, Strikethrough, Link, Image, Inlines, Nil, Cons}
 use Rattle.definition_inline.specs.GfmTaskListItem.{check_at, check_size}
 use Rattle.definition_inline.specs.Scan.{unindented}
-use Rattle.definition_block.specs.declared.container.Container.TheVariants.{Quote, Item}
+use Rattle.definition_block.specs.Container.{Quote, Item, Footnote}
 use Rattle.definition_block.specs.Tree as tree
 use Rattle.definition_block.specs.Tree.{is_ending, join, one, blocks}
 use Rattle.definition_block.specs.Lists.{endings_of, after_endings, item_marker, list_marker, list_items, rest_of, before_list, before, grouped_block, grouped}
+use Rattle.definition_block.specs.GfmTable.{Cell, line_cells}
+use Rattle.definition_page.specs.GfmTable.{head_line, body_lines, part_in_cell, in_cell}
 use Rattle.definition_page.specs.Page as page
 use Rattle.definition_page.specs.Page.{cons_ending, cons_blank}
-use Rattle.definition_page.specs.Read.{Reading, Standing, on_page, in_container, in_item, next_standing, context_of, text_content, read_text, checked_paragraph, read_paragraph, without_ending, after_code, read_block, read_blocks, read}
+use Rattle.definition_page.specs.Read.{Reading, Standing, on_page, in_container, in_item, next_standing, context_of, text_content, read_text, checked_paragraph, read_paragraph, read_cell, read_row, without_ending, after_code, read_block, read_blocks, read}
 use Rattle.definition_page.specs.TextTables.{TextTables}
-use Rattle.laws_safe_page.proofs.BlockAdds.{IsReadable, AreReadable}
+use Rattle.laws_safe_page.proofs.BlockAdds.{CellsEndLines, RowsEndLines, IsReadable, AreReadable}
 use Rattle.laws_safe_page.proofs.BlockReads.{IsRanked, AreRanked, ranked_join, blocks_are_ranked}
-use Rattle.laws_safe_page.proofs.InlineAdds.{AllEndLines}
+use Rattle.laws_safe_page.proofs.InlineAdds.{EndsLines, AllEndLines}
 use Rattle.laws_safe_page.proofs.InlineReads.{from_ends, inlines_end}
 
 -- ---- lists
@@ -76,6 +80,30 @@ readable_blank : (ending : Option LineEnding) (bs : page.Blocks) → AreReadable
 readable_blank None bs p = p
 readable_blank (Some ending) bs p = (tt, p)
 
+-- inline structure as it stands in a cell
+mutual
+  part_in_cell_ends : (i : Inline) → EndsLines i → EndsLines (part_in_cell i)
+  part_in_cell_ends (Data b) h = tt
+  part_in_cell_ends (Escape b) h = tt
+  part_in_cell_ends (Character text) h = tt
+  part_in_cell_ends (Code text) h = tt
+  part_in_cell_ends (Math text) h = tt
+  part_in_cell_ends (Autolink is_email text) h = tt
+  part_in_cell_ends (Literal kind text) h = tt
+  part_in_cell_ends (Html html) h = tt
+  part_in_cell_ends EscapedBreak h = tt
+  part_in_cell_ends TrailingBreak h = tt
+  part_in_cell_ends (LineEnd code) h = h
+  part_in_cell_ends (Emphasis kids) h = in_cell_ends kids h
+  part_in_cell_ends (Strong kids) h = in_cell_ends kids h
+  part_in_cell_ends (Strikethrough kids) h = in_cell_ends kids h
+  part_in_cell_ends (Link target kids) h = in_cell_ends kids h
+  part_in_cell_ends (Image target kids) h = in_cell_ends kids h
+
+  in_cell_ends : (is : Inlines) → AllEndLines is → AllEndLines (in_cell is)
+  in_cell_ends Nil h = tt
+  in_cell_ends (Cons i is) h = (part_in_cell_ends i h.0, in_cell_ends is h.1)
+
 module _ (r : Reading) where
   text_ends : (ls : List BlockLine) → AllEndLines (read_text r ls)
   text_ends ls = inlines_end (context_of r) (text_content r ls)
@@ -88,6 +116,15 @@ module _ (r : Reading) where
   paragraph_readable first ls =
       let content = unindented (text_content r ls) in checked_readable content (check_at r.options.constructs first (codes_of content))
 
+  row_readable : (cells : List Cell) → CellsEndLines (map (read_cell r) cells)
+  row_readable [] = tt
+  row_readable (c ∷ cs) =
+      (in_cell_ends _ (inlines_end (context_of r) (with_kinds r.tables.is_punctuation None c.before c.after (map code_byte c.codes))), row_readable cs)
+
+  rows_readable : (ls : List BlockLine) → RowsEndLines (map (read_row r) ls)
+  rows_readable [] = tt
+  rows_readable (line ∷ ls) = (row_readable (line_cells line), rows_readable ls)
+
   mutual
     readable_block : (s : Standing) (b : tree.Block) (others : page.Blocks) → IsRanked b → AreReadable others → AreReadable (read_block r s b others)
     readable_block s (tree.Paragraph ls) others h p = (paragraph_readable s.first ls, p)
@@ -96,9 +133,11 @@ module _ (r : Reading) where
     readable_block s (tree.IndentedCode ls) others h p = (tt, p)
     readable_block s (tree.FencedCode info is_closed ls) others h p = (tt, readable_after_code s.top is_closed others p)
     readable_block s (tree.Html ls) others h p = (tt, p)
+    readable_block s (tree.Table ls) others h p = ((row_readable (line_cells (head_line ls)), rows_readable (body_lines ls)), p)
     readable_block s (tree.Definition label destination title) others h p = (tt, p)
     readable_block s (tree.Holds Quote kids) others h p = (readable_blocks in_container kids h, p)
     readable_block s (tree.Holds (Item item) kids) others h p = (readable_blocks in_item kids h, p)
+    readable_block s (tree.Holds (Footnote label) kids) others h p = (readable_blocks in_container kids h, p)
     readable_block s (tree.Items items) others h p = (readable_blocks in_container items h, p)
     readable_block s (tree.Ending ending) others h p = readable_ending ending others p
     readable_block s (tree.Blank ending) others h p = readable_blank ending others p

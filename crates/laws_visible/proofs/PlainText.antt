@@ -23,7 +23,7 @@ use Rattle.definition_text.specs.InlineCode.{InlineCode, codes_of, next_kind, wi
 use Rattle.definition_inline.specs.Inline.{Inline, Data, LineEnd, Leaf, leaf, or_else}
 use Rattle.definition_inline.specs.HardBreak.{ends_here, line_end_at, line_spaces_at}
 use Rattle.definition_inline.specs.Spans.{Item, emphasized}
-use Rattle.definition_inline.specs.Scan.{InlineContext, leaf_at, text, Reading, reading, read_tokens, Next, leaf_step, step, and_then, scan, whole_text, inlines}
+use Rattle.definition_inline.specs.Scan.{InlineContext, leaf_at, leaf_here, text, Reading, reading, read_tokens, Next, leaf_step, step, and_then, scan, whole_text, inlines}
 use Rattle.definition_inline.specs.Strings.{or_byte}
 use Rattle.html_bytes.specs.InlineHtml.{InlineMeaning, part_html, inline_html}
 use Rattle.html_bytes.specs.Document.{Document, meaning_of, text_of}
@@ -87,6 +87,13 @@ module _ (options : ParseOptions) (names : List ℕ → Option (List ℕ)) (is_d
   plain_leaf c [] = refl
   plain_leaf c (next ∷ cs) = refl
 
+  or_nothing : (o : Option Leaf) → or_else o None ≡ o
+  or_nothing None = refl
+  or_nothing (Some found) = refl
+
+  plain_here : (c : InlineCode) (cs : List InlineCode) → leaf_here all_off (c ∷ cs) ≡ found_at (codes_of (c ∷ cs))
+  plain_here c cs = or_nothing (leaf_at all_off (codes_of (c ∷ cs))) ∙ plain_leaf c.code (codes_of cs)
+
   found_step : (c : InlineCode) (cs : List InlineCode) (r : Reading) (o : Option Leaf)
       → leaf_step all_off c.code (codes_of (c ∷ cs)) r None o ≡ Next ((or_byte c.code o).size - 1) (read_tokens (map Item (or_byte c.code o).parts) r)
   found_step c cs r None = refl
@@ -97,7 +104,7 @@ module _ (options : ParseOptions) (names : List ℕ → Option (List ℕ)) (is_d
       ≡ Next ((or_byte c.code (found_at (codes_of (c ∷ cs)))).size - 1) (read_tokens (map Item (or_byte c.code (found_at (codes_of (c ∷ cs)))).parts) r)
   plain_step c cs r =
       let content = codes_of (c ∷ cs) in
-      ap (leaf_step all_off c.code content r None) (plain_leaf c.code (codes_of cs)) ∙ found_step c cs r (found_at content)
+      ap (leaf_step all_off c.code content r None) (plain_here c cs) ∙ found_step c cs r (found_at content)
 
   read_more : (is js : List Inline) (r : Reading) → read_tokens (map Item js) (read_tokens (map Item is) r) ≡ read_tokens (map Item (is ++ js)) r
   read_more is js r =

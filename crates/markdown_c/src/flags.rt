@@ -23,8 +23,11 @@ const FRONTMATTER: u32 = 16;
 /// `- [x] a` has a check box (GFM 5.3).
 const TASK_LIST_ITEMS: u32 = 32;
 
+/// A row of delimiters below a line makes a table (GFM 4.10).
+const TABLES: u32 = 64;
+
 /// All flags together.
-const ALL: u32 = DANGEROUS + PLAIN + STRIKETHROUGH + MATH + FRONTMATTER + TASK_LIST_ITEMS;
+const ALL: u32 = DANGEROUS + PLAIN + STRIKETHROUGH + MATH + FRONTMATTER + TASK_LIST_ITEMS + TABLES;
 
 /// The options that a sum of flags asks for, if it has no others.
 pub(crate) fn options_of(flags: u32) -> Option<Options>
@@ -55,6 +58,7 @@ fn flagged_constructs(flags: u32) -> Constructs
     }
     Constructs {
         gfm_strikethrough: has_flag(STRIKETHROUGH, flags),
+        gfm_table: has_flag(TABLES, flags),
         gfm_task_list_item: has_flag(TASK_LIST_ITEMS, flags),
         math_text: has_flag(MATH, flags),
         math_flow: has_flag(MATH, flags),

@@ -5,7 +5,7 @@ use Rattle.markdown_options.specs.declared.configuration.Constructs.{Constructs}
 -- some of the extensions are on that can't be read so far
 abbrev pub has_extensions : Constructs → Bool
 has_extensions on =
-    on.gfm_autolink_literal || on.gfm_footnote_definition || on.gfm_label_start_footnote || on.gfm_table
+    on.gfm_autolink_literal || on.gfm_footnote_definition || on.gfm_label_start_footnote
 
 -- some of the constructs of MDX are on
 abbrev pub has_mdx : Constructs → Bool

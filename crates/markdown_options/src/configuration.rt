@@ -161,10 +161,7 @@ impl Constructs {
     fn has_extensions(&self) -> bool
         ensures { result ≡ has_extensions self.now }
     {
-        self.gfm_autolink_literal
-            || self.gfm_footnote_definition
-            || self.gfm_label_start_footnote
-            || self.gfm_table
+        self.gfm_autolink_literal || self.gfm_footnote_definition || self.gfm_label_start_footnote
     }
 
     /// Whether some of the constructs of MDX are on.

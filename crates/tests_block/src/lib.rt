@@ -12,6 +12,8 @@ mod definition;
 #[cfg(test)]
 mod frontmatter;
 #[cfg(test)]
+mod gfm_table;
+#[cfg(test)]
 mod heading_atx;
 #[cfg(test)]
 mod heading_setext;

@@ -2,9 +2,9 @@
 ghost use Rattle.std.specs.Prelude.{◌≡◌, true};
 ghost use Rattle.markdown_options.specs.Built.{is_built};
 
-use crate::laws::broken_law;
 use markdown::{Builtin, CompileOptions, Options, ParseOptions, RunError, Watched, run};
 use std::process::Abort;
+use tests_helpers::broken_law;
 
 /// The standard prints HTML of the text, and any URL, as they are.
 fn options() -> Options

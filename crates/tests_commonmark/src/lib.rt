@@ -38,8 +38,6 @@ mod label_start_image;
 #[cfg(test)]
 mod label_start_link;
 #[cfg(test)]
-mod laws;
-#[cfg(test)]
 mod list;
 #[cfg(test)]
 mod list_item;

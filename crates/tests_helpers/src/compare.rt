@@ -1,14 +1,20 @@
 //! Texts and their HTML, compared.
-ghost use Rattle.std.specs.Prelude.{◌≡◌, true};
+ghost use Rattle.std.specs.Prelude.{◌≡◌, true, IfOk};
 ghost use Rattle.markdown_options.specs.Built.{is_built};
+ghost use Rattle.markdown_definition.specs.Html.{html};
+ghost use Rattle.markdown_tables.specs.Builtin.{builtin_tables};
 
+use crate::heaps::prints_in_growing_heaps;
+use crate::laws::broken_law;
 use markdown::{
-    Builtin, Options, RunError, Watched, fits, is_safe_page, run, to_html_with_options,
+    Builtin, Message, Options, RunError, Watched, fits, is_safe_page, run, to_html,
+    to_html_with_options,
 };
 use std::alloc::Global;
 
-/// The first text whose page isn't the one that stands beside it, by either call, or isn't safe
-/// under safe options.
+/// The first text whose page isn't the one that stands beside it, by either call and in heaps of
+/// every size, or breaks a law: isn't safe under safe options, or isn't that of the text quoted, listed, escaped or with other
+/// line endings.
 pub fn first_wrong<'a>(
     alloc: Global,
     rows: &[(&'a str, &str)],
@@ -16,19 +22,47 @@ pub fn first_wrong<'a>(
 ) -> Result<Option<&'a str>, RunError>
     requires { is_built options.now.parse.constructs ≡ true }
 {
-    for (text, want) in rows {
-        if !fits(text) {
-            return Ok(Some(text));
-        }
-        let page = to_html_with_options(alloc, text, options).map_err(|_| RunError::Memory)?;
-        if page.as_str() != *want
-            || !runs_to(alloc, text, want, options)?
-            || !is_safe(alloc, &page, options)?
-        {
+    for row in rows {
+        let (text, want) = *row;
+        if !is_right(alloc, text, want, options)? {
             return Ok(Some(text));
         }
     }
     Ok(None)
+}
+
+/// Whether a text's page is this one, by either call and in heaps of every size, and keeps the laws. Then it is the page of the
+/// definition.
+fn is_right(alloc: Global, text: &str, want: &str, options: &Options) -> Result<bool, RunError>
+    requires { is_built options.now.parse.constructs ≡ true }
+    ensures { IfOk result (λ right. right ≡ true → html builtin_tables text.now options.now ≡ want.now) }
+{
+    if !fits(text) {
+        return Ok(false);
+    }
+    let page = to_html_with_options(alloc, text, options).map_err(|_| RunError::Memory)?;
+    if page.as_str() != want {
+        return Ok(false);
+    }
+    Ok(
+        runs_to(alloc, text, want, options)?
+            && prints_in_growing_heaps(alloc, text, want, options)?
+            && is_safe(alloc, &page, options)?
+            && broken_law(alloc, text, options)?.is_none(),
+    )
+}
+
+/// Whether the two calls print a text the same by the default options. They always do: that is
+/// proved of their clauses alone.
+pub fn is_same_by_default(alloc: Global, text: &str) -> Result<bool, Message>
+    ensures { IfOk result (λ same. same ≡ true) }
+{
+    if !fits(text) {
+        return Ok(true);
+    }
+    let page = to_html(alloc, text)?;
+    let other = to_html_with_options(alloc, text, &Options::default())?;
+    Ok(page.as_str() == other.as_str())
 }
 
 /// Whether a page is safe, or is printed by options that aren't.

@@ -2,9 +2,12 @@
 #![tactic(auto)]
 
 mod compare;
+mod heaps;
+mod laws;
 mod names;
 mod options;
 
-pub use compare::first_wrong;
+pub use compare::{first_wrong, is_same_by_default};
+pub use laws::broken_law;
 pub use names::Names;
 pub use options::{blocks, plain};

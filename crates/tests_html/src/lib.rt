@@ -3,3 +3,5 @@
 
 #[cfg(test)]
 mod escape;
+#[cfg(test)]
+mod footnotes;

@@ -1,8 +1,11 @@
 //! Links with no brackets (GFM 6.9).
 use inline_content::whole_content;
+use inline_labels::LabelTable;
 use inline_leaves::{LeafPart, LiteralKind};
 use inline_literals::{FoundAddress, first_address, literal_at};
-use markdown_options::Constructs;
+use inline_parser::{Room, content_start, inline_rows};
+use inline_rows::InlineRow;
+use markdown_options::{Constructs, ParseOptions};
 use std::test::Fail;
 use tests_helpers::Names;
 
@@ -45,6 +48,63 @@ fn literals(rt: HostRuntime) -> Result<(), Fail> {
     for (line, expected) in cases {
         assert!(rt; first(line) == expected);
     }
+    Ok(())
+}
+
+/// The rows of one line as marks: a literal between `<` and `>`, the start of anything else that holds
+/// parts `(` and its end `)`, or text.
+fn shape(rt: &HostRuntime, options: &ParseOptions, line: &str) -> Result<String, Fail> {
+    let labels = LabelTable::new(rt.alloc())?;
+    let content = whole_content(1, line);
+    let mut room = Room::new(rt.alloc())?;
+    let rows = inline_rows(
+        &mut room,
+        options,
+        &Names,
+        &labels,
+        content,
+        content_start(content),
+    )?;
+    let mut shape = String::new(rt.alloc());
+    for row in &rows {
+        match row {
+            InlineRow::Text(text) => shape.push_str(text)?,
+            InlineRow::Leaf(LeafPart::Literal { text, .. }) => {
+                shape.push_str("<")?;
+                shape.push_str(text)?;
+                shape.push_str(">")?;
+            }
+            InlineRow::Leaf(_) => shape.push_str("?")?,
+            InlineRow::EnterSpan(_) | InlineRow::EnterLink(_) | InlineRow::EnterImage(_) => {
+                shape.push_str("(")?;
+            }
+            InlineRow::Exit => shape.push_str(")")?,
+        }
+    }
+    Ok(shape)
+}
+
+#[test]
+fn literals_in_a_content(rt: HostRuntime) -> Result<(), Fail> {
+    let cases = [
+        ("www.a.b", "<www.a.b>"),
+        ("  hwww.a http://b", "hwww.a <http://b>"),
+        ("wwWW. (www.a) x", "wwWW. (<www.a>) x"),
+        ("ahttp://b 1http://b", "ahttp://b 1<http://b>"),
+        ("éhttp://b.c.", "é<http://b.c>."),
+        ("*www.a*", "(<www.a>)"),
+        ("**www.a** b_", "(<www.a>) b_"),
+        ("www.a_b www.c", "www.a_b <www.c>"),
+        ("[www.a", "[<www.a>"),
+        ("![www.a](b)", "(<www.a>)"),
+        ("`www.a` www.b`", "? <www.b`>"),
+        ("who what ht", "who what ht"),
+    ];
+    let options = ParseOptions::gfm();
+    for (line, expected) in cases {
+        assert!(rt; shape(&rt, &options, line)?.as_str() == expected);
+    }
+    assert!(rt; shape(&rt, &ParseOptions::default(), "www.a")?.as_str() == "www.a");
     Ok(())
 }
 

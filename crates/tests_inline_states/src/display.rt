@@ -1,5 +1,5 @@
 //! Events as texts: a sign and a name, and the index.
-use inline_states::reading::{read_string, read_text, resolved_text};
+use inline_states::reading::{read_string, read_text, resolved_string, resolved_text};
 use markdown_engine::event::{Event, Kind};
 use markdown_engine::{ParseOptions, ParseState};
 use markdown_tables::Builtin;
@@ -48,6 +48,13 @@ pub fn string_events(rt: &HostRuntime, bytes: &[u8]) -> Result<String, Fail> {
     let options = ParseOptions::default();
     let text = ParseState::new(rt.alloc(), bytes, &options, &Builtin)?;
     show(rt, &read_string(rt.alloc(), &text)?)
+}
+
+/// The events of a string as a text, once its resolvers ran.
+pub fn resolved_string_events(rt: &HostRuntime, bytes: &[u8]) -> Result<String, Fail> {
+    let options = ParseOptions::default();
+    let text = ParseState::new(rt.alloc(), bytes, &options, &Builtin)?;
+    show(rt, &resolved_string(rt.alloc(), &text)?)
 }
 
 /// Whether the events of a text by CommonMark are these.

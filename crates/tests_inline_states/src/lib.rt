@@ -2,6 +2,8 @@
 #![tactic(auto)]
 
 #[cfg(test)]
+mod attention;
+#[cfg(test)]
 mod display;
 #[cfg(test)]
 mod events;

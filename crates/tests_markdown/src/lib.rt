@@ -6,6 +6,8 @@ mod devices;
 #[cfg(test)]
 mod extensions;
 #[cfg(test)]
+mod gfm_footnote_definition;
+#[cfg(test)]
 mod gfm_task_list_item;
 #[cfg(test)]
 mod inline;

@@ -2,15 +2,15 @@
 ghost use Rattle.std.specs.Prelude.{◌≡◌, true};
 ghost use Rattle.markdown_options.specs.Built.{is_built};
 
-use crate::extensions::{FRONTMATTER, MATH_FLOW, MATH_TEXT, STRIKETHROUGH, extensions};
+use crate::extensions::{MATH_FLOW, STRIKETHROUGH, extensions};
 use crate::gfm_task_list_item::TASKS;
-use crate::inline::{BESIDE, INLINE, MARKED, REFERENCES};
-use crate::rows::{LEAVES, PLAIN, leaves};
+use crate::inline::{BESIDE, INLINE};
+use crate::rows::LEAVES;
 use linked_list_allocator::LocalHeap;
-use markdown::{Builtin, Options, RunError, Watched, fits, run, to_html_with_options};
+use markdown::{Options, RunError, fits, to_html_with_options};
 use std::alloc::Global;
 use std::io;
-use tests_helpers::plain;
+use tests_helpers::{first_wrong, plain};
 
 /// Containers in each other, with definitions and lists of both kinds.
 const CONTAINERS: [(&str, &str); 6] = [
@@ -40,56 +40,6 @@ const CONTAINERS: [(&str, &str); 6] = [
     ),
 ];
 
-/// How much a heap grows from one run to the next, which is less than most requests.
-const STEP: usize = 32;
-
-/// The reader's buffer, which is asked for first.
-const BUFFER: usize = 65536;
-
-/// How many times a heap may grow until it has more than a row needs.
-const STEPS: usize = 2048;
-
-/// Whether a text is printed in a heap of some size, and a smaller one refuses it with nothing written.
-fn prints_in_growing_heaps(
-    alloc: Global,
-    text: &str,
-    want: &str,
-    options: &Options,
-) -> Result<bool, RunError>
-    requires { is_built options.now.parse.constructs ≡ true }
-{
-    for steps in 0..STEPS {
-        let size = BUFFER - STEP + steps * STEP;
-        let heap = LocalHeap::new(alloc, size).map_err(|_| RunError::Memory)?;
-        let mut reader = Watched::new(text.as_bytes());
-        let mut writer = Watched::new(Vec::new(alloc));
-        let result = run(&heap, &mut reader, &mut writer, options, &Builtin);
-        let out = writer.into_inner();
-        match result {
-            Ok(()) => return Ok(out.as_slice() == want.as_bytes()),
-            Err(RunError::Memory) if out.is_empty() => {}
-            Err(_) => return Ok(false),
-        }
-    }
-    Ok(false)
-}
-
-/// The first text that some heap doesn't print as the others do, or refuse.
-fn first_wrong_in_heaps<'a>(
-    alloc: Global,
-    rows: &[(&'a str, &str)],
-    options: &Options,
-) -> Result<Option<&'a str>, RunError>
-    requires { is_built options.now.parse.constructs ≡ true }
-{
-    for (text, want) in rows {
-        if !prints_in_growing_heaps(alloc, text, want, options)? {
-            return Ok(Some(text));
-        }
-    }
-    Ok(None)
-}
-
 /// The first of these texts that one of the others can't stand after, with an empty line between.
 fn first_unjoined<'a>(
     alloc: Global,
@@ -112,49 +62,11 @@ fn first_unjoined<'a>(
 }
 
 #[test]
-fn prints_blocks_in_heaps_of_every_size(rt: HostRuntime) -> Result<(), RunError> {
-    assert_eq!(rt; first_wrong_in_heaps(rt.alloc(), &PLAIN, &plain())?, None);
-    assert_eq!(rt; first_wrong_in_heaps(rt.alloc(), &LEAVES, &leaves())?, None);
+fn prints_containers(rt: HostRuntime) -> Result<(), RunError> {
     assert_eq!(rt;
-        first_wrong_in_heaps(rt.alloc(), &CONTAINERS, &Options::default())?,
+        first_wrong(rt.alloc(), &CONTAINERS, &Options::default())?,
         None
     );
-    Ok(())
-}
-
-#[test]
-fn prints_texts_in_heaps_of_every_size(rt: HostRuntime) -> Result<(), RunError> {
-    let options = Options::default();
-    assert_eq!(rt; first_wrong_in_heaps(rt.alloc(), &INLINE, &options)?, None);
-    assert_eq!(rt;
-        first_wrong_in_heaps(rt.alloc(), &REFERENCES, &options)?,
-        None
-    );
-    assert_eq!(rt; first_wrong_in_heaps(rt.alloc(), &BESIDE, &options)?, None);
-    assert_eq!(rt; first_wrong_in_heaps(rt.alloc(), &MARKED, &options)?, None);
-    Ok(())
-}
-
-#[test]
-fn prints_extensions_in_heaps_of_every_size(rt: HostRuntime) -> Result<(), RunError> {
-    let options = extensions();
-    assert_eq!(rt;
-        first_wrong_in_heaps(rt.alloc(), &STRIKETHROUGH, &options)?,
-        None
-    );
-    assert_eq!(rt;
-        first_wrong_in_heaps(rt.alloc(), &MATH_TEXT, &options)?,
-        None
-    );
-    assert_eq!(rt;
-        first_wrong_in_heaps(rt.alloc(), &MATH_FLOW, &options)?,
-        None
-    );
-    assert_eq!(rt;
-        first_wrong_in_heaps(rt.alloc(), &FRONTMATTER, &options)?,
-        None
-    );
-    assert_eq!(rt; first_wrong_in_heaps(rt.alloc(), &TASKS, &options)?, None);
     Ok(())
 }
 
@@ -173,7 +85,7 @@ fn prints_every_two_texts(rt: HostRuntime) -> Result<(), RunError> {
 
 #[test]
 fn prints_in_a_small_heap(rt: HostRuntime) -> io::Result<()> {
-    let heap = LocalHeap::new(rt.alloc(), 512)?;
+    let heap = LocalHeap::new(rt.alloc(), 2048)?;
     let result = to_html_with_options(&heap, "a & b", &plain());
     match result {
         Ok(page) => assert_eq!(rt; page.as_str(), "<p>a &amp; b</p>"),

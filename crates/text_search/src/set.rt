@@ -15,7 +15,7 @@ pub struct ByteSet {
 }
 
 /// How many bytes are looked at together.
-const LANES: usize = 16;
+pub(crate) const LANES: usize = 16;
 
 /// How many bytes come before the first one of a set: all of them, where there is none.
 pub fn next_of(bytes: &[u8], set: ByteSet) -> usize
@@ -48,14 +48,14 @@ fn run_in(bytes: &[u8], at: usize, set: ByteSet) -> usize
 }
 
 /// What a table has for the lower half of each lane.
-fn by_half(lanes: u8x16, table: [u8; 16]) -> u8x16
+pub(crate) fn by_half(lanes: u8x16, table: [u8; 16]) -> u8x16
     ensures { result ≡ map (λ byte. slice_index table (byte % 16)) lanes }
 {
     u8x16::from_array(table).swizzle_dyn_within::<16>(lanes & u8x16::splat(15))
 }
 
 /// The place of the first bit that is set, or how many there are.
-fn first_set(mask: u64, lanes: usize) -> usize
+pub(crate) fn first_set(mask: u64, lanes: usize) -> usize
     ensures { result ≡ first_set mask lanes }
 {
     if mask == 0 {

@@ -58,6 +58,7 @@ loop-row-preserved g c =
           ∙ ap (drop (row_size row)) k.left
           ∙ left_more piece_line (row_size row) c.loop-row.at pieces
           ∙ ap (λ n. piece_lines (drop (c.loop-row.at + n) pieces)) (sym c.size.ensures);
+      few = omega (arith, k.few, c.in_ok-row.ensures.few);
       enough = omega (arith, k.enough, c.size.ensures, taken_more rows i (Paragraph 0) c.loop-row-test.true);
     }
 

@@ -15,5 +15,6 @@ invariant-loop-row g l = record {
   printed : (ds : List Definition) → HasDefinitions l.texts.labels.now l.texts.links.now ds →
       printer_view l.printer ≡ print_all (document l.texts.options.now (text_tables (g.T.Tables.reference_of l.texts.tables.now) (g.T.Tables.punctuation_of l.texts.tables.now)) ds) (ending_bytes l.fn.default_ending) (blank_page (rows_value l.rows (piece_lines l.pieces)).rows) (rows_value (take l.row-index l.rows) (piece_lines l.pieces)).rows;
   left : (rows_value (take l.row-index l.rows) (piece_lines l.pieces)).left ≡ piece_lines (drop l.at l.pieces);
+  few : l.printer.hidden ≤ l.row-index;
   enough : l.at + rows_size (drop l.row-index l.rows) ≤ length l.pieces;
 }

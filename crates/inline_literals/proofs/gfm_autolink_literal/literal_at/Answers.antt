@@ -2,10 +2,11 @@ use Rattle.std.proofs.Common.{◌+◌, ◌∷◌, [], Some, take, sym, ap, ◌�
 use Rattle.std.specs.Option.{option_map}
 use Rattle.definition_inline.specs.Inline.{leaf, Literal}
 use Rattle.definition_inline.specs.GfmAutolinkLiteral.{literal_start_at}
+use Rattle.definition_inline.proofs.GfmAutolinkLiteral.{literals_off}
 use Rattle.inline_content.specs.View.{view_at}
 use Rattle.inline_leaves.specs.Leaves.{size_before}
 use Rattle.inline_literals.specs.Literals.{size_after, start_view, may_begin, StartsLiteral, IsNameEnd}
-use Rattle.inline_literals.proofs.Found.{none_off, none_first, view_codes, at_found, at_none, no_size, with_size, after_literal, size_of_literal, start_end}
+use Rattle.inline_literals.proofs.Found.{none_first, view_codes, at_found, at_none, no_size, with_size, after_literal, size_of_literal, start_end}
 use Rattle.inline_literals.proofs.gfm_autolink_literal.literal_at.Goals.{then-not-on-via-then-not-on, then-not-on-via-else-not-on+then-not-may_begin}
 use Rattle.inline_literals.proofs.gfm_autolink_literal.literal_at.Goals as goal
 
@@ -15,7 +16,7 @@ returns-then-not-on-clause-read g c =
     let rest = c.args.rest.now in
     let view = view_at p c.args.content rest in
     elim c.then-not-on.branch [
-      | then-not-on-via-then-not-on w ↦ sym (none_off c.args.on.now view w.if-not-on.true)
+      | then-not-on-via-then-not-on w ↦ sym (literals_off c.args.on.now view w.if-not-on.true)
       | then-not-on-via-else-not-on+then-not-may_begin w ↦
           sym
           (none_first c.args.on.now view rest (view_codes p c.args.content.after c.args.content.marks.now c.args.content.text.now rest ∙ sym c.requires.codes)

@@ -1,8 +1,5 @@
 use Rattle.std.proofs.Common.{◌≡◌, ℕ, true, false, eqb, List, [], ◌∷◌, refl, sym, ap, ◌∙◌, length, arith, subst, IfOk}
-use Rattle.std.specs.List.{All, prefix_len}
-use Rattle.definition_text.specs.Columns.{is_white}
-use Rattle.definition_text.specs.Content.{content_codes}
-use Rattle.inline_leaves.specs.Leaves.{size_before}
+use Rattle.std.specs.List.{All}
 use Rattle.std.proofs.lemmas.Bool.{eqb-true}
 use Rattle.definition_page.specs.InlinePieces.{leads_to}
 use Rattle.inline_rows.specs.InlineRows.{inline_rows}

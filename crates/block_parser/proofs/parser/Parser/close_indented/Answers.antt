@@ -4,6 +4,7 @@ use Rattle.std.proofs.lemmas.List.{take_all}
 use Rattle.block_rows.specs.declared.row.Piece.{Piece}
 use Rattle.definition_block.specs.Tree.{join, Indented, close_leaf}
 use Rattle.block_rows.specs.Rows.{piece_lines}
+use Rattle.block_starts.specs.View.{container_views}
 use Rattle.block_parser.specs.Leaves.{leaf_state}
 use Rattle.block_parser.proofs.Leaves as leaves
 use Rattle.std.proofs.lemmas.List.{length-drop}
@@ -47,6 +48,6 @@ returns-clause-read g c = λ switches ls pending all last around kids h.
     record {
       written = leaves.written_as c.loop-i.self.rows.rows.items c.loop-i.self.rows.rows.items c.loop-i.self.rows.waiting.items c.loop-i.self.rows.waiting.items c.loop-i.self.rows.bare c.loop-i.self.rows.bare
           (piece_lines (take n items)) (piece_lines c.truncate.new.self.items) around (join kids (close_leaf switches (Indented ls pending))) [] [] refl refl refl pool refl w;
-      opened = ap (λ (v : _). v.items) k.containers ∙ h.opened;
+      opened = ap (λ (v : _). container_views v.items) k.containers ∙ h.opened;
       same_state = ap leaf_state k.leaf;
     }

@@ -3,12 +3,12 @@ use Rattle.std.proofs.lemmas.Result.{on_ok_weaker}
 use Rattle.markdown_options.specs.declared.line_ending.LineEnding.{LineEnding}
 use Rattle.definition_block.specs.CodeFenced.{Fence}
 use Rattle.definition_text.specs.BlockLines.{BlockLine, last_ending, last_ending_or}
-use Rattle.definition_block.specs.Tree.{Blocks, join, OpenLeaf, Text, Indented, Fenced, OpenHtml, close_leaf, leaf_text}
+use Rattle.definition_block.specs.Tree.{Blocks, join, OpenLeaf, Text, Indented, Fenced, OpenHtml, OpenTable, close_leaf, leaf_text}
 use Rattle.block_rows.specs.ParagraphLines.{AreLines}
 use Rattle.block_starts.specs.CodeFenced.{fence_view}
 use Rattle.block_starts.specs.HtmlFlow.{number_of}
 use Rattle.block_parser.specs.Spine.{Level, spine}
-use Rattle.block_parser.specs.Shows.{InText, InIndented, InFenced, InHtml, state_of}
+use Rattle.block_parser.specs.Shows.{InText, InIndented, InFenced, InHtml, InTable, state_of}
 use Rattle.block_parser.specs.Leaves.{leaf_state}
 use Rattle.block_parser.specs.View.{HasRead}
 use Rattle.block_parser.proofs.parser.Parser.close_leaf.Goals as goal
@@ -23,6 +23,7 @@ returns-in-Text-clause-read g c =
     text_case reads around kids (Indented ls pending) clean is h = let wrong = is in cc
     text_case reads around kids (Fenced fence opening ls) clean is h = let wrong = is in cc
     text_case reads around kids (OpenHtml kind ls) clean is h = let wrong = is in cc
+    text_case reads around kids (OpenTable ls) clean is h = let wrong = is in cc
 
 pub returns-in-Indented-clause-read : goal.returns-in-Indented-clause-read
 returns-in-Indented-clause-read g c =
@@ -34,6 +35,7 @@ returns-in-Indented-clause-read g c =
     indented_case reads around kids (Indented ls pending) is h = reads around kids ls pending (cc) (cc) h
     indented_case reads around kids (Fenced fence opening ls) is h = let wrong = is in cc
     indented_case reads around kids (OpenHtml kind ls) is h = let wrong = is in cc
+    indented_case reads around kids (OpenTable ls) is h = let wrong = is in cc
 
 pub returns-in-Fenced-clause-read : goal.returns-in-Fenced-clause-read
 returns-in-Fenced-clause-read g c =
@@ -45,6 +47,7 @@ returns-in-Fenced-clause-read g c =
     fenced_case reads around kids (Indented ls pending) is h = let wrong = is in cc
     fenced_case reads around kids (Fenced fence opening ls) is h = reads around kids fence opening ls (cc) h
     fenced_case reads around kids (OpenHtml kind ls) is h = let wrong = is in cc
+    fenced_case reads around kids (OpenTable ls) is h = let wrong = is in cc
 
 pub returns-in-Html-clause-read : goal.returns-in-Html-clause-read
 returns-in-Html-clause-read g c =
@@ -56,3 +59,16 @@ returns-in-Html-clause-read g c =
     html_case reads around kids (Indented ls pending) is h = let wrong = is in cc
     html_case reads around kids (Fenced fence opening ls) is h = let wrong = is in cc
     html_case reads around kids (OpenHtml kind ls) is h = reads around kids kind ls (cc) h
+    html_case reads around kids (OpenTable ls) is h = let wrong = is in cc
+
+pub returns-in-Table-clause-read : goal.returns-in-Table-clause-read
+returns-in-Table-clause-read g c =
+    on_ok_weaker c.close_table.result (λ reads. λ leaf clean around kids h. table_case (λ around kids ls last. reads c.args.on.now ls last around kids) around kids leaf (sym (ap leaf_state c.in-Table.is) ∙ h.same_state) h) c.close_table.ensures.read
+  where
+    table_case : ((around : List Level) (kids : Blocks) (ls : List BlockLine) → c.in-Table.ending ≡ last_ending ls → HasRead c.args.self.now (spine around kids (OpenTable ls)) → HasRead c.close_table.new.self (spine around (join kids (close_leaf c.args.on.now (OpenTable ls))) (Text [])))
+        → (around : List Level) (kids : Blocks) (leaf : OpenLeaf) → InTable c.in-Table.ending ≡ state_of leaf → HasRead c.args.self.now (spine around kids leaf) → HasRead c.close_table.new.self (spine around (join kids (close_leaf c.args.on.now leaf)) (Text []))
+    table_case reads around kids (Text ls) is h = let wrong = is in cc
+    table_case reads around kids (Indented ls pending) is h = let wrong = is in cc
+    table_case reads around kids (Fenced fence opening ls) is h = let wrong = is in cc
+    table_case reads around kids (OpenHtml kind ls) is h = let wrong = is in cc
+    table_case reads around kids (OpenTable ls) is h = reads around kids ls (cc) h

@@ -36,18 +36,18 @@ loop-end-preserved g c =
     let end = c.in-Some.end in
     let content = drop at all in
     let bytes = take_rest c.as_bytes.result.now at ∙ ap (drop at) c.as_bytes.ensures.value in
-    let same_content = ap string_bytes c.in_ok-define.ensures.content in
+    let same_content = ap string_bytes c.in_ok-take_lines.ensures.content in
     record {
-      same_open = c.in_ok-define.ensures.containers ∙ c.loop-end.invariant.same_open;
+      same_open = c.in_ok-take_lines.ensures.containers ∙ c.loop-end.invariant.same_open;
       within = omega (arith, c.loop-end.invariant.within, c.in-Some.ensures.bytes, ap length bytes, length-drop at all, ap length same_content);
       cuts = λ around kids ls clean h.
           let k = c.loop-end.invariant.cuts around kids ls clean h in
           let here = leaves.lines_here before around (join kids k.definitions) (Text k.left) k.reads c.deref-in-loop-end.result.now c.deref-in-loop-end.ensures.value in
           let found = c.in-Some.ensures.found (subst AreLines here k.clean) (bytes ∙ k.rest ∙ ap content_text here) in
           let ends = ends_as _ content _ k.left end bytes here found in
-          let reads = c.in_ok-define.ensures.read k.left (Definition ends.read.label ends.read.destination ends.read.title) (row_of_definition content k.left end k.clean ends) refl around (join kids k.definitions) k.reads in
-          subst (λ (x : List ℕ). Cutting c.define.new.self x around kids ls) (drop-drop end.bytes at all ∙ ap (drop (at + end.bytes)) (sym same_content))
-          (one_more before c.define.new.self content around kids ls k end ends reads);
+          let reads = c.in_ok-take_lines.ensures.read k.left (Definition ends.read.label ends.read.destination ends.read.title) (row_of_definition content k.left end k.clean ends) refl around (join kids k.definitions) k.reads in
+          subst (λ (x : List ℕ). Cutting c.take_lines.new.self x around kids ls) (drop-drop end.bytes at all ∙ ap (drop (at + end.bytes)) (sym same_content))
+          (one_more before c.take_lines.new.self content around kids ls k end ends reads);
     }
 
 pub returns-clause-read : goal.returns-clause-read

@@ -5,7 +5,7 @@ use Rattle.definition_text.specs.Columns.{Rest}
 use Rattle.definition_block.specs.CodeFenced.{fence_line}
 use Rattle.definition_block.specs.Tree.{Blocks, FencedCode, Tree, Fenced, rest_line}
 use Rattle.block_rows.specs.Rows.{piece_lines, piece_line, Single}
-use Rattle.block_starts.specs.View.{rest_of}
+use Rattle.block_starts.specs.View.{rest_of, container_views}
 use Rattle.block_starts.specs.CodeFenced.{fence_view}
 use Rattle.block_parser.specs.Spine.{spine, spine_after}
 use Rattle.block_parser.specs.Shows.{InFenced, leaf_lines, Shows}
@@ -27,9 +27,9 @@ returns-then-not-is_fence_end g c = λ opening ls around kids h.
     let l = rest_line (fence_line f r) e in
     let leaf = Fenced f opening (ls ++ l ∷ []) in
     let piece_is = c.piece.ensures ∙ ap (λ (x : Rest). rest_line x e) c.fence_line.ensures in
-    subst (λ (t : Tree). Shows p.rows.rows.items p.rows.waiting.items p.rows.bare p.open.items (piece_lines c.push.new.self.items) (InFenced f e.ending) (spine_after around kids t)) (sym (steps.fenced_goes_on on e r f opening ls (sym c.is_fence_end.ensures ∙ c.if-not-is_fence_end.true)))
-    (subst (λ (bs : Blocks). Shows p.rows.rows.items p.rows.waiting.items p.rows.bare p.open.items (piece_lines c.push.new.self.items) (InFenced f e.ending) (spine around bs leaf)) (sym (join-nil kids))
-    (leaves.shows_line p.rows.rows.items p.rows.waiting.items p.rows.bare p.open.items pool (piece_lines c.push.new.self.items) (leaf_state p.leaf) (InFenced f e.ending) around kids (Fenced f opening ls) leaf l
+    subst (λ (t : Tree). Shows p.rows.rows.items p.rows.waiting.items p.rows.bare (container_views p.open.items) (piece_lines c.push.new.self.items) (InFenced f e.ending) (spine_after around kids t)) (sym (steps.fenced_goes_on on e r f opening ls (sym c.is_fence_end.ensures ∙ c.if-not-is_fence_end.true)))
+    (subst (λ (bs : Blocks). Shows p.rows.rows.items p.rows.waiting.items p.rows.bare (container_views p.open.items) (piece_lines c.push.new.self.items) (InFenced f e.ending) (spine around bs leaf)) (sym (join-nil kids))
+    (leaves.shows_line p.rows.rows.items p.rows.waiting.items p.rows.bare (container_views p.open.items) pool (piece_lines c.push.new.self.items) (leaf_state p.leaf) (InFenced f e.ending) around kids (Fenced f opening ls) leaf l
     (leaves.enough_lines p) (leaves.piece_pushed p.pieces.items c.piece.result c.push.new.self.items l c.in_ok-push.ensures.items piece_is) refl (ap (InFenced f) (sym (leaves.last_ending_or-more opening ls l))) h))
 
 pub returns : goal.returns

@@ -1,6 +1,6 @@
 use Rattle.std.proofs.Common.{◌≡◌, ◌+◌, sym, ap, ◌∙◌, length, arith, ltb}
 use Rattle.std.proofs.lemmas.List.{length-map}
-use Rattle.definition_block.specs.Tree.{OpenLeaf, Text, Indented, Fenced, OpenHtml, is_some_line, leaf_text}
+use Rattle.definition_block.specs.Tree.{OpenLeaf, Text, Indented, Fenced, OpenHtml, OpenTable, is_some_line, leaf_text}
 use Rattle.block_rows.specs.Rows.{piece_lines, piece_line, rows_size}
 use Rattle.block_parser.specs.Shows.{InText, state_of, leaf_lines}
 use Rattle.block_parser.specs.Leaves.{leaf_state}
@@ -18,3 +18,4 @@ returns-in-Text g c = λ s h.
     text_case (Indented ls pending) left is = let wrong = is in cc
     text_case (Fenced fence opening ls) left is = let wrong = is in cc
     text_case (OpenHtml kind ls) left is = let wrong = is in cc
+    text_case (OpenTable ls) left is = let wrong = is in cc

@@ -1,6 +1,6 @@
 use Rattle.std.proofs.Common.{◌≡◌, ◌+◌, ◌==◌, sym, ap, ◌∙◌, length, arith}
 use Rattle.std.proofs.lemmas.List.{length-map}
-use Rattle.definition_block.specs.Tree.{OpenLeaf, Text, Indented, Fenced, OpenHtml, Leaf}
+use Rattle.definition_block.specs.Tree.{OpenLeaf, Text, Indented, Fenced, OpenHtml, OpenTable, Leaf}
 use Rattle.definition_block.specs.Tree.{is_nothing}
 use Rattle.block_rows.specs.Rows.{piece_lines, piece_line, rows_size}
 use Rattle.block_parser.specs.Shows.{InText, state_of, leaf_lines}
@@ -19,3 +19,4 @@ returns-in-Text g c = λ s h.
     text_case (Indented ls pending) left is = let wrong = is in cc
     text_case (Fenced fence opening ls) left is = let wrong = is in cc
     text_case (OpenHtml kind ls) left is = let wrong = is in cc
+    text_case (OpenTable ls) left is = let wrong = is in cc

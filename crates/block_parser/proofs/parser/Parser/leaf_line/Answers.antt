@@ -3,12 +3,14 @@ use Rattle.std.proofs.lemmas.Result.{on_ok_weaker}
 use Rattle.definition_text.specs.Indents.{outdented}
 use Rattle.definition_block.specs.CodeIndented.{starts_code_indented}
 use Rattle.definition_text.specs.BlockLines.{spaced_line}
-use Rattle.definition_block.specs.Tree.{Heading, Break, Blank, Nil, Tree, tree, nothing, one, ended, join, Text, Indented, Fenced, Leaf, rest_line, close, html_with, text_here}
+use Rattle.definition_block.specs.Tree.{Heading, Break, Blank, Nil, Tree, tree, nothing, one, ended, join, Text, Indented, Fenced, OpenTable, Leaf, rest_line, close, html_with, text_here}
 use Rattle.block_starts.specs.View.{rest_of}
 use Rattle.block_starts.specs.CodeFenced.{fence_view, fence_if}
 use Rattle.block_starts.specs.HeadingAtx.{atx_if}
 use Rattle.block_starts.specs.HtmlFlow.{number_of, kind_number}
+use Rattle.definition_block.specs.Definitions.{cut}
 use Rattle.block_parser.specs.HeadingSetext.{heading_blocks, heading_tree}
+use Rattle.block_parser.specs.GfmTable.{table_left, table_tree}
 use Rattle.block_parser.specs.Spine.{spine_at, spine_after}
 use Rattle.block_parser.specs.View.{HasRead}
 use Rattle.block_parser.proofs.Steps as steps
@@ -117,6 +119,23 @@ returns-then-is_break g c =
     (closing.after_added on (HasRead c.thematic_break.new.self) around kids away more (adds around (join kids (close on away)) k)))
     c.thematic_break.ensures
 
+pub returns-then-branch : goal.returns-then-branch
+returns-then-branch g c =
+    on_ok_weaker c.start_table.result (λ reads. λ around kids away deep clean h.
+    let on = c.args.on.now in
+    let r = rest_of c.args.rest in
+    let e = c.args.beside in
+    let text_is = c.has_text-paragraph.ensures (spine_at around kids away) h ∙ steps.has_text_at around kids away in
+    let not_code = ap (λ b. starts_code_indented on r && not b) (sym text_is) ∙ sym c.begins_code.ensures in
+    let html_is = ap (λ b. html_start on b r) (sym text_is) ∙ sym c.html_start.ensures in
+    let h1 = c.turns.ensures.kept (spine_at around kids away) h in
+    let h2 = c.makes_table.ensures.kept (spine_at around kids away) h1 in
+    let made = c.in_ok-makes_table.ensures.made around kids away (rest_line r e) deep clean h1 in
+    let is = made ∙ ap (λ b. table_tree on b away (rest_line r e)) c.if-branch.true in
+    subst (λ (x : Tree). HasRead c.start_table.new.self (spine_after around kids x)) (sym (steps.table_leaf on away r e (sym c.is_blank.ensures ∙ c.if-is_blank.false) (not_code ∙ c.if-begins_code.false) (sym c.opening_fence.ensures ∙ ap fence_if c.in_default.is) (html_is ∙ ap kind_number c.in_default-html_start.is) (sym c.heading_atx.ensures ∙ ap atx_if c.in_default-heading_atx.is) (c.in_ok-rank.ensures.turned around kids away e.ending deep clean h ∙ ap (λ o. heading_tree on o away e.ending) c.in_default-2.is) (sym c.is_break.ensures ∙ c.if-is_break.false) (table_left (cut on (text_here away)) (rest_line r e)) is))
+    (steps.tabled_here on (HasRead c.makes_table.new.self) (HasRead c.start_table.new.self) (rest_line r e) (λ around kids ls clean. reads ls clean around kids) around kids away (c.in_ok-makes_table.ensures.here around kids away deep h1 c.if-branch.true) clean h2))
+    c.start_table.ensures
+
 pub returns-then-paragraph : goal.returns-then-paragraph
 returns-then-paragraph g c =
     on_ok_weaker c.text_line.result (λ more. λ around kids away deep clean h.
@@ -126,9 +145,30 @@ returns-then-paragraph g c =
     let text_is = c.has_text-paragraph.ensures (spine_at around kids away) h ∙ steps.has_text_at around kids away in
     let not_code = ap (λ b. starts_code_indented on r && not b) (sym text_is) ∙ sym c.begins_code.ensures in
     let html_is = ap (λ b. html_start on b r) (sym text_is) ∙ sym c.html_start.ensures in
-    subst (λ (x : Tree). HasRead c.text_line.new.self (spine_after around kids x)) (sym (steps.text_leaf on away r e (sym c.is_blank.ensures ∙ c.if-is_blank.false) (not_code ∙ c.if-begins_code.false) (sym c.opening_fence.ensures ∙ ap fence_if c.in_default.is) (html_is ∙ ap kind_number c.in_default-html_start.is) (sym c.heading_atx.ensures ∙ ap atx_if c.in_default-heading_atx.is) (c.in_ok-rank.ensures.turned around kids away e.ending deep clean h ∙ ap (λ o. heading_tree on o away e.ending) c.in_default-2.is) (sym c.is_break.ensures ∙ c.if-is_break.false)))
-    (steps.goes_longer on (HasRead c.turns.new.self) (HasRead c.text_line.new.self) r e more around kids away (sym text_is ∙ c.if-paragraph.true) (c.turns.ensures.kept (spine_at around kids away) h)))
+    let h1 = c.turns.ensures.kept (spine_at around kids away) h in
+    let h2 = c.makes_table.ensures.kept (spine_at around kids away) h1 in
+    let made = c.in_ok-makes_table.ensures.made around kids away (rest_line r e) deep clean h1 in
+    let unmade = made ∙ ap (λ b. table_tree on b away (rest_line r e)) c.if-branch.false in
+    subst (λ (x : Tree). HasRead c.text_line.new.self (spine_after around kids x)) (sym (steps.text_leaf on away r e (sym c.is_blank.ensures ∙ c.if-is_blank.false) (not_code ∙ c.if-begins_code.false) (sym c.opening_fence.ensures ∙ ap fence_if c.in_default.is) (html_is ∙ ap kind_number c.in_default-html_start.is) (sym c.heading_atx.ensures ∙ ap atx_if c.in_default-heading_atx.is) (c.in_ok-rank.ensures.turned around kids away e.ending deep clean h ∙ ap (λ o. heading_tree on o away e.ending) c.in_default-2.is) (sym c.is_break.ensures ∙ c.if-is_break.false) unmade))
+    (steps.goes_longer on (HasRead c.makes_table.new.self) (HasRead c.text_line.new.self) r e more around kids away (sym text_is ∙ c.if-paragraph.true) h2))
     c.text_line.ensures
+
+pub returns-then-is_row : goal.returns-then-is_row
+returns-then-is_row g c =
+    on_ok_weaker c.table_row.result (λ more. λ around kids away deep clean h.
+    let on = c.args.on.now in
+    let r = rest_of c.args.rest in
+    let e = c.args.beside in
+    let text_is = c.has_text-paragraph.ensures (spine_at around kids away) h ∙ steps.has_text_at around kids away in
+    let not_code = ap (λ b. starts_code_indented on r && not b) (sym text_is) ∙ sym c.begins_code.ensures in
+    let html_is = ap (λ b. html_start on b r) (sym text_is) ∙ sym c.html_start.ensures in
+    let h1 = c.turns.ensures.kept (spine_at around kids away) h in
+    let h2 = c.makes_table.ensures.kept (spine_at around kids away) h1 in
+    let made = c.in_ok-makes_table.ensures.made around kids away (rest_line r e) deep clean h1 in
+    let unmade = made ∙ ap (λ b. table_tree on b away (rest_line r e)) c.if-branch.false in
+    subst (λ (x : Tree). HasRead c.table_row.new.self (spine_after around kids x)) (sym (steps.text_leaf on away r e (sym c.is_blank.ensures ∙ c.if-is_blank.false) (not_code ∙ c.if-begins_code.false) (sym c.opening_fence.ensures ∙ ap fence_if c.in_default.is) (html_is ∙ ap kind_number c.in_default-html_start.is) (sym c.heading_atx.ensures ∙ ap atx_if c.in_default-heading_atx.is) (c.in_ok-rank.ensures.turned around kids away e.ending deep clean h ∙ ap (λ o. heading_tree on o away e.ending) c.in_default-2.is) (sym c.is_break.ensures ∙ c.if-is_break.false) unmade))
+    (steps.goes_row on (HasRead c.makes_table.new.self) (HasRead c.table_row.new.self) r e (λ around kids ls. more (OpenTable ls) ls refl around kids) around kids away (sym (c.is_row.ensures around kids away deep h2) ∙ c.if-is_row.true) h2))
+    c.table_row.ensures
 
 pub returns : goal.returns
 returns g c =
@@ -139,7 +179,11 @@ returns g c =
     let text_is = c.has_text-paragraph.ensures (spine_at around kids away) h ∙ steps.has_text_at around kids away in
     let not_code = ap (λ b. starts_code_indented on r && not b) (sym text_is) ∙ sym c.begins_code.ensures in
     let html_is = ap (λ b. html_start on b r) (sym text_is) ∙ sym c.html_start.ensures in
-    let k = c.in_ok-close_to-7.ensures.read around kids away deep clean (c.turns.ensures.kept (spine_at around kids away) h) in
-    subst (λ (x : Tree). HasRead c.text_line-2.new.self (spine_after around kids x)) (sym (steps.text_leaf on away r e (sym c.is_blank.ensures ∙ c.if-is_blank.false) (not_code ∙ c.if-begins_code.false) (sym c.opening_fence.ensures ∙ ap fence_if c.in_default.is) (html_is ∙ ap kind_number c.in_default-html_start.is) (sym c.heading_atx.ensures ∙ ap atx_if c.in_default-heading_atx.is) (c.in_ok-rank.ensures.turned around kids away e.ending deep clean h ∙ ap (λ o. heading_tree on o away e.ending) c.in_default-2.is) (sym c.is_break.ensures ∙ c.if-is_break.false)))
-    (steps.starts_text on (HasRead c.text_line-2.new.self) r e around kids away (sym text_is ∙ c.if-paragraph.false) (more around (join kids (close on away)) [] k)))
+    let h1 = c.turns.ensures.kept (spine_at around kids away) h in
+    let h2 = c.makes_table.ensures.kept (spine_at around kids away) h1 in
+    let made = c.in_ok-makes_table.ensures.made around kids away (rest_line r e) deep clean h1 in
+    let unmade = made ∙ ap (λ b. table_tree on b away (rest_line r e)) c.if-branch.false in
+    let k = c.in_ok-close_to-7.ensures.read around kids away deep clean h2 in
+    subst (λ (x : Tree). HasRead c.text_line-2.new.self (spine_after around kids x)) (sym (steps.text_leaf on away r e (sym c.is_blank.ensures ∙ c.if-is_blank.false) (not_code ∙ c.if-begins_code.false) (sym c.opening_fence.ensures ∙ ap fence_if c.in_default.is) (html_is ∙ ap kind_number c.in_default-html_start.is) (sym c.heading_atx.ensures ∙ ap atx_if c.in_default-heading_atx.is) (c.in_ok-rank.ensures.turned around kids away e.ending deep clean h ∙ ap (λ o. heading_tree on o away e.ending) c.in_default-2.is) (sym c.is_break.ensures ∙ c.if-is_break.false) unmade))
+    (steps.starts_text on (HasRead c.text_line-2.new.self) r e around kids away (sym text_is ∙ c.if-paragraph.false) (sym (c.is_row.ensures around kids away deep h2) ∙ c.if-is_row.false) (more around (join kids (close on away)) [] k)))
     c.text_line-2.ensures

@@ -3,7 +3,7 @@ use Rattle.std.proofs.lemmas.Result.{on_ok_weaker}
 use Rattle.definition_text.specs.declared.beside.Kind.{Kind}
 use Rattle.definition_block.specs.Started.{started}
 use Rattle.definition_block.specs.Tree.{Nil, Tree, tree, nothing, join, Inside, close, beside_in}
-use Rattle.block_starts.specs.View.{rest_of, started_if}
+use Rattle.block_starts.specs.View.{rest_of, container_view, started_if}
 use Rattle.block_parser.specs.Spine.{level, spine_after}
 use Rattle.block_parser.specs.View.{HasRead, new_inside}
 use Rattle.block_parser.proofs.Closing as closing
@@ -28,7 +28,7 @@ returns g c =
     let r = rest_of c.args.rest in
     let e = c.args.beside in
     let all = c.args.depth == vec_len c.args.self.now.open in
-    let s = started c.in-Some.container (rest_of c.in-Some.after) in
+    let s = started (container_view c.in-Some.container) (rest_of c.in-Some.after) in
     let some = ap (λ b. starts on b r) (sym (c.interrupts.ensures around kids away deep h)) ∙ sym c.starts.ensures ∙ ap started_if c.in-Some.is in
     let kids2 = join kids (close on away) in
     let inner = beside_in s.container r e in
@@ -37,7 +37,7 @@ returns g c =
     let start_row = c.in_ok-enter.ensures around kids2 (c.in_ok-close_to.ensures.read around kids away deep clean h) in
     let inside = c.in_ok-inside.ensures (level s.container kids2 ∷ around) Nil start_row in
     let q = c.enter_all.new.self in
-    let deeper : c.len-depth.result ≡ length inside.inner = omega (arith, c.len-depth.ensures, q.open.ok.0, ap length inside.reads.opened, closing.length-containers inside.inner) in
+    let deeper : c.len-depth.result ≡ length inside.inner = omega (arith, c.len-depth.ensures, q.open.ok.0, closing.views_length q.open.items, ap length inside.reads.opened, closing.length-containers inside.inner) in
     subst (λ (x : Tree). HasRead c.leaf_line-2.new.self (spine_after around kids x)) (sym (starting.new_some on e all away r s some))
     (closing.after_added on (HasRead c.leaf_line-2.new.self) around kids away holder
     (subst (HasRead c.leaf_line-2.new.self) (sym (starting.grown-inside on e around kids2 s.container t

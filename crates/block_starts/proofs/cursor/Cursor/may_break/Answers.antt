@@ -1,12 +1,14 @@
-use Rattle.std.proofs.Common.{◌+◌, ◌<◌, length, ap, ◌∙◌, arith}
+use Rattle.std.proofs.Common.{◌+◌, ◌<◌, length, sym, ap, ◌∙◌, arith}
 use Rattle.std.proofs.lemmas.Bool.{leb-false}
+use Rattle.std.proofs.lemmas.List.{length-drop}
 use Rattle.definition_block.specs.ThematicBreak.{is_break_text}
-use Rattle.block_starts.proofs.Views.{bytes_view}
 use Rattle.block_starts.proofs.cursor.Cursor.may_break.Goals as goal
 
 pub returns : goal.returns
 returns c = λ long.
     let s = c.args.self in
-    let same = ap length c.plain.ensures.same in
-    let more : s.tail + 0 < length s.text.now = omega (arith, leb-false _ _ long) in
-    ap is_break_text (bytes_view s c.plain.ensures.bytes) ∙ s.breaks 0 more
+    let t = s.text.now in
+    let same = ap length c.dark.ensures.same in
+    let less = length-drop s.white t in
+    let more : s.tail + s.white < length t = omega (arith, same, less, leb-false _ _ long) in
+    ap is_break_text (sym c.dark.ensures.view ∙ c.dark.ensures.same) ∙ s.breaks s.white more

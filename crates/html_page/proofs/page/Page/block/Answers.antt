@@ -1,10 +1,11 @@
 use Rattle.std.proofs.Common.{arith, ℕ, ◌<◌, ◌≡◌, ◌+◌, ◌≤◌, ◌-◌, ◌∙◌, ap, Bool, get_or, take, drop, length, string_bytes, sym, subst, List, true, false}
 use Rattle.std.specs.List.{take-map, list_all}
+use Rattle.std.proofs.lemmas.List.{length-map}
 use Rattle.std.specs.Result.{OnOk}
 use Rattle.block_rows.specs.declared.row.Row.{Row}
 use Rattle.definition_text.specs.Columns.{is_byte, bytes_of}
 use Rattle.definition_text.specs.BlockLines.{own_lines, BlockLine}
-use Rattle.definition_block.specs.Tree.{Paragraph, Heading, IndentedCode, FencedCode, Html}
+use Rattle.definition_block.specs.Tree.{Paragraph, Heading, IndentedCode, FencedCode, Html, Table}
 use Rattle.html_bytes.specs.Document.{document}
 use Rattle.block_rows.specs.ParagraphLines.{HaveNoEnding, AreLines}
 use Rattle.definition_page.specs.TextTables.{text_tables}
@@ -13,8 +14,8 @@ use Rattle.html_bytes.specs.Html.{block_pieces}
 use Rattle.block_rows.specs.Rows.{whole_lines, row_value, row_size, first_codes, piece_line, piece_lines}
 use Rattle.html_page.specs.Levels.{row_pieces, standing_of, standing_at, standing_first}
 use Rattle.html_page.specs.Prints.{layout_after}
-use Rattle.html_page.specs.Printable.{AreHeadingLines, IsPrintableRow}
-use Rattle.html_page.proofs.Lines.{first_codes_of, first_line, with_ending}
+use Rattle.html_page.specs.Printable.{AreHeadingLines, AreClear, IsTable, IsPrintableRow}
+use Rattle.html_page.proofs.Lines.{first_codes_of, first_line, with_ending, clear_with_ending, own_length}
 use Rattle.html_page.proofs.Owed.{bytes_owed}
 use Rattle.block_rows.proofs.RowSteps.{no_piece}
 use Rattle.html_page.proofs.CodeFencedLemmas.{fenced_laid, info_is}
@@ -100,6 +101,27 @@ returns-in-Html-clause-printed g c = λ ds has.
     subst (λ (row : Row). OnOk c.html_block.result (after ≡ layout_after page.default_ending before (row_pieces d c.args.level (row_value row (piece_lines lines))))) (sym c.in-Html.is)
     (subst (λ (ls : List BlockLine). OnOk c.html_block.result (after ≡ layout_after page.default_ending before (block_pieces d on_page false false (Html (own_lines ls)))))
     (sym (take-map piece_line c.in-Html.count lines)) c.html_block.ensures.printed)
+
+pub table-requires : goal.table-requires
+table-requires g c =
+    let lines = c.args.lines.now in
+    let count = c.in-Table.count in
+    let fits : IsTable (own_lines (take count (piece_lines lines))) = subst (λ (row : Row). IsPrintableRow (row_value row (piece_lines lines))) c.in-Table.is c.requires.printable in
+    omega (arith, fits.0, own_length (take count (piece_lines lines)), ap length (take-map piece_line count lines), length-map (take count lines) piece_line)
+
+pub returns-in-Table-clause-printed : goal.returns-in-Table-clause-printed
+returns-in-Table-clause-printed g c = λ ds has.
+    let d = document c.args.texts.now.options.now (text_tables (g.T.Tables.reference_of c.args.texts.now.tables.now) (g.T.Tables.punctuation_of c.args.texts.now.tables.now)) ds in
+    let page = c.args.self.now in
+    let before = string_bytes page.html in
+    let after = string_bytes c.table.new.self.html in
+    let lines = c.args.lines.now in
+    let count = c.in-Table.count in
+    let fits : IsTable (own_lines (take count (piece_lines lines))) = subst (λ (row : Row). IsPrintableRow (row_value row (piece_lines lines))) c.in-Table.is c.requires.printable in
+    let clean = clear_with_ending (piece_lines (take count lines)) (subst (λ (ls : List BlockLine). AreClear (own_lines ls)) (take-map piece_line count lines) fits.1) in
+    subst (λ (row : Row). OnOk c.table.result (after ≡ layout_after page.default_ending before (row_pieces d c.args.level (row_value row (piece_lines lines))))) (sym c.in-Table.is)
+    (subst (λ (ls : List BlockLine). OnOk c.table.result (after ≡ layout_after page.default_ending before (block_pieces d on_page false false (Table (own_lines ls)))))
+    (sym (take-map piece_line count lines)) (c.table.ensures.printed ds has clean))
 
 pub returns-in-IndentedCode-clause-printed : goal.returns-in-IndentedCode-clause-printed
 returns-in-IndentedCode-clause-printed g c = λ ds has.

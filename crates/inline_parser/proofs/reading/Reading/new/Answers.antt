@@ -12,10 +12,10 @@ returns-clause-nothing g c leads at = record {
     now_runs = [];
     outer_slots = [];
     now_slots = [];
-    rows_are = c.new.ensures.items;
-    runs_are = c.new-2.ensures.items;
-    slots_are = c.new-3.ensures.items;
-    outer = subst (λ ls. AreOpen leads at [] [] [] ls []) (sym (ap reverse c.new-4.ensures.items)) NoneOpen;
+    rows_are = c.in_ok-with_capacity.ensures.items;
+    runs_are = c.clear.ensures.items;
+    slots_are = c.clear-2.ensures.items;
+    outer = subst (λ ls. AreOpen leads at [] [] [] ls []) (sym (ap reverse c.new-3.ensures.items)) NoneOpen;
     now = container.none leads at 0;
   };
   holds_link = refl;

@@ -1,4 +1,4 @@
-use Rattle.std.proofs.Common.{IfSome, ◌≡◌, ℕ, ◌<◌, true, false, map, sym, ap, ◌∙◌, length, arith, subst, take, drop, get_or}
+use Rattle.std.proofs.Common.{IfSome, ◌≡◌, ◌⊎◌, ℕ, ◌<◌, true, false, map, sym, ap, ◌∙◌, length, arith, subst, take, drop, get_or}
 use Rattle.std.specs.Str.{IsUtf8}
 use Rattle.definition_text.specs.Content.{content_codes}
 use Rattle.definition_inline.specs.Inline.{Data}
@@ -9,6 +9,7 @@ use Rattle.definition_page.specs.InlinePieces.{leads_to}
 use Rattle.definition_page.specs.Targets.{linked_at, linked_by}
 use Rattle.inline_content.specs.View.{view_at}
 use Rattle.inline_leaves.specs.Leaves.{parts_of, found_leaf, IsAfter}
+use Rattle.inline_literals.specs.Literals.{may_begin}
 use Rattle.inline_parser.specs.Plain.{is_text_at}
 use Rattle.inline_parser.specs.Scanned.{context_by}
 use Rattle.inline_parser.proofs.Follow as follow
@@ -48,18 +49,19 @@ returns-then-size-gt0-clause-read g c ds final has f =
           ∙ follow.text_follows options names p ds source.content rest n f.now final place (omega (arith, c.text_size-size.ensures.within, ap length value))
           (subst (λ bs. (k : ℕ) → k < n → is_text_at (drop k (content_codes bs)) ≡ true) value c.text_size-size.ensures.text)
           (subst (λ bs. (k : ℕ) → k < n → get_or bs k 0 ≡ 13 → ⊥) value c.text_size-size.ensures.plain)
+          (subst (λ bs. options.constructs.gfm_autolink_literal ≡ true → (k : ℕ) → k < n → may_begin (drop k bs) ≡ false) value c.text_size-size.ensures.bare)
           (subst (λ bs. IsAfter bs (drop n bs)) value (c.text_size-size.ensures.ending c.if-size-gt0.true)) f.same;
     })
 
-pub run_or_label-requires-clause-first : goal.run_or_label-requires-clause-first
-run_or_label-requires-clause-first g c =
+pub literal_or_run-requires-clause-first : goal.literal_or_run-requires-clause-first
+literal_or_run-requires-clause-first g c =
     let source = c.args.source.now in
     let rest = c.args.self.now.rest.now in
     let n = c.text_size-size.result in
-    let none = texts.nothing_is_text rest n (omega (arith, c.if-size-gt0.false)) c.requires.some
-    (subst (λ bs. n < length bs → is_text_at (drop n (content_codes bs)) ≡ false) c.as_bytes.ensures.value c.text_size-size.ensures.stops) in
+    let stops = texts.nothing_is_text rest n (omega (arith, c.if-size-gt0.false)) c.requires.some
+    (subst (λ bs. n < length bs → (is_text_at (drop n (content_codes bs)) ≡ false) ⊎ (may_begin (drop n bs) ≡ true)) c.as_bytes.ensures.value c.text_size-size.ensures.stops) in
     follow.single_of rest (subst IsUtf8 c.as_bytes.ensures.value c.as_bytes.ensures.utf8) c.requires.some
-    (texts.special_byte source.options.now (g.T.Tables.reference_of source.tables.now) rest c.requires.some none
+    (texts.stopped source.options.now (g.T.Tables.reference_of source.tables.now) rest c.requires.some stops
     (sym c.in_ok-leaf.ensures.read ∙ ap (found_leaf rest) c.in-None.is))
 
 pub returns-in-Some-clause-read : goal.returns-in-Some-clause-read

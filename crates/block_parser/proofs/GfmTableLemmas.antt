@@ -1,0 +1,106 @@
+-- A row of delimiters under the open paragraph, and the head above it.
+use Rattle.std.proofs.Common.{◌≡◌, ℕ, ◌<◌, ◌-◌, suc, Bool, true, false, if◌then◌else◌, ◌&&◌, ◌==◌, List, [], ◌∷◌, Option, None, Some, refl, sym, ap, ◌∙◌, get_or, length, arith}
+use Rattle.std.specs.Prelude.{unwrap_or}
+use Rattle.std.specs.List.{list_any}
+use Rattle.std.proofs.lemmas.Bool.{cond-false, cond_both}
+use Rattle.markdown_options.specs.declared.configuration.Constructs.{Constructs}
+use Rattle.definition_text.specs.BlockLines.{BlockLine, own_lines, last_ending}
+use Rattle.definition_text.specs.Columns.{Rest, bare, bytes_of}
+use Rattle.definition_text.specs.Indents.{small_indent}
+use Rattle.definition_block.specs.declared.align_kind.AlignKind.{AlignKind}
+use Rattle.definition_block.specs.Definitions.{Cut, cut, cut_into, cut_most}
+use Rattle.definition_block.specs.GfmTable.{alignments_of, cells, delimiter_row, delimiters, is_bar_or_colon, is_head, line_cells, some_alignments}
+use Rattle.definition_block.specs.Tree.{Nil, Paragraph, Tree, ended, is_some_line, paragraph_of, table_if}
+use Rattle.block_rows.specs.declared.row.Piece.{Piece}
+use Rattle.block_rows.specs.Rows.{piece_line, piece_lines}
+use Rattle.definition_text.specs.declared.beside.Kind.TheVariants.{Whitespace}
+use Rattle.block_parser.specs.GfmTable.{fits, table_left}
+
+-- a paragraph of some lines
+pub paragraph_some : (ls : List BlockLine) → 0 < length ls → paragraph_of ls ≡ ended (Paragraph (own_lines ls)) (last_ending ls)
+paragraph_some [] some = absurd (omega arith)
+paragraph_some (line ∷ ls) some = refl
+
+-- the last piece is the head
+pub last_is_head : (count : ℕ) (pieces : List Piece) (d : Piece) → 0 < length pieces
+    → (length (line_cells (piece_line (get_or pieces (length pieces - 1) d))) == count) ≡ is_head count (piece_lines pieces)
+last_is_head count [] d some = absurd (omega arith)
+last_is_head count (a ∷ []) d some = refl
+last_is_head count (a ∷ b ∷ others) d some =
+    let at : length (a ∷ b ∷ others) - 1 ≡ suc (length (b ∷ others) - 1) = omega arith in
+    ap (λ i. length (line_cells (piece_line (get_or (a ∷ b ∷ others) i d))) == count) at ∙ last_is_head count (b ∷ others) d (omega arith)
+
+-- columns that are there
+pub fits_some : (columns : List AlignKind) (ls : List BlockLine) → 0 < length columns → is_head (length columns) ls ≡ fits columns ls
+fits_some [] ls some = absurd (omega arith)
+fits_some (align ∷ aligns) ls some = refl
+
+-- whether there are columns
+abbrev HasColumns : Option (List AlignKind) → Type 0
+HasColumns None = Unit {0}
+HasColumns (Some []) = ⊥
+HasColumns (Some (align ∷ aligns)) = Unit {0}
+
+some_columns : (o : Option (List AlignKind)) → HasColumns (some_alignments o)
+some_columns None = tt
+some_columns (Some []) = tt
+some_columns (Some (align ∷ aligns)) = tt
+
+row_columns : (on : Constructs) (r : Rest) → HasColumns (delimiter_row on r)
+row_columns on r =
+    let text = bytes_of (bare r) in
+    cond_both (on.gfm_table && small_indent on r) (delimiters text) None HasColumns
+    (λ _. cond_both (list_any is_bar_or_colon text) (some_alignments (alignments_of (cells Whitespace text))) None HasColumns
+    (λ _. some_columns (alignments_of (cells Whitespace text))) (λ _. tt))
+    (λ _. tt)
+
+and-swap : (a b : Bool) → (a && b) ≡ (b && a)
+and-swap true true = refl
+and-swap true false = refl
+and-swap false true = refl
+and-swap false false = refl
+
+and-none : (a : Bool) → (a && false) ≡ false
+and-none true = refl
+and-none false = refl
+
+module _ (on : Constructs) (row : BlockLine) where
+  -- a table of these lines, where both hold
+  abbrev pub table_where : Bool → List BlockLine → Option Tree
+  table_where made ls = if made then Some (table_left (cut on ls) row) else None
+
+  columns_fit : (o : Option (List AlignKind)) (ls : List BlockLine) → HasColumns o
+      → table_if on o ls row ≡ table_where (fits (unwrap_or o []) ls && is_some_line (cut on ls).left) ls
+  columns_fit None ls h = refl
+  columns_fit (Some []) ls h = absurd h
+  columns_fit (Some (align ∷ aligns)) ls h = ap (λ b. table_where b ls) (and-swap (is_some_line (cut on ls).left) (is_head (length (align ∷ aligns)) ls))
+
+  module _ (r : Rest) where
+    -- a table, where the last line has a cell for each column and some line is left
+    pub row_fits : (ls : List BlockLine) → table_if on (delimiter_row on r) ls row ≡ table_where (fits (unwrap_or (delimiter_row on r) []) ls && is_some_line (cut on ls).left) ls
+    row_fits ls = columns_fit (delimiter_row on r) ls (row_columns on r)
+
+    pub fits_not : (columns : List AlignKind) (ls : List BlockLine) → columns ≡ unwrap_or (delimiter_row on r) [] → fits columns ls ≡ false
+        → table_if on (delimiter_row on r) ls row ≡ None
+    fits_not columns ls is h = row_fits ls ∙ ap (λ b. table_where (b && is_some_line (cut on ls).left) ls) (ap (λ x. fits x ls) (sym is) ∙ h)
+
+    pub fits_so : (columns : List AlignKind) (ls : List BlockLine) (some : Bool) → columns ≡ unwrap_or (delimiter_row on r) [] → fits columns ls ≡ true
+        → some ≡ is_some_line (cut on ls).left → table_if on (delimiter_row on r) ls row ≡ table_where some ls
+    fits_so columns ls some is h left =
+        row_fits ls ∙ ap (λ b. table_where (b && is_some_line (cut on ls).left) ls) (ap (λ x. fits x ls) (sym is) ∙ h) ∙ ap (λ b. table_where b ls) (sym left)
+
+    -- no paragraph is open
+    none_cut : (b : Bool) → (if b then cut_most 0 [] else cut_into Nil []).left ≡ []
+    none_cut true = refl
+    none_cut false = refl
+
+    pub lines_not : (ls : List BlockLine) → ls ≡ [] → table_if on (delimiter_row on r) ls row ≡ None
+    lines_not ls none =
+        ap (λ x. table_if on (delimiter_row on r) x row) none ∙ row_fits []
+        ∙ ap (λ (x : List BlockLine). table_where (fits (unwrap_or (delimiter_row on r) []) [] && is_some_line x) []) (none_cut on.definition)
+        ∙ ap (λ b. table_where b []) (and-none (fits (unwrap_or (delimiter_row on r) []) []))
+
+    -- tables are off
+    pub tables_not : (ls : List BlockLine) → on.gfm_table ≡ false → table_if on (delimiter_row on r) ls row ≡ None
+    tables_not ls off =
+        ap (λ o. table_if on o ls row) (cond-false (on.gfm_table && small_indent on r) (delimiters (bytes_of (bare r))) None (ap (λ b. b && small_indent on r) off))

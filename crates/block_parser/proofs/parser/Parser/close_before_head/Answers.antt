@@ -1,0 +1,38 @@
+use Rattle.std.proofs.Common.{◌≡◌, ℕ, ◌≤◌, ◌<◌, ◌-◌, List, [], ◌∷◌, sym, refl, subst, take, drop, length, arith}
+use Rattle.std.proofs.lemmas.List.{length-map, length-take}
+use Rattle.std.proofs.lemmas.Result.{on_ok_weaker}
+use Rattle.definition_text.specs.BlockLines.{BlockLine, own_lines}
+use Rattle.definition_block.specs.Tree.{Blocks, Paragraph, Text, join, paragraph_of}
+use Rattle.block_rows.specs.Rows.{piece_lines, piece_line}
+use Rattle.block_parser.specs.Spine.{Level, spine}
+use Rattle.block_parser.specs.View.{HasRead}
+use Rattle.block_parser.proofs.GfmTableLemmas.{paragraph_some}
+use Rattle.block_parser.proofs.Leaves as leaves
+use Rattle.block_parser.proofs.Trees.{join-nil}
+use Rattle.block_parser.proofs.parser.Parser.close_before_head.Goals as goal
+
+pub returns-then-count-le1-clause-read : goal.returns-then-count-le1-clause-read
+returns-then-count-le1-clause-read g c = λ ls around kids h.
+    let p = c.args.self.now in
+    let left = leaves.all_left p.rows.rows.items p.rows.waiting.items p.rows.bare (piece_lines p.pieces.items) around kids ls h.written (leaves.enough_lines p) in
+    few ls around kids (omega (arith, left, length-map p.pieces.items piece_line, p.counted, p.pieces.ok.0, c.len.ensures, c.if-count-le1.true)) h
+  where
+    few : (ls : List BlockLine) (around : List Level) (kids : Blocks) → length ls ≤ 1 → HasRead c.args.self.now (spine around kids (Text ls))
+        → HasRead c.args.self.now (spine around (join kids (paragraph_of (take (length ls - 1) ls))) (Text (drop (length ls - 1) ls)))
+    few [] around kids le h = subst (λ (bs : Blocks). HasRead c.args.self.now (spine around bs (Text []))) (sym (join-nil kids)) h
+    few (l ∷ []) around kids le h = subst (λ (bs : Blocks). HasRead c.args.self.now (spine around bs (Text (l ∷ [])))) (sym (join-nil kids)) h
+    few (l ∷ m ∷ ls) around kids le h = absurd (omega (arith, le))
+
+pub returns-clause-read : goal.returns-clause-read
+returns-clause-read g c =
+    on_ok_weaker c.take_lines.result (λ reads. λ ls around kids h.
+    let p = c.args.self.now in
+    let left = leaves.all_left p.rows.rows.items p.rows.waiting.items p.rows.bare (piece_lines p.pieces.items) around kids ls h.written (leaves.enough_lines p) in
+    let long = length-map p.pieces.items piece_line in
+    let n = c.len.result - p.lines_in_rows - 1 in
+    let head : n ≡ length ls - 1 = omega (arith, left, long, p.counted, p.pieces.ok.0, c.len.ensures) in
+    let some : 0 < length (take n ls) = omega (arith, left, long, p.counted, p.pieces.ok.0, c.len.ensures, c.if-count-le1.false, length-take n ls) in
+    subst (λ (k : ℕ). HasRead c.take_lines.new.self (spine around (join kids (paragraph_of (take k ls))) (Text (drop k ls)))) head
+    (subst (λ (bs : Blocks). HasRead c.take_lines.new.self (spine around (join kids bs) (Text (drop n ls)))) (sym (paragraph_some (take n ls) some))
+    (reads ls (Paragraph (own_lines (take n ls))) refl refl around kids h)))
+    c.take_lines.ensures.read

@@ -1,0 +1,22 @@
+use Rattle.std.proofs.Common.{◌≡◌, ◌++◌, ◌∷◌, [], None, sym, ap, subst}
+use Rattle.definition_text.specs.BlockLines.{last_ending}
+use Rattle.definition_block.specs.Tree.{Blocks, OpenTable, rest_line}
+use Rattle.block_rows.specs.Rows.{piece_lines}
+use Rattle.block_starts.specs.View.{rest_of, container_views}
+use Rattle.block_parser.specs.Spine.{spine}
+use Rattle.block_parser.specs.Shows.{InTable, Shows}
+use Rattle.block_parser.specs.Leaves.{leaf_state}
+use Rattle.block_parser.proofs.Trees.{join-nil}
+use Rattle.block_parser.proofs.Leaves as leaves
+use Rattle.block_parser.proofs.parser.Parser.table_row.Goals as goal
+
+pub returns : goal.returns
+returns g c = λ leaf ls is around kids h.
+    let p = c.args.self.now in
+    let e = c.args.beside in
+    let l = rest_line (rest_of c.args.rest) e in
+    let more = ls ++ l ∷ [] in
+    let last : last_ending more ≡ e.ending = leaves.last_ending_or-more None ls l in
+    let k = leaves.shows_line p.rows.rows.items p.rows.waiting.items p.rows.bare (container_views p.open.items) (piece_lines p.pieces.items) (piece_lines c.push.new.self.items) (leaf_state p.leaf) (InTable e.ending) around kids leaf (OpenTable more) l
+    (leaves.enough_lines p) (leaves.piece_pushed p.pieces.items c.piece.result c.push.new.self.items l c.in_ok-push.ensures.items c.piece.ensures) (ap (λ x. x ++ l ∷ []) (sym is)) (ap InTable (sym last)) h in
+    subst (λ (bs : Blocks). Shows p.rows.rows.items p.rows.waiting.items p.rows.bare (container_views p.open.items) (piece_lines c.push.new.self.items) (InTable e.ending) (spine around bs (OpenTable more))) (sym (join-nil kids)) k

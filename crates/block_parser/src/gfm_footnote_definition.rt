@@ -1,0 +1,35 @@
+//! Footnote definitions (in neither standard).
+//!
+//!     footnote ::= label block*
+
+use crate::parser::Parser;
+use block_rows::Piece;
+use definition_block::Container;
+use definition_text::Kind;
+use std::alloc::{AllocError, Allocator};
+
+impl<'a, A: Allocator> Parser<'a, A> {
+    ghost use Rattle.std.specs.Prelude.{OnOk, List, ◌∷◌, []};
+    ghost use Rattle.definition_block.specs.Container.{Footnote};
+    ghost use Rattle.definition_block.specs.Tree.{Blocks, Nil, Text as TextLeaf};
+    ghost use Rattle.block_parser.specs.Spine.{Level, level, spine};
+    ghost use Rattle.block_parser.specs.View.{HasRead};
+
+    /// A footnote definition starts, where no leaf is open. Its label is a line of its own.
+    pub(crate) fn enter_footnote(&mut self, label: &'a str) -> Result<(), AllocError>
+        ensures { OnOk result ((around : List Level) (kids : Blocks) → HasRead self.old (spine around kids (TextLeaf [])) →
+            HasRead self.new (spine (level (Footnote label.entry.now) kids ∷ around) Nil (TextLeaf []))) }
+    {
+        let container = Container::Footnote(label);
+        self.pieces.push(Piece {
+            text: label,
+            owed: 0,
+            ending: None,
+            before: Kind::Whitespace,
+        })?;
+        self.rows.enter(container)?;
+        self.lines_in_rows += 1;
+        self.open.push(container)?;
+        Ok(())
+    }
+}

@@ -1,0 +1,187 @@
+//! Tables (GFM 4.10).
+//!
+//!     table ::= head delimiters row*, where the head is the last line of a paragraph, and the row of
+//!               delimiters is in all containers of that and has as many cells
+//!     row   ::= a line that is in all containers, which is not blank, and which no other block begins
+ghost use Rattle.std.specs.Prelude.{◌≡◌, [], OnOk, unwrap_or};
+ghost use Rattle.definition_block.specs.GfmTable.{delimiter_row, is_head as heads};
+ghost use Rattle.definition_text.specs.Columns.{bytes_of};
+ghost use Rattle.block_rows.specs.Rows.{piece_line, piece_lines};
+ghost use Rattle.block_starts.specs.View.{rest_of};
+
+use crate::leaf::OpenLeaf;
+use crate::parser::{Parser, piece};
+use block_cells::{has_cells, read_delimiters};
+use block_rows::{Piece, Row};
+use block_starts::Cursor;
+use block_starts::indent::is_small;
+use definition_block::AlignKind;
+use definition_text::{Beside, Kind};
+use markdown_options::{Constructs, LineEnding};
+use std::alloc::{AllocError, Allocator};
+
+impl<'a, A: Allocator> Parser<'a, A> {
+    ghost use Rattle.std.specs.Prelude.{◌≡◌, ◌==◌, ◌&&◌, ◌-◌, ◌++◌, ◌∷◌, [], true, IfOk, OnOk, List, drop, take, length, vec_len};
+    ghost use Rattle.markdown_options.specs.declared.configuration.Constructs.{Constructs as ConstructsOf};
+    ghost use Rattle.definition_text.specs.BlockLines.{BlockLine, last_ending};
+    ghost use Rattle.definition_block.specs.Definitions.{cut};
+    ghost use Rattle.definition_block.specs.GfmTable.{delimiter_row};
+    ghost use Rattle.definition_block.specs.Tree.{Blocks, Nil, tree, Opening, Leaf as OpenedLeaf, Text as TextLeaf, OpenTable as TableLeaf};
+    ghost use Rattle.definition_block.specs.Tree.{OpenLeaf as OpenLeafOf, close_leaf, paragraph_of, rest_line, open_text, text_here, table_if, is_table_leaf, has_table};
+    ghost use Rattle.block_rows.specs.ParagraphLines.{AreLines};
+    ghost use Rattle.block_rows.specs.Rows.{piece_lines};
+    ghost use Rattle.block_parser.specs.GfmTable.{fits, table_left, table_tree};
+    ghost use Rattle.block_parser.specs.HeadingSetext.{IsText};
+    ghost use Rattle.block_parser.specs.Shows.{leaf_lines};
+    ghost use Rattle.block_parser.specs.Spine.{Level, Spine, spine_at};
+    ghost use Rattle.block_parser.specs.View.{Becomes, Closes, HasRead};
+    ghost use Rattle.block_starts.specs.View.{rest_of};
+
+    /// Whether a rest is a row of delimiters under the last line of the open paragraph, where the
+    /// line is in so many containers, which are all of them.
+    pub(crate) fn makes_table(
+        &mut self,
+        on: &Constructs,
+        depth: usize,
+        rest: Cursor<'a>,
+    ) -> Result<bool, AllocError>
+        ensures made { IfOk result (λ made. (around : List Level) (kids : Blocks) (away : Opening) (row : BlockLine) → depth ≡ length around →
+            AreLines (open_text away) → HasRead self.old (spine_at around kids away) →
+            table_if on.now (delimiter_row on.now (rest_of rest.entry)) (text_here away) row ≡ table_tree on.now made away row) }
+        ensures here { IfOk result (λ made. (around : List Level) (kids : Blocks) (away : Opening) → depth ≡ length around →
+            HasRead self.old (spine_at around kids away) → made ≡ true → IsText away) }
+        ensures kept { (s : Spine) → HasRead self.old s → HasRead self.new s }
+        ensures containers { self.new.open ≡ self.old.open }
+    {
+        if !on.gfm_table {
+            return Ok(false);
+        }
+        if !self.interrupts(depth) {
+            return Ok(false);
+        }
+        read_row(&mut self.aligns, on, rest)?;
+        if !self.has_head() {
+            return Ok(false);
+        }
+        self.leaves_text(on)
+    }
+
+    /// Whether the last line of the open paragraph has a cell for each column, of which there is one
+    /// at least.
+    fn has_head(&self) -> bool
+        ensures { result ≡ fits self.now.aligns.items (drop self.now.lines_in_rows (piece_lines self.now.pieces.items)) }
+    {
+        let columns = self.aligns.len();
+        columns > 0 && is_head(&self.pieces[self.lines_in_rows..], columns)
+    }
+
+    /// The last line that is left of the open paragraph after its definitions becomes the head of a
+    /// table, with this row of delimiters. Those before it are a paragraph.
+    pub(crate) fn start_table(
+        &mut self,
+        on: &Constructs,
+        rest: Cursor<'a>,
+        beside: Beside,
+    ) -> Result<(), AllocError>
+        ensures { OnOk result ((ls : List BlockLine) → AreLines ls →
+            Becomes self.old self.new (TextLeaf ls) (table_left (cut on.now ls) (rest_line (rest_of rest.entry) beside))) }
+    {
+        self.cut_definitions(on)?;
+        self.close_before_head()?;
+        self.table_row(rest, beside)
+    }
+
+    /// The lines of the open paragraph before its last one are a paragraph, if there are any.
+    fn close_before_head(&mut self) -> Result<(), AllocError>
+        ensures read { OnOk result ((ls : List BlockLine) → let head = length ls - 1 in
+            Becomes self.old self.new (TextLeaf ls) (tree (paragraph_of (take head ls)) (OpenedLeaf (TextLeaf (drop head ls))))) }
+        ensures containers { self.new.open ≡ self.old.open }
+    {
+        let count = self.pieces.len() - self.lines_in_rows;
+        if count <= 1 {
+            return Ok(());
+        }
+        self.take_lines(Row::Paragraph(count - 1), count - 1)
+    }
+
+    /// One more line of a table.
+    pub(crate) fn table_row(&mut self, rest: Cursor<'a>, beside: Beside) -> Result<(), AllocError>
+        ensures { OnOk result ((leaf : OpenLeafOf) (ls : List BlockLine) → leaf_lines leaf ≡ ls →
+            Becomes self.old self.new leaf (tree Nil (OpenedLeaf (TableLeaf (ls ++ rest_line (rest_of rest.entry) beside ∷ []))))) }
+    {
+        self.pieces.push(piece(rest, beside))?;
+        self.leaf = OpenLeaf::Table {
+            ending: beside.ending,
+        };
+        Ok(())
+    }
+
+    /// Whether a table is open, and a line that is in so many containers is in all of its.
+    pub(crate) fn is_row(&self, depth: usize) -> bool
+        ensures { (around : List Level) (kids : Blocks) (away : Opening) → depth ≡ length around → HasRead self.now (spine_at around kids away) →
+            result ≡ has_table away }
+    {
+        depth == self.open.len() && self.has_table()
+    }
+
+    /// Whether a table is open.
+    fn has_table(&self) -> bool
+        ensures { (s : Spine) → HasRead self.now s → result ≡ is_table_leaf s.leaf }
+    {
+        match self.leaf {
+            OpenLeaf::Text => false,
+            OpenLeaf::Indented { .. } => false,
+            OpenLeaf::Fenced { .. } => false,
+            OpenLeaf::Html { .. } => false,
+            OpenLeaf::Table { .. } => true,
+        }
+    }
+
+    pub(crate) fn close_table(&mut self, ending: Option<LineEnding>) -> Result<(), AllocError>
+        ensures read { OnOk result ((switches : ConstructsOf) (ls : List BlockLine) → ending ≡ last_ending ls →
+            Closes self.old self.new (TableLeaf ls) (close_leaf switches (TableLeaf ls))) }
+        ensures containers { self.new.open ≡ self.old.open }
+    {
+        let count = self.pieces.len() - self.lines_in_rows;
+        self.end_leaf(Row::Table(count), ending)
+    }
+}
+
+/// Makes `aligns` how the columns of a table are aligned, where a rest is a row of delimiters;
+/// otherwise it is empty then.
+fn read_row<A: Allocator>(
+    aligns: &mut Vec<AlignKind, A>,
+    on: &Constructs,
+    rest: Cursor<'_>,
+) -> Result<(), AllocError>
+    ensures { OnOk result (aligns.new.items ≡ unwrap_or (delimiter_row on.now (rest_of rest.entry)) []) }
+{
+    let (columns, bare) = rest.split_bare();
+    if on.gfm_table && is_small(on, columns) {
+        return read_delimiters(aligns, line_of(bare));
+    }
+    aligns.clear();
+    Ok(())
+}
+
+/// The bytes of a rest as a line.
+fn line_of(rest: Cursor<'_>) -> Piece<'_>
+    ensures { (piece_line result).codes ≡ bytes_of (rest_of rest.entry) }
+{
+    Piece {
+        text: rest.text(),
+        owed: 0,
+        ending: None,
+        before: Kind::Whitespace,
+    }
+}
+
+/// Whether the last of these lines has so many cells.
+fn is_head(lines: &[Piece<'_>], columns: usize) -> bool
+    ensures { result ≡ heads columns (piece_lines lines.now) }
+{
+    match lines.last() {
+        Some(line) => has_cells(*line, columns),
+        None => false,
+    }
+}

@@ -1,0 +1,103 @@
+//! Footnote definitions (in neither standard).
+//!
+//!     start     ::= small_indent '[^' label ']:' white*
+//!     label     ::= ('\' ('[' | ']' | '\') | byte without brackets and white space){1,999}
+//!     continues ::= column_of_space{4}, or a blank rest
+ghost use Rattle.std.specs.Prelude.{◌≡◌, true};
+ghost use Rattle.definition_text.specs.Columns.{bare};
+ghost use Rattle.definition_block.specs.BlockQuote.{after_byte as rest_after};
+ghost use Rattle.definition_block.specs.GfmFootnoteDefinition.{footnote_mark as footnote_mark_of, footnote_start as footnote_starts, footnote_continues as footnote_goes_on};
+ghost use Rattle.definition_block.specs.Tree.{kind_after_label};
+ghost use Rattle.block_starts.specs.Labels.{is_short};
+ghost use Rattle.block_starts.specs.Marks.{is_mark};
+ghost use Rattle.block_starts.specs.GfmFootnoteDefinition.{mark_if};
+ghost use Rattle.block_starts.specs.View.{rest_of, rest_if, started_if};
+
+use crate::cursor::Cursor;
+use crate::indent::is_small;
+use crate::list_item::item_continues;
+use definition_block::Container;
+use definition_text::Kind;
+use markdown_options::Constructs;
+use markdown_options::constants::{LINK_REFERENCE_SIZE_MAX, TAB_SIZE};
+
+/// The marker of a footnote definition: its label, and the rest after its colon.
+#[derive(Clone, Copy)]
+pub(crate) struct Mark<'a> {
+    label: &'a str,
+    rest: Cursor<'a>,
+}
+
+/// The footnote definition that starts here, and the rest after what starts it.
+pub(crate) fn footnote_start<'a>(
+    on: &Constructs,
+    rest: Cursor<'a>,
+) -> Option<(Container<'a>, Cursor<'a>)>
+    ensures { started_if result ≡ footnote_starts on.now (rest_of rest.entry) }
+{
+    if !on.gfm_footnote_definition {
+        return None;
+    }
+    let (columns, bare) = rest.split_bare();
+    if !is_small(on, columns) {
+        return None;
+    }
+    let mark = footnote_mark(bare)?;
+    let (_, content) = mark.rest.split_bare();
+    Some((Container::Footnote(mark.label), content))
+}
+
+/// The marker that a rest begins with.
+fn footnote_mark(rest: Cursor<'_>) -> Option<Mark<'_>>
+    ensures { mark_if result ≡ footnote_mark_of (rest_of rest.entry) }
+{
+    let bracket = after_byte(b'[', rest)?;
+    let open = after_byte(b'^', bracket)?;
+    let (label, after) = open.split_label()?;
+    if !is_short(label) {
+        return None;
+    }
+    let rest = after_byte(b':', after)?;
+    Some(Mark { label, rest })
+}
+
+/// At least one byte, and at most 999.
+fn is_short(label: &str) -> bool
+    ensures { result ≡ is_short label.now }
+{
+    !label.is_empty() && label.len() <= LINK_REFERENCE_SIZE_MAX
+}
+
+/// The rest after a byte of a marker, where it begins with it.
+fn after_byte(byte: u8, rest: Cursor<'_>) -> Option<Cursor<'_>>
+    requires { is_mark byte ≡ true }
+    ensures { rest_if result ≡ rest_after byte (rest_of rest.entry) }
+{
+    let Some((first, after)) = rest.split_first() else {
+        return None;
+    };
+    if first == byte { Some(after) } else { None }
+}
+
+/// The rest after four columns, where it goes on.
+pub(crate) fn footnote_continues(rest: Cursor<'_>) -> Option<Cursor<'_>>
+    ensures { rest_if result ≡ footnote_goes_on (rest_of rest.entry) }
+{
+    item_continues(TAB_SIZE, false, rest)
+}
+
+/// The kind of the character before the content: white space, or the colon of a label with none
+/// after it.
+pub(crate) fn kind_after_label(rest: Cursor<'_>) -> Kind
+    ensures { result ≡ kind_after_label (footnote_mark_of (bare (rest_of rest.entry))) }
+{
+    let (_, bare) = rest.split_bare();
+    let Some(mark) = footnote_mark(bare) else {
+        return Kind::Whitespace;
+    };
+    if mark.rest.indent() > 0 {
+        Kind::Whitespace
+    } else {
+        Kind::Punctuation
+    }
+}

@@ -1,0 +1,50 @@
+//! Calls of footnotes (in no standard; as GitHub prints them).
+//!
+//!     call ::= '<sup><a href="#' footnote '" id="' call '" data-footnote-ref="" aria-describedby="footnote-label">' number '</a></sup>'
+ghost use Rattle.html_bytes.specs.GfmLabelStartFootnote.{call_html, call_tag};
+ghost use Rattle.html_escape.specs.Prints.{Prints};
+ghost use Rattle.html_footnotes.specs.Footnotes.{call_view};
+
+use crate::ids::{push_call_id, push_footnote_id};
+use markdown_options::CompileOptions;
+use std::alloc::{AllocError, Allocator};
+
+/// A call of a footnote.
+#[derive(Clone, Copy)]
+pub struct Call<'a> {
+    /// The label of its footnote as labels are matched.
+    pub label: &'a str,
+    /// The number of that footnote.
+    pub number: usize,
+    /// Which of its calls it is, from 1 on.
+    pub count: usize,
+}
+
+/// Prints a call.
+pub fn push_call<A: Allocator>(
+    out: &mut String<A>,
+    compile: &CompileOptions,
+    call: Call<'_>,
+) -> Result<(), AllocError>
+    ensures { Prints result out.old out.new (call_html compile.now (call_view call.entry)) }
+{
+    push_call_tag(out, compile, call)?;
+    write!(out, "{}", call.number)?;
+    out.push_str("</a></sup>")
+}
+
+/// Prints the start tags of a call.
+fn push_call_tag<A: Allocator>(
+    out: &mut String<A>,
+    compile: &CompileOptions,
+    call: Call<'_>,
+) -> Result<(), AllocError>
+    ensures { Prints result out.old out.new (call_tag compile.now (call_view call.entry)) }
+{
+    out.push_str("<sup><a href=\"#")?;
+    push_footnote_id(out, compile, call.label)?;
+    out.push_str("\" id=\"")?;
+    push_call_id(out, compile, call.label, call.count)?;
+    out.push_str("\" data-footnote-ref=\"\" aria-describedby=\"footnote-label\">")?;
+    Ok(())
+}

@@ -1,0 +1,66 @@
+//! Ids of footnotes and of their calls.
+//!
+//!     footnote ::= prefix 'fn-' label
+//!     call     ::= prefix 'fnref-' label ('-' count)?, with a count from the second call on
+ghost use Rattle.std.specs.Prelude.{◌≡◌};
+ghost use Rattle.definition_page.specs.GfmLabelStartFootnote.{text_or};
+ghost use Rattle.html_bytes.specs.GfmLabelStartFootnote.{call_id, count_of, footnote_id};
+ghost use Rattle.html_escape.specs.Prints.{Prints};
+
+use html_escape::{push_encoded, push_sanitized};
+use markdown_options::CompileOptions;
+use std::alloc::{AllocError, Allocator};
+
+/// A text of the options, or this one.
+pub(crate) fn text_or<'a>(text: &'a Option<String>, default: &'a str) -> &'a str
+    ensures { result.now ≡ text_or text.now default.now }
+{
+    match text {
+        None => default,
+        Some(text) => text.as_str(),
+    }
+}
+
+/// Prints the id of a footnote.
+pub(crate) fn push_footnote_id<A: Allocator>(
+    out: &mut String<A>,
+    compile: &CompileOptions,
+    label: &str,
+) -> Result<(), AllocError>
+    ensures { Prints result out.old out.new (footnote_id compile.now label.now) }
+{
+    push_encoded(
+        out,
+        text_or(&compile.gfm_footnote_clobber_prefix, "user-content-"),
+    )?;
+    out.push_str("fn-")?;
+    push_sanitized(out, label)
+}
+
+/// Prints the id of a call, which is the `count`th of its footnote.
+pub(crate) fn push_call_id<A: Allocator>(
+    out: &mut String<A>,
+    compile: &CompileOptions,
+    label: &str,
+    count: usize,
+) -> Result<(), AllocError>
+    ensures { Prints result out.old out.new (call_id compile.now label.now count) }
+{
+    push_encoded(
+        out,
+        text_or(&compile.gfm_footnote_clobber_prefix, "user-content-"),
+    )?;
+    out.push_str("fnref-")?;
+    push_sanitized(out, label)?;
+    push_count(out, count)
+}
+
+/// Prints what tells the calls of one footnote apart.
+fn push_count<A: Allocator>(out: &mut String<A>, count: usize) -> Result<(), AllocError>
+    ensures { Prints result out.old out.new (count_of count) }
+{
+    if count <= 1 {
+        return Ok(());
+    }
+    write!(out, "-{count}")
+}

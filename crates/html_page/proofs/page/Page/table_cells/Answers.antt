@@ -1,0 +1,63 @@
+use Rattle.std.proofs.Common.{◌≡◌, ◌∷◌, [], ◌+◌, List, refl, sym, ap, ◌∙◌, string_bytes, drop, get_or}
+use Rattle.std.proofs.lemmas.List.{drop_more, drop_all}
+use Rattle.markdown_options.specs.declared.line_ending.LineEnding.{LineEnding}
+use Rattle.markdown_options.specs.LineEndings.{ending_bytes}
+use Rattle.html_bytes.specs.Document.{document}
+use Rattle.definition_page.specs.TextTables.{text_tables}
+use Rattle.definition_block.specs.declared.align_kind.AlignKind.{AlignKind}
+use Rattle.definition_block.specs.declared.align_kind.AlignKind.TheVariants as kind
+use Rattle.definition_block.specs.GfmTable.{line_cells}
+use Rattle.block_cells.specs.GfmTable.{cells_left}
+use Rattle.block_rows.specs.Rows.{piece_line}
+use Rattle.html_bytes.specs.GfmTable.{cells_pieces}
+use Rattle.html_page.specs.GfmTable.{CellsAreClear, next_cell_pieces}
+use Rattle.html_page.specs.Prints.{layout_after}
+use Rattle.html_page.proofs.GfmTableLemmas.{cells_clear, cells_more, clear_taken, no_columns}
+use Rattle.std.proofs.Common.{subst}
+use Rattle.html_page.proofs.page.Page.table_cells.Goals as goal
+
+pub loop-align-init : goal.loop-align-init
+loop-align-init g c =
+    let line = piece_line c.args.line.now in
+    record {
+      same_default = refl;
+      clear = λ clear. subst CellsAreClear (sym c.new-cells.ensures) (cells_clear line clear);
+      printed = λ ds has clear.
+          let d = document c.args.texts.now.options.now (text_tables (g.T.Tables.reference_of c.args.texts.now.tables.now) (g.T.Tables.punctuation_of c.args.texts.now.tables.now)) ds in
+          ap (λ cs. layout_after c.args.self.now.default_ending (string_bytes c.args.self.now.html) (cells_pieces d c.args.name.now c.args.aligns.now cs)) c.new-cells.ensures;
+    }
+
+pub loop-align-preserved : goal.loop-align-preserved
+loop-align-preserved g c =
+    let aligns = c.args.aligns.now in
+    let name = c.args.name.now in
+    let i = c.loop-align.align-index in
+    let e = c.args.self.now.default_ending in
+    let k = c.loop-align.invariant in
+    let cs = cells_left c.loop-align.cells in
+    let left = cells_left c.next-cell.new.self in
+    let cell = c.next-cell.result in
+    let align : AlignKind = get_or aligns i kind.Left in
+    record {
+      same_default = c.in_ok-next_cell.ensures.default ∙ k.same_default;
+      clear = λ clear. (clear_taken cs left cell c.next-cell.ensures.steps (k.clear clear)).1;
+      printed = λ ds has clear.
+          let d = document c.args.texts.now.options.now (text_tables (g.T.Tables.reference_of c.args.texts.now.tables.now) (g.T.Tables.punctuation_of c.args.texts.now.tables.now)) ds in
+          let here = string_bytes c.loop-align.self.html in
+          let ps = next_cell_pieces d name align cell in
+          let rest = drop (i + 1) aligns in
+          ap (λ x. layout_after e x (cells_pieces d name rest left))
+          (c.in_ok-next_cell.ensures.printed ds has (clear_taken cs left cell c.next-cell.ensures.steps (k.clear clear)).0
+          ∙ ap (λ (x : LineEnding). layout_after x here ps) k.same_default)
+          ∙ sym (cells_more (ending_bytes e) d name align rest cs left cell here c.next-cell.ensures.steps)
+          ∙ ap (λ columns. layout_after e here (cells_pieces d name columns cs)) (sym (drop_more aligns i kind.Left c.loop-align-test.true))
+          ∙ k.printed ds has clear;
+    }
+
+pub returns-clause-printed : goal.returns-clause-printed
+returns-clause-printed g c = λ ds has clear.
+    let d = document c.args.texts.now.options.now (text_tables (g.T.Tables.reference_of c.args.texts.now.tables.now) (g.T.Tables.punctuation_of c.args.texts.now.tables.now)) ds in
+    let aligns = c.args.aligns.now in
+    let e = c.args.self.now.default_ending in
+    no_columns aligns c.loop-align.align-index (ending_bytes e) d c.args.name.now (cells_left c.loop-align.cells) (string_bytes c.loop-align.self.html) c.loop-align-test.false
+    ∙ c.loop-align.invariant.printed ds has clear

@@ -1,0 +1,44 @@
+use Rattle.std.proofs.Common.{◌≡◌, ◌++◌, ◌∷◌, [], List, Option, sym, ap, ◌∙◌, string_bytes, take, get_or, ◌+◌}
+use Rattle.std.specs.List.{flat_map}
+use Rattle.std.proofs.lemmas.List.{map_more}
+use Rattle.markdown_options.specs.declared.line_ending.LineEnding.{LineEnding}
+use Rattle.markdown_options.specs.LineEndings.{ending_bytes}
+use Rattle.html_bytes.specs.Document.{document}
+use Rattle.definition_page.specs.TextTables.{text_tables}
+use Rattle.std.specs.Prelude.{codes}
+use Rattle.definition_text.specs.BlockLines.{BlockLine, own_lines, last_ending}
+use Rattle.definition_text.specs.Lines.{ending_text}
+use Rattle.block_rows.proofs.OwnLines.{last_ending_more}
+use Rattle.block_rows.proofs.RowSteps.{no_piece}
+use Rattle.block_rows.specs.Rows.{piece_line, piece_lines}
+use Rattle.html_bytes.specs.GfmTable.{row_pieces, body_row_pieces}
+use Rattle.html_page.specs.Prints.{layout_after}
+use Rattle.html_page.proofs.GfmTableLemmas.{rows_more, clear_at}
+use Rattle.html_page.proofs.page.Page.table_rows.Goals as goal
+
+pub loop-row-preserved : goal.loop-row-preserved
+loop-row-preserved g c =
+    let lines = c.args.rows.now in
+    let aligns = c.args.aligns.now in
+    let i = c.loop-row.row-index in
+    let e = c.args.self.now.default_ending in
+    let start = string_bytes c.args.self.now.html in
+    let before = piece_lines (take i lines) in
+    let line : BlockLine = piece_line (get_or lines i no_piece) in
+    let k = c.loop-row.invariant in
+    let more : piece_lines (take (i + 1) lines) ≡ before ++ line ∷ [] = map_more piece_line lines i _ c.loop-row-test.true in
+    let same = c.in_ok-push_ending.ensures.default ∙ k.same_default in
+    record {
+      same_default = c.in_ok-table_line.ensures.default ∙ same;
+      printed = λ ds has clear.
+          let d = document c.args.texts.now.options.now (text_tables (g.T.Tables.reference_of c.args.texts.now.tables.now) (g.T.Tables.punctuation_of c.args.texts.now.tables.now)) ds in
+          let row = row_pieces d (codes "td") aligns line in
+          let so_far = layout_after e start (flat_map (body_row_pieces d aligns) (own_lines before)) in
+          c.in_ok-table_line.ensures.printed ds has (clear_at lines i no_piece c.loop-row-test.true clear)
+          ∙ ap (λ (x : LineEnding). layout_after x (string_bytes c.push_ending.new.self.html) row) same
+          ∙ ap (λ x. layout_after e x row) (c.in_ok-push_ending.ensures.printed ∙ ap (λ x. x ++ ending_text c.loop-row.waiting) (k.printed ds has clear))
+          ∙ ap (λ (o : Option LineEnding). layout_after e (so_far ++ ending_text o) row) k.waits
+          ∙ rows_more (ending_bytes e) d aligns before line start
+          ∙ ap (λ ls. layout_after e start (flat_map (body_row_pieces d aligns) (own_lines ls))) (sym more);
+      waits = sym (ap last_ending more ∙ last_ending_more before line);
+    }

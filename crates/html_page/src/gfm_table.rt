@@ -1,0 +1,232 @@
+//! Tables (GFM 4.10).
+//!
+//!     table ::= head delimiters row*
+//!
+//! A row has a cell for each delimiter: those that are missing are empty, and more aren't printed.
+ghost use Rattle.std.specs.Prelude.{◌≡◌, ◌≤◌, ◌++◌, List, OnOk, codes, length};
+ghost use Rattle.std.specs.List.{flat_map};
+ghost use Rattle.definition_inline.specs.Definition.{Definition};
+ghost use Rattle.definition_text.specs.BlockLines.{own_lines};
+ghost use Rattle.definition_block.specs.GfmTable.{line_cells};
+ghost use Rattle.block_rows.specs.ParagraphLines.{HaveNoEnding};
+ghost use Rattle.block_rows.specs.Rows.{piece_line, piece_lines};
+ghost use Rattle.block_cells.specs.GfmTable.{cell_view};
+ghost use Rattle.html_bytes.specs.GfmTable.{align_of, cell_tag as tag_of_cell, cell_end as end_of_cell, cell_pieces, missing_pieces, cells_pieces};
+ghost use Rattle.html_bytes.specs.GfmTable.{row_pieces, body_row_pieces, body_pieces, head_pieces, table_pieces};
+ghost use Rattle.html_contents.specs.Texts.{HasDefinitions, document_by};
+ghost use Rattle.html_page.specs.GfmTable.{IsClearIf, next_cell_pieces};
+ghost use Rattle.html_page.specs.Printable.{AreClear};
+ghost use Rattle.html_page.specs.Prints.{LaysOut, Prints};
+
+use crate::page::Page;
+use block_cells::{Cell, Cells, read_delimiters};
+use block_rows::Piece;
+use definition_block::AlignKind;
+use html_contents::Texts;
+use markdown_options::{LineEnding, Tables};
+use std::alloc::{AllocError, Allocator};
+
+impl<A: Allocator + Clone> Page<A> {
+    /// Prints a table of these lines: its head, its row of delimiters, and the rows of its body.
+    pub(crate) fn table<T: Tables>(
+        &mut self,
+        texts: &Texts<'_, T, A>,
+        lines: &[Piece<'_>],
+    ) -> Result<(), AllocError>
+        requires { 2 ≤ length lines.now }
+        ensures default { self.new.default_ending ≡ self.old.default_ending }
+        ensures printed { (ds : List Definition) → HasDefinitions texts.now.labels.now texts.now.links.now ds → AreClear (piece_lines lines.now) →
+            OnOk result (LaysOut self.old self.new (table_pieces (document_by T.Tables texts.now ds) (own_lines (piece_lines lines.now)))) }
+    {
+        let mut aligns = Vec::new(self.buffers.alloc.clone()?);
+        read_delimiters(&mut aligns, lines[1])?;
+        self.fresh()?;
+        self.html.push_str("<table>")?;
+        self.fresh()?;
+        self.table_head(texts, &aligns, &lines[0])?;
+        self.table_body(texts, &aligns, lines[1].ending, &lines[2..])?;
+        self.fresh()?;
+        self.html.push_str("</table>")
+    }
+
+    /// Prints the head, with the ending of its line.
+    fn table_head<T: Tables>(
+        &mut self,
+        texts: &Texts<'_, T, A>,
+        aligns: &[AlignKind],
+        line: &Piece<'_>,
+    ) -> Result<(), AllocError>
+        ensures default { self.new.default_ending ≡ self.old.default_ending }
+        ensures printed { (ds : List Definition) → HasDefinitions texts.now.labels.now texts.now.links.now ds → HaveNoEnding (piece_line line.now).codes →
+            OnOk result (LaysOut self.old self.new (head_pieces (document_by T.Tables texts.now ds) aligns.now (piece_line line.now))) }
+    {
+        self.html.push_str("<thead>")?;
+        self.table_line(texts, "th", aligns, line)?;
+        self.push_ending(line.ending)?;
+        self.fresh()?;
+        self.html.push_str("</thead>")
+    }
+
+    /// Prints the body, if it has rows, after the ending of the row of delimiters.
+    fn table_body<T: Tables>(
+        &mut self,
+        texts: &Texts<'_, T, A>,
+        aligns: &[AlignKind],
+        ending: Option<LineEnding>,
+        rows: &[Piece<'_>],
+    ) -> Result<(), AllocError>
+        ensures default { self.new.default_ending ≡ self.old.default_ending }
+        ensures printed { (ds : List Definition) → HasDefinitions texts.now.labels.now texts.now.links.now ds → AreClear (piece_lines rows.now) →
+            OnOk result (LaysOut self.old self.new (body_pieces (document_by T.Tables texts.now ds) aligns.now ending (own_lines (piece_lines rows.now)))) }
+    {
+        if rows.is_empty() {
+            return Ok(());
+        }
+        self.push_ending(ending)?;
+        self.html.push_str("<tbody>")?;
+        self.table_rows(texts, aligns, rows)?;
+        self.fresh()?;
+        self.html.push_str("</tbody>")
+    }
+
+    /// Prints the rows of a body without the last ending.
+    fn table_rows<T: Tables>(
+        &mut self,
+        texts: &Texts<'_, T, A>,
+        aligns: &[AlignKind],
+        rows: &[Piece<'_>],
+    ) -> Result<(), AllocError>
+        ensures default { self.new.default_ending ≡ self.old.default_ending }
+        ensures printed { (ds : List Definition) → HasDefinitions texts.now.labels.now texts.now.links.now ds → AreClear (piece_lines rows.now) →
+            OnOk result (LaysOut self.old self.new
+            (flat_map (body_row_pieces (document_by T.Tables texts.now ds) aligns.now) (own_lines (piece_lines rows.now)))) }
+    {
+        let mut waiting = None;
+        for row in rows {
+            self.push_ending(waiting)?;
+            self.table_line(texts, "td", aligns, row)?;
+            waiting = row.ending;
+        }
+        Ok(())
+    }
+
+    /// Prints a row without its ending, by the name of its cells' tags.
+    fn table_line<T: Tables>(
+        &mut self,
+        texts: &Texts<'_, T, A>,
+        name: &str,
+        aligns: &[AlignKind],
+        line: &Piece<'_>,
+    ) -> Result<(), AllocError>
+        ensures default { self.new.default_ending ≡ self.old.default_ending }
+        ensures printed { (ds : List Definition) → HasDefinitions texts.now.labels.now texts.now.links.now ds → HaveNoEnding (piece_line line.now).codes →
+            OnOk result (LaysOut self.old self.new (row_pieces (document_by T.Tables texts.now ds) name.now aligns.now (piece_line line.now))) }
+    {
+        self.fresh()?;
+        self.html.push_str("<tr>")?;
+        self.table_cells(texts, name, aligns, line)?;
+        self.fresh()?;
+        self.html.push_str("</tr>")
+    }
+
+    /// Prints the cells of a row, one for each column.
+    fn table_cells<T: Tables>(
+        &mut self,
+        texts: &Texts<'_, T, A>,
+        name: &str,
+        aligns: &[AlignKind],
+        line: &Piece<'_>,
+    ) -> Result<(), AllocError>
+        ensures default { self.new.default_ending ≡ self.old.default_ending }
+        ensures printed { (ds : List Definition) → HasDefinitions texts.now.labels.now texts.now.links.now ds → HaveNoEnding (piece_line line.now).codes →
+            OnOk result (LaysOut self.old self.new
+            (cells_pieces (document_by T.Tables texts.now ds) name.now aligns.now (line_cells (piece_line line.now)))) }
+    {
+        let mut cells = Cells::new(*line);
+        for align in aligns {
+            let cell = cells.next();
+            self.next_cell(texts, name, *align, cell)?;
+        }
+        Ok(())
+    }
+
+    /// Prints the cell of a column, or an empty one where it is missing.
+    fn next_cell<T: Tables>(
+        &mut self,
+        texts: &Texts<'_, T, A>,
+        name: &str,
+        align: AlignKind,
+        cell: Option<Cell<'_>>,
+    ) -> Result<(), AllocError>
+        ensures default { self.new.default_ending ≡ self.old.default_ending }
+        ensures printed { (ds : List Definition) → HasDefinitions texts.now.labels.now texts.now.links.now ds → IsClearIf cell.entry →
+            OnOk result (LaysOut self.old self.new (next_cell_pieces (document_by T.Tables texts.now ds) name.now align cell.entry)) }
+    {
+        match cell {
+            Some(cell) => self.cell(texts, name, align, &cell),
+            None => self.missing_cell(name, align),
+        }
+    }
+
+    /// Prints a cell.
+    fn cell<T: Tables>(
+        &mut self,
+        texts: &Texts<'_, T, A>,
+        name: &str,
+        align: AlignKind,
+        cell: &Cell<'_>,
+    ) -> Result<(), AllocError>
+        ensures default { self.new.default_ending ≡ self.old.default_ending }
+        ensures printed { (ds : List Definition) → HasDefinitions texts.now.labels.now texts.now.links.now ds →
+            HaveNoEnding (piece_line cell.now.line).codes →
+            OnOk result (LaysOut self.old self.new (cell_pieces (document_by T.Tables texts.now ds) name.now align (cell_view cell.now))) }
+    {
+        self.fresh()?;
+        self.cell_tag(name, align)?;
+        texts.push_cell(&mut self.html, &mut self.buffers, cell)?;
+        self.cell_end(name)
+    }
+
+    /// Prints a cell that is missing.
+    fn missing_cell(&mut self, name: &str, align: AlignKind) -> Result<(), AllocError>
+        ensures default { self.new.default_ending ≡ self.old.default_ending }
+        ensures printed { OnOk result (LaysOut self.old self.new (missing_pieces name.now align)) }
+    {
+        self.fresh()?;
+        self.cell_tag(name, align)?;
+        self.cell_end(name)
+    }
+
+    /// Prints the tag of a cell.
+    fn cell_tag(&mut self, name: &str, align: AlignKind) -> Result<(), AllocError>
+        ensures default { self.new.default_ending ≡ self.old.default_ending }
+        ensures printed { OnOk result (Prints self.old self.new (tag_of_cell name.now align)) }
+    {
+        self.html.push_str("<")?;
+        self.html.push_str(name)?;
+        self.html.push_str(align_attribute(align))?;
+        self.html.push_str(">")
+    }
+
+    /// Prints the end of a cell.
+    fn cell_end(&mut self, name: &str) -> Result<(), AllocError>
+        ensures default { self.new.default_ending ≡ self.old.default_ending }
+        ensures printed { OnOk result (Prints self.old self.new (end_of_cell name.now)) }
+    {
+        self.html.push_str("</")?;
+        self.html.push_str(name)?;
+        self.html.push_str(">")
+    }
+}
+
+/// The attribute of a cell in a column that is aligned.
+fn align_attribute(align: AlignKind) -> &'static str
+    ensures { result.now ≡ align_of align }
+{
+    match align {
+        AlignKind::Left => " align=\"left\"",
+        AlignKind::Right => " align=\"right\"",
+        AlignKind::Center => " align=\"center\"",
+        AlignKind::None => "",
+    }
+}

@@ -1,0 +1,4 @@
+//! The virtual text beside the codes of a content.
+#![tactic(auto)]
+
+pub mod text_codes;

@@ -1,0 +1,10 @@
+use Rattle.inline_parser.proofs.LiteralFronts.{IsFree}
+use Rattle.std.proofs.Common.{◌-◌, length}
+use Rattle.inline_parser.proofs.plain.next_start_or_literal.Given as goal
+
+-- nothing starts before here
+abbrev pub invariant-loop-at : goal.invariant-loop-at
+invariant-loop-at l = IsFree l.bytes l.at
+
+abbrev pub decreases-loop-at : goal.decreases-loop-at
+decreases-loop-at l = length l.bytes - l.at

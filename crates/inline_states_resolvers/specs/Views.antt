@@ -1,0 +1,13 @@
+-- What the runs' resolver holds, as its definition has it.
+use Rattle.engine_edits.specs.Edits.{edits_of}
+use Rattle.inline_runs.specs.View.{runs_view}
+use Rattle.inline_states_resolvers.specs.declared.attention.Search.{Search}
+use Rattle.inline_states_resolvers.specs.declared.attention.Writing.{Writing}
+use Rattle.inline_states_resolvers.specs.Attention.{Sought, Written}
+
+module _ {A : Type 0} where
+  abbrev pub written_view : Writing A → Written
+  written_view w = record { events = w.events.items; point = w.point }
+
+  abbrev pub sought_view : Search A → Sought
+  sought_view s = record { entries = s.entries.items; runs = runs_view s.runs.items; starts = s.starts.items; edits = edits_of s.edits }

@@ -1,0 +1,4 @@
+pub mod Turns
+pub mod Seen
+pub mod EscapeReads
+pub mod BreakReads

@@ -1,0 +1,32 @@
+-- What an attempt comes to, beside what the definition says.
+use Rattle.std.specs.Prelude.{◌≡◌, ℕ, Bool, true, false, List, [], ◌++◌, drop, Option, None, Some}
+use Rattle.definition_inline.specs.Inline.{Leaf}
+use Rattle.engine_events.specs.declared.event.Event.{Event}
+use Rattle.engine_events.specs.declared.place.Point.{Point}
+use Rattle.engine_events.specs.declared.state.State.{State}
+use Rattle.markdown_engine.specs.Context.{Context}
+use Rattle.markdown_engine.specs.Reading.{Config, Runs}
+use Rattle.markdown_engine.specs.VirtualText.{Text}
+use Rattle.engine_programs.specs.Bodies.{step_by}
+use Rattle.inline_states.specs.declared.inlines.Inlines.{Inlines}
+use Rattle.inline_states.specs.Inlines.{bodies}
+use Rattle.inline_codes.specs.Codes.{Sees}
+
+-- these events were added, and reading is at this place; of what else is kept once an attempt went well nothing has changed
+pub record Made (c d : Config Inlines) (added : List Event) (p : Point) : Type 0 where
+  pub events : d.events ≡ c.events ++ added
+  pub point : d.point ≡ p
+  pub kept : d.tokenize_state ≡ c.tokenize_state
+  pub map : d.map ≡ c.map
+  pub resolvers : d.resolvers ≡ c.resolvers
+
+module _ {T : Type 0} (texts : List ℕ → Option (List ℕ)) (is_punctuation : ℕ → Bool) (x : Context T) (text : Text) where
+  -- with no attempt that waits, reading comes to this
+  unfoldable pub Reads : Config Inlines → State → Config Inlines → Bool → Type 0
+  Reads c s d w = Runs text (step_by (bodies texts is_punctuation x)) c [] s d w
+
+  -- the attempt fails where the definition has nothing; otherwise it goes well, with these events, up to where what the leaf leaves of the codes is seen
+  abbrev pub Verdict : Config Inlines → State → List ℕ → (Point → List Event) → (Point → Point) → Option Leaf → Type 0
+  Verdict c s codes events stands None = (d : Config Inlines) × Reads c s d false
+  Verdict c s codes events stands (Some leaf) =
+      (d : Config Inlines) × (end : Point) × Reads c s d true × Made c d (events end) (stands end) × Sees text end (drop leaf.size codes)

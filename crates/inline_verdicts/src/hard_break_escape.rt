@@ -1,0 +1,8 @@
+//! Hard line breaks by a backslash (CommonMark 6.7).
+ghost use Rattle.inline_verdicts.specs.HardBreakEscape.{BreakVerdict};
+
+/// An attempt at a hard break goes well exactly where the definition has one, with its events and up
+/// to its end, in a content that doesn't end in a line ending.
+pub fn hard_break_escape_verdict<T>()
+    ensures { BreakVerdict T }
+{}

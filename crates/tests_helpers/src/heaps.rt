@@ -1,0 +1,42 @@
+//! Heaps of a fixed size, in which memory runs out.
+ghost use Rattle.std.specs.Prelude.{◌≡◌, true};
+ghost use Rattle.markdown_options.specs.Built.{is_built};
+
+use linked_list_allocator::LocalHeap;
+use markdown::{Builtin, Options, RunError, Watched, run};
+use std::alloc::Global;
+
+/// How much a heap grows from one run to the next, which is less than most requests.
+const STEP: usize = 32;
+
+/// The reader's buffer, which is asked for first.
+const BUFFER: usize = 65536;
+
+/// How many times a heap may grow until it has more than a row needs.
+const STEPS: usize = 2048;
+
+/// Whether a text is printed in a heap of some size, and each smaller one refuses it with nothing
+/// written.
+pub(crate) fn prints_in_growing_heaps(
+    alloc: Global,
+    text: &str,
+    want: &str,
+    options: &Options,
+) -> Result<bool, RunError>
+    requires { is_built options.now.parse.constructs ≡ true }
+{
+    for steps in 0..STEPS {
+        let size = BUFFER - STEP + steps * STEP;
+        let heap = LocalHeap::new(alloc, size).map_err(|_| RunError::Memory)?;
+        let mut reader = Watched::new(text.as_bytes());
+        let mut writer = Watched::new(Vec::new(alloc));
+        let result = run(&heap, &mut reader, &mut writer, options, &Builtin);
+        let out = writer.into_inner();
+        match result {
+            Ok(()) => return Ok(out.as_slice() == want.as_bytes()),
+            Err(RunError::Memory) if out.is_empty() => {}
+            Err(_) => return Ok(false),
+        }
+    }
+    Ok(false)
+}

@@ -1,0 +1,107 @@
+//! Rows of inline structure, spelled.
+use inline_leaves::LeafPart;
+use inline_rows::{InlineRow, LinkTarget};
+use inline_runs::Span;
+use std::test::Fail;
+
+/// What leads to a definition, by its place.
+pub fn push_definition(out: &mut Vec<u8>, place: usize) -> Result<(), Fail> {
+    out.extend_from_slice(b"#")?;
+    out.push((place % 10) as u8 + b'0')?;
+    Ok(())
+}
+
+/// What leads to a resource.
+pub fn push_resource(
+    out: &mut Vec<u8>,
+    destination: &[u8],
+    title: Option<&[u8]>,
+) -> Result<(), Fail> {
+    out.extend_from_slice(b"(")?;
+    out.extend_from_slice(destination)?;
+    if let Some(title) = title {
+        out.extend_from_slice(b"\x03")?;
+        out.extend_from_slice(title)?;
+    }
+    out.extend_from_slice(b")")?;
+    Ok(())
+}
+
+/// Something with a text of its own.
+pub fn push_part(out: &mut Vec<u8>, name: &[u8], text: &[u8]) -> Result<(), Fail> {
+    out.extend_from_slice(b"\x01")?;
+    out.extend_from_slice(name)?;
+    out.extend_from_slice(text)?;
+    out.extend_from_slice(b"\x02")?;
+    Ok(())
+}
+
+fn push_target(out: &mut Vec<u8>, target: &LinkTarget<'_>) -> Result<(), Fail> {
+    match target {
+        LinkTarget::Definition(place) => push_definition(out, *place),
+        LinkTarget::Resource(linked) => push_resource(
+            out,
+            linked.destination.as_bytes(),
+            linked.title.map(|title| title.as_bytes()),
+        ),
+    }
+}
+
+fn push_leaf(out: &mut Vec<u8>, part: &LeafPart<'_>) -> Result<(), Fail> {
+    match part {
+        LeafPart::Escape(text) => push_part(out, b"escape ", text.as_bytes()),
+        LeafPart::Character(text) => push_part(out, b"character ", text.as_bytes()),
+        LeafPart::Number { radix, digits } => {
+            let name: &[u8] = if *radix == 16 {
+                b"hexadecimal "
+            } else {
+                b"decimal "
+            };
+            push_part(out, name, digits.as_bytes())
+        },
+        LeafPart::Code(text) => push_part(out, b"code ", text.as_bytes()),
+        LeafPart::Math(text) => push_part(out, b"math ", text.as_bytes()),
+        LeafPart::Unclosed(text) => {
+            out.extend_from_slice(text.as_bytes())?;
+            Ok(())
+        },
+        LeafPart::Autolink { text, .. } => push_part(out, b"autolink ", text.as_bytes()),
+        LeafPart::Literal { text, .. } => push_part(out, b"literal ", text.as_bytes()),
+        LeafPart::Html(text) => push_part(out, b"html ", text.as_bytes()),
+        LeafPart::EscapedBreak => push_part(out, b"break", b"\\"),
+        LeafPart::TrailingBreak => push_part(out, b"break", b" "),
+        LeafPart::LineEnd(_) => push_part(out, b"ending", b""),
+        LeafPart::Spaces => Ok(()),
+    }
+}
+
+fn push_row(out: &mut Vec<u8>, row: &InlineRow<'_>) -> Result<(), Fail> {
+    match row {
+        InlineRow::Text(text) => {
+            out.extend_from_slice(text.as_bytes())?;
+            Ok(())
+        },
+        InlineRow::Leaf(part) => push_leaf(out, part),
+        InlineRow::EnterSpan(Span::Emphasis) => push_part(out, b"+", b"emphasis"),
+        InlineRow::EnterSpan(Span::Strong) => push_part(out, b"+", b"strong"),
+        InlineRow::EnterSpan(Span::Strikethrough) => push_part(out, b"+", b"strikethrough"),
+        InlineRow::EnterLink(target) => {
+            push_part(out, b"+", b"link")?;
+            push_target(out, target)
+        },
+        InlineRow::EnterImage(target) => {
+            push_part(out, b"+", b"image")?;
+            push_target(out, target)
+        },
+        InlineRow::Exit => push_part(out, b"-", b""),
+    }
+}
+
+/// Rows, spelled.
+pub fn spelled(rt: &HostRuntime, rows: &[InlineRow<'_>]) -> Result<Vec<u8>, Fail> {
+    let mut out = Vec::new(rt.alloc());
+    for row in rows {
+        push_row(&mut out, row)?;
+    }
+    Ok(out)
+}

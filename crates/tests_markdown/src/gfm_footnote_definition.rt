@@ -1,0 +1,158 @@
+//! Footnote definitions: the rows of texts, and the lines that they take.
+
+use block_parser::block_rows;
+use block_rows::Row;
+use definition_text::Kind;
+use markdown::{Constructs, LineEnding};
+use std::alloc::AllocError;
+
+/// Texts of one line, and the label of the footnote definition that begins each, if one does.
+const STARTS: [(&str, Option<&str>); 18] = [
+    ("[^a]: b", Some("a")),
+    ("   [^a]: b", Some("a")),
+    ("    [^a]: b", None),
+    ("[^a]:b", Some("a")),
+    ("[^a]:", Some("a")),
+    ("[^a]:\t\tb", Some("a")),
+    ("[^a] : b", None),
+    ("[^a]", None),
+    ("[^]: b", None),
+    ("[^ ]: b", None),
+    ("[^a b]: c", None),
+    ("[^a\tb]: c", None),
+    ("[^a[b]: c", None),
+    ("[^a\\]b\\\\]: c", Some("a\\]b\\\\")),
+    ("[^é]: b", Some("é")),
+    ("[^^]: b", Some("^")),
+    ("[a]: b", None),
+    ("[ ^a]: b", None),
+];
+
+/// Rows of texts.
+const ROWS: [(&str, &[Row]); 8] = [
+    ("[^a]: b", &[FOOTNOTE, ONE, Row::Exit, END]),
+    // lines that are indented by four columns go on, a lazy line too
+    (
+        "[^a]: b\n    c\nd",
+        &[FOOTNOTE, Row::Paragraph(3), Row::Exit, END],
+    ),
+    // over blank lines, right after the label too
+    (
+        "[^a]:\n\n    b\n\nc",
+        &[
+            FOOTNOTE,
+            BLANK,
+            BLANK,
+            ONE,
+            Row::Exit,
+            LINE,
+            BLANK,
+            ONE,
+            END,
+        ],
+    ),
+    // a paragraph is interrupted
+    ("a\n[^b]:c", &[ONE, LINE, FOOTNOTE, ONE, Row::Exit, END]),
+    // no indented code right after the label
+    ("[^a]:     b", &[FOOTNOTE, ONE, Row::Exit, END]),
+    // in a quote, and with a quote in it
+    (
+        "> [^a]: > b",
+        &[
+            Row::EnterQuote,
+            FOOTNOTE,
+            Row::EnterQuote,
+            ONE,
+            Row::Exit,
+            Row::Exit,
+            Row::Exit,
+            END,
+        ],
+    ),
+    // one in another
+    (
+        "[^a]:[^b]: c",
+        &[FOOTNOTE, FOOTNOTE, ONE, Row::Exit, Row::Exit, END],
+    ),
+    // definitions of links stand in it
+    (
+        "[^a]: [b]: c",
+        &[FOOTNOTE, Row::Definition(1), Row::Exit, END],
+    ),
+];
+
+const FOOTNOTE: Row = Row::EnterFootnote;
+
+const ONE: Row = Row::Paragraph(1);
+
+const LINE: Row = Row::Ending(Some(LineEnding::LineFeed));
+
+const BLANK: Row = Row::Blank(Some(LineEnding::LineFeed));
+
+const END: Row = Row::Ending(None);
+
+fn with_footnotes() -> Constructs {
+    Constructs {
+        gfm_footnote_definition: true,
+        ..Constructs::default()
+    }
+}
+
+#[test]
+fn tells_labels(rt: HostRuntime) -> Result<(), AllocError> {
+    let on = with_footnotes();
+    for (text, label) in STARTS {
+        let blocks = block_rows(rt.alloc(), Kind::Whitespace, text, &on)?;
+        let starts = blocks.rows[0] == Row::EnterFootnote;
+        assert_eq!(rt; starts, label.is_some(), "at {text:?}");
+        if let Some(label) = label {
+            assert_eq!(rt; blocks.pieces[0].text, label, "at {text:?}");
+        }
+    }
+    Ok(())
+}
+
+#[test]
+fn reads_rows(rt: HostRuntime) -> Result<(), AllocError> {
+    let on = with_footnotes();
+    for (text, rows) in ROWS {
+        let blocks = block_rows(rt.alloc(), Kind::Whitespace, text, &on)?;
+        assert_eq!(rt; blocks.rows.as_slice(), rows, "at {text:?}");
+    }
+    Ok(())
+}
+
+#[test]
+fn labels_have_at_most_999_bytes(rt: HostRuntime) -> Result<(), AllocError> {
+    let on = with_footnotes();
+    for (count, starts) in [(999, true), (1000, false)] {
+        let mut text = String::new(rt.alloc());
+        text.push_str("[^")?;
+        for _ in 0..count {
+            text.push_str("a")?;
+        }
+        text.push_str("]: b")?;
+        let blocks = block_rows(rt.alloc(), Kind::Whitespace, &text, &on)?;
+        assert_eq!(rt;
+            blocks.rows[0] == Row::EnterFootnote,
+            starts,
+            "of {count} bytes"
+        );
+    }
+    Ok(())
+}
+
+#[test]
+fn none_starts_where_the_construct_is_off(rt: HostRuntime) -> Result<(), AllocError> {
+    let blocks = block_rows(
+        rt.alloc(),
+        Kind::Whitespace,
+        "[^a]: b",
+        &Constructs::default(),
+    )?;
+    assert_eq!(rt;
+        blocks.rows.as_slice(),
+        [Row::Definition(1), END].as_slice()
+    );
+    Ok(())
+}
