@@ -1,10 +1,10 @@
 //! Footnote definitions: the rows of texts, and the lines that they take.
 
-use block_parser::block_rows;
+use block_parser::{BlockRows, block_rows};
 use block_rows::Row;
 use definition_text::Kind;
-use markdown::{Constructs, LineEnding};
-use std::alloc::AllocError;
+use markdown::{Constructs, LineEnding, fits};
+use std::alloc::{AllocError, Global};
 
 /// Texts of one line, and the label of the footnote definition that begins each, if one does.
 const STARTS: [(&str, Option<&str>); 18] = [
@@ -98,16 +98,20 @@ fn with_footnotes() -> Constructs {
     }
 }
 
+/// The label of the footnote definition that a text begins with, if one does.
+fn first_label<'a>(blocks: &BlockRows<'a, Global>) -> Option<&'a str> {
+    match (blocks.rows.first(), blocks.pieces.first()) {
+        (Some(Row::EnterFootnote), Some(piece)) => Some(piece.text),
+        _ => None,
+    }
+}
+
 #[test]
 fn tells_labels(rt: HostRuntime) -> Result<(), AllocError> {
     let on = with_footnotes();
     for (text, label) in STARTS {
         let blocks = block_rows(rt.alloc(), Kind::Whitespace, text, &on)?;
-        let starts = blocks.rows[0] == Row::EnterFootnote;
-        assert_eq!(rt; starts, label.is_some(), "at {text:?}");
-        if let Some(label) = label {
-            assert_eq!(rt; blocks.pieces[0].text, label, "at {text:?}");
-        }
+        assert_eq!(rt; first_label(&blocks), label, "at {text:?}");
     }
     Ok(())
 }
@@ -132,12 +136,11 @@ fn labels_have_at_most_999_bytes(rt: HostRuntime) -> Result<(), AllocError> {
             text.push_str("a")?;
         }
         text.push_str("]: b")?;
+        if !fits(&text) {
+            continue;
+        }
         let blocks = block_rows(rt.alloc(), Kind::Whitespace, &text, &on)?;
-        assert_eq!(rt;
-            blocks.rows[0] == Row::EnterFootnote,
-            starts,
-            "of {count} bytes"
-        );
+        assert_eq!(rt; first_label(&blocks).is_some(), starts, "of {count} bytes");
     }
     Ok(())
 }
