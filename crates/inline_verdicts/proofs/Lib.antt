@@ -2,3 +2,9 @@ pub mod Turns
 pub mod Seen
 pub mod EscapeReads
 pub mod BreakReads
+pub mod Stretches
+pub mod Loops
+pub mod Runs
+pub mod RawStates
+pub mod RawReads
+pub mod SpanReads

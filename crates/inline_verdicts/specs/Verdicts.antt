@@ -5,6 +5,7 @@ use Rattle.engine_events.specs.declared.event.Event.{Event}
 use Rattle.engine_events.specs.declared.place.Point.{Point}
 use Rattle.engine_events.specs.declared.state.State.{State}
 use Rattle.markdown_engine.specs.Context.{Context}
+use Rattle.markdown_engine.specs.Kept.{Kept}
 use Rattle.markdown_engine.specs.Reading.{Config, Runs}
 use Rattle.markdown_engine.specs.VirtualText.{Text}
 use Rattle.engine_programs.specs.Bodies.{step_by}
@@ -12,13 +13,17 @@ use Rattle.inline_states.specs.declared.inlines.Inlines.{Inlines}
 use Rattle.inline_states.specs.Inlines.{bodies}
 use Rattle.inline_codes.specs.Codes.{Sees}
 
--- these events were added, and reading is at this place; of what else is kept once an attempt went well nothing has changed
-pub record Made (c d : Config Inlines) (added : List Event) (p : Point) : Type 0 where
+-- these events were added, this is kept, and reading is at this place; of what else stays once an attempt went well nothing has changed
+pub record Leaves (c d : Config Inlines) (keeps : Kept) (added : List Event) (p : Point) : Type 0 where
   pub events : d.events ≡ c.events ++ added
   pub point : d.point ≡ p
-  pub kept : d.tokenize_state ≡ c.tokenize_state
+  pub kept : d.tokenize_state ≡ keeps
   pub map : d.map ≡ c.map
   pub resolvers : d.resolvers ≡ c.resolvers
+
+-- the same, where nothing else is kept than before
+abbrev pub Made : Config Inlines → Config Inlines → List Event → Point → Type 0
+Made c d added p = Leaves c d c.tokenize_state added p
 
 module _ {T : Type 0} (texts : List ℕ → Option (List ℕ)) (is_punctuation : ℕ → Bool) (x : Context T) (text : Text) where
   -- with no attempt that waits, reading comes to this

@@ -1,0 +1,25 @@
+-- What the states of math come to (in neither standard).
+use Rattle.std.specs.Prelude.{ℕ, ◌<◌, ◌^◌, Bool, if◌then◌else◌, List, ◌∷◌, length, Option, None, Some}
+use Rattle.definition_inline.specs.MathText.{math_text_at}
+use Rattle.engine_events.specs.declared.event.Name.TheVariants as names
+use Rattle.engine_events.specs.declared.place.Point.{Point}
+use Rattle.engine_events.specs.declared.state.Inline.TheVariants as inline_states
+use Rattle.markdown_engine.specs.Context.{Context}
+use Rattle.markdown_engine.specs.Reading.{Config, with_byte}
+use Rattle.markdown_engine.specs.VirtualText.{Text, as_byte}
+use Rattle.inline_states_table.specs.Words.{retry}
+use Rattle.inline_states_leaves.specs.RawText.{begins_run}
+use Rattle.inline_states.specs.declared.inlines.Inlines.{Inlines}
+use Rattle.inline_codes.specs.Codes.{Sees}
+use Rattle.inline_verdicts.specs.RawText.{SpanNames, SpanVerdict, of_span}
+
+abbrev pub math_names : SpanNames
+math_names = record { whole = names.MathText; sequence = names.MathTextSequence; content = names.MathTextData }
+
+-- at a dollar, after which these codes are seen, math is read exactly where a run begins and the definition has a span
+abbrev pub MathTextVerdict : Type 0 → Type 0
+MathTextVerdict T =
+    (texts : List ℕ → Option (List ℕ)) (is_punctuation : ℕ → Bool) (x : Context T) (text : Text) (c : Config Inlines) (p q : Point) (cs : List ℕ)
+    → length (36 ∷ cs) < 2 ^ 64 → Sees text q cs
+    → SpanVerdict texts is_punctuation x text math_names 36 (with_byte c p (Some (as_byte 36 q))) (retry inline_states.RawTextStart) p q (36 ∷ cs)
+    (if begins_run 36 c then of_span (math_text_at x.options (36 ∷ cs)) else None)

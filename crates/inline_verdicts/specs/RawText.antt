@@ -1,0 +1,72 @@
+-- What the states of code and math come to (CommonMark 6.1).
+use Rattle.std.specs.Prelude.{◌≡◌, ℕ, ◌+◌, ◌<◌, Bool, true, false, not, if◌then◌else◌, ◌==◌, ◌||◌, List, [], ◌∷◌, ◌++◌, drop, Option, None, Some}
+use Rattle.definition_inline.specs.Inline.{Inline, Leaf, Data}
+use Rattle.engine_events.specs.Events.{event}
+use Rattle.engine_events.specs.declared.event.Event.{Event}
+use Rattle.engine_events.specs.declared.event.Kind.TheVariants.{Enter, Exit}
+use Rattle.engine_events.specs.declared.event.Name.{Name as EventName}
+use Rattle.engine_events.specs.declared.event.Name.TheVariants as names
+use Rattle.engine_events.specs.declared.place.Point.{Point}
+use Rattle.engine_events.specs.declared.state.State.{State}
+use Rattle.markdown_engine.specs.Context.{Context}
+use Rattle.markdown_engine.specs.Kept.{Kept}
+use Rattle.markdown_engine.specs.Reading.{Config}
+use Rattle.markdown_engine.specs.VirtualText.{Text, as_byte}
+use Rattle.inline_states.specs.declared.inlines.Inlines.{Inlines}
+use Rattle.inline_codes.specs.Codes.{Sees}
+use Rattle.inline_verdicts.specs.Stretch.{Stretch}
+use Rattle.inline_verdicts.specs.Verdicts.{Leaves, Reads}
+
+-- the names of the events of a span: of all of it, of a run of its byte, and of what stands between
+pub record SpanNames : Type 0 where
+  pub whole : EventName
+  pub sequence : EventName
+  pub content : EventName
+
+-- an event from a place to another, and then more
+abbrev pub piece : EventName → Point → Point → List Event → List Event
+piece name p q events = event Enter name p None ∷ event Exit name q None ∷ events
+
+-- a byte that is neither a line ending nor this one
+abbrev pub is_other : ℕ → ℕ → Bool
+is_other marker b = not ((b == 10) || (b == marker))
+
+-- the events from a place up to the end of a run of exactly so many of a byte: each line ending, each run of another size, and each stretch between these
+pub data Pieces (text : Text) (given : SpanNames) (marker size : ℕ) : Point → List Event → Point → Type 0 where
+  closing : {p q : Point} → Stretch text (λ b. b == marker) size p q → Pieces text given marker size p (piece given.sequence (text.start p) (text.start q) []) q
+  run : {n : ℕ} {p q r : Point} {events : List Event} → 0 < n → (n == size) ≡ false → Stretch text (λ b. b == marker) n p q → Pieces text given marker size q events r
+      → Pieces text given marker size p (piece given.sequence (text.start p) (text.start q) events) r
+  ending : {p q r : Point} {events : List Event} → text.byte (text.start p) ≡ Some (as_byte 10 q) → Pieces text given marker size q events r → Pieces text given marker size p (piece names.LineEnding (text.start p) q events) r
+  others : {n : ℕ} {p q r : Point} {events : List Event} → 0 < n → Stretch text (is_other marker) n p q → Pieces text given marker size q events r
+      → Pieces text given marker size p (piece given.content (text.start p) (text.start q) events) r
+
+-- these are the events of a span: its first byte is at a place, others like it follow, and its end is found
+pub record IsSpan (text : Text) (given : SpanNames) (marker : ℕ) (p q : Point) (size : ℕ) (added : List Event) (end : Point) : Type 0 where
+  pub further : ℕ
+  pub opened : Point
+  pub inside : List Event
+  pub all : size ≡ further + 1
+  pub opening : Stretch text (λ b. b == marker) further q opened
+  pub pieces : Pieces text given marker size opened inside end
+  pub events : added ≡ event Enter given.whole p None ∷ piece given.sequence p (text.start opened) (inside ++ event Exit given.whole (text.start end) None ∷ [])
+
+-- what is kept once a span was read, or so many bytes of its end
+abbrev pub spanning : SpanNames → ℕ → ℕ → ℕ → Kept → Kept
+spanning given marker size size_b k = record k { marker = marker; size = size; size_b = size_b; token_1 = given.whole; token_2 = given.sequence; token_3 = given.content }
+
+abbrev pub is_text : List Inline → Bool
+is_text (Data code ∷ parts) = true
+is_text parts = false
+
+-- a leaf that is a span: a run that opens none is text
+abbrev pub of_span : Option Leaf → Option Leaf
+of_span None = None
+of_span (Some leaf) = if is_text leaf.parts then None else Some leaf
+
+module _ {T : Type 0} (texts : List ℕ → Option (List ℕ)) (is_punctuation : ℕ → Bool) (x : Context T) (text : Text) where
+  -- the attempt fails where there is no span; otherwise it goes well, with the span's events, up to where what it leaves of the codes is seen
+  abbrev pub SpanVerdict : SpanNames → ℕ → Config Inlines → State → Point → Point → List ℕ → Option Leaf → Type 0
+  SpanVerdict given marker c s p q codes None = (d : Config Inlines) × Reads texts is_punctuation x text c s d false
+  SpanVerdict given marker c s p q codes (Some leaf) =
+      (d : Config Inlines) × (size : ℕ) × (added : List Event) × (end : Point) × Reads texts is_punctuation x text c s d true × IsSpan text given marker p q size added end
+      × Leaves c d (spanning given marker size size c.tokenize_state) added (text.start end) × Sees text end (drop leaf.size codes)
