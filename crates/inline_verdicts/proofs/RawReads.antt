@@ -33,7 +33,7 @@ use Rattle.inline_verdicts.specs.Stretch.{Stretch, ended, longer}
 use Rattle.inline_verdicts.specs.Verdicts.{Reads}
 use Rattle.inline_verdicts.proofs.Loops.{At, Over, byte_at, end_at, fed, goes_to, over, stays_to, still_at, stops}
 use Rattle.inline_verdicts.proofs.RawStates
-use Rattle.inline_verdicts.proofs.Runs.{at_run, past_other, past_others, past_run}
+use Rattle.inline_verdicts.proofs.Runs.{at_run, past_other, past_others, past_run, run_within}
 use Rattle.inline_verdicts.proofs.Seen.{seen_feed}
 use Rattle.inline_verdicts.proofs.Stretches.{Part, Run, eol_differs, filled, part_seen, run_seen, seen_as_itself, sight}
 use Rattle.inline_verdicts.proofs.Turns.{on_retry}
@@ -338,13 +338,6 @@ module _ {T : Type 0} (texts : List ℕ → Option (List ℕ)) (is_punctuation :
       sized true code cs same wanted = sym (at_run m n some code cs true same wanted)
       sized false code cs same wanted = past_run m n some cs ∙ sym (at_run m n some code cs false same wanted)
 
-      run_within : (cs : List ℕ) → run_length m cs ≤ length cs
-      run_within [] = omega arith
-      run_within (c ∷ cs) = elim (cases_Bool (c == m)) [
-        | inl h ↦ let k = run_within cs in rw h (omega (arith, k))
-        | inr h ↦ rw h (omega arith)
-      ]
-
       -- so many codes at most are read
       abbrev pub Short : ℕ → Type 0
       Short size = (cs : List ℕ) → length cs ≤ size → length cs < 2 ^ 64 → Goes cs
@@ -369,7 +362,7 @@ module _ {T : Type 0} (texts : List ℕ → Option (List ℕ)) (is_punctuation :
           → Outcome c (retry inline_states.RawTextBetween) es (Pieces text given m n q) (run_of m n false (code ∷ cs))
       run_by size short c q r es b code cs few low h at e same s is wanted =
           let f = run_seen text (λ i. i == m) no_tab (seen_as_itself m plain_code) cs s in
-          let all : run_length m cs ≤ length cs = run_within cs in
+          let all : run_length m cs ≤ length cs = run_within m cs in
           subst (λ (o : Option (List ℕ)). Outcome c (retry inline_states.RawTextBetween) es (Pieces text given m n q) o) (sized is code cs same wanted)
           (run_reads es b c code cs is wanted (omega (arith, all, low)) e f h at (short (after_run m cs) (few_left (run_length m cs) size cs few) (few_bytes (run_length m cs) cs (omega (arith, low)))))
 

@@ -39,6 +39,14 @@ module _ (m n : ℕ) (some : 0 < n) where
     | inr h ↦ ap (run_of m n false) (rest_none (λ b. b == m) c cs h) ∙ (past_other false c cs h ∙ sym (past_other true c cs h))
   ]
 
+-- a run is no longer than the codes
+pub run_within : (m : ℕ) (cs : List ℕ) → run m cs ≤ length cs
+run_within m [] = omega arith
+run_within m (c ∷ cs) = elim (cases_Bool (c == m)) [
+  | inl h ↦ let k = run_within m cs in rw h (omega (arith, k))
+  | inr h ↦ rw h (omega arith)
+]
+
 -- what is found is a rest of the codes
 pub record IsRest (cs found : List ℕ) : Type 0 where
   pub count : ℕ
