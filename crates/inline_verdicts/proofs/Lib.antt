@@ -8,3 +8,4 @@ pub mod Runs
 pub mod RawStates
 pub mod RawReads
 pub mod SpanReads
+pub mod CodeReads

@@ -1,12 +1,12 @@
 -- States that go on over a stretch of bytes.
-use Rattle.std.proofs.Common.{◌≡◌, ◌∙◌, ℕ, ◌+◌, Bool, true, false, List, Option, Some, None, refl, sym, ap, subst, arith}
+use Rattle.std.proofs.Common.{◌≡◌, ◌∙◌, ℕ, ◌+◌, Bool, true, false, List, Option, Some, None, refl, ap, subst, arith}
 use Rattle.engine_events.specs.declared.place.Point.{Point}
 use Rattle.engine_events.specs.declared.state.Name.{Name}
 use Rattle.engine_events.specs.declared.state.State.TheVariants as states
 use Rattle.markdown_engine.specs.declared.virtual_text.VirtualByte.{VirtualByte}
 use Rattle.markdown_engine.specs.Context.{Context}
 use Rattle.markdown_engine.specs.Machine.{plain}
-use Rattle.markdown_engine.specs.Reading.{Config, Effect, Runs, byte_of, feed, next, place_after, retry}
+use Rattle.markdown_engine.specs.Reading.{Config, byte_of, feed, next, place_after, retry}
 use Rattle.markdown_engine.specs.VirtualText.{Text, as_byte}
 use Rattle.engine_programs.specs.Bodies.{has, run}
 use Rattle.inline_states.specs.declared.inlines.Inlines.{Inlines}

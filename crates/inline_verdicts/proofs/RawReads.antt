@@ -1,7 +1,7 @@
 -- The states of code and math read what the definition calls a span, and nothing else.
-use Rattle.std.proofs.Common.{◌≡◌, ◌∙◌, ℕ, suc, zero, ◌+◌, ◌-◌, ◌^◌, ◌<◌, ◌≤◌, min, Bool, true, false, not, ◌==◌, ◌&&◌, ◌||◌, if◌then◌else◌, List, [], ◌∷◌, ◌++◌, length, drop, take, Option, Some, None, inl, inr, refl, sym, ap, subst, arith, append_assoc}
+use Rattle.std.proofs.Common.{◌≡◌, ◌∙◌, ℕ, suc, zero, ◌+◌, ◌-◌, ◌^◌, ◌<◌, ◌≤◌, min, Bool, true, false, not, ◌==◌, ◌||◌, if◌then◌else◌, List, [], ◌∷◌, ◌++◌, length, drop, Option, Some, None, inl, inr, refl, sym, ap, subst, arith, append_assoc}
 use Rattle.std.proofs.lemmas.Bool.{cases_Bool, eq-eqb, eqb-false, eqb-true, ne_eqb, not-true, or_from, or_parts}
-use Rattle.std.proofs.lemmas.List.{drop-drop, length-drop}
+use Rattle.std.proofs.lemmas.List.{length-drop}
 use Rattle.std.specs.List.{prefix_len}
 use Rattle.definition_text.specs.Content.{is_eol}
 use Rattle.definition_text.specs.Runs.{after_run}
@@ -20,7 +20,7 @@ use Rattle.engine_events.specs.declared.state.State.TheVariants as states
 use Rattle.markdown_engine.specs.Context.{Context}
 use Rattle.markdown_engine.specs.Kept.{Kept}
 use Rattle.markdown_engine.specs.Machine.{past_byte, plain, with_enter, with_exit}
-use Rattle.markdown_engine.specs.Reading.{Config, byte_of, ends-nok, ends-ok, feed}
+use Rattle.markdown_engine.specs.Reading.{Config, ends-nok, ends-ok, feed}
 use Rattle.markdown_engine.specs.VirtualText.{Text, as_byte, is_feed}
 use Rattle.engine_programs.specs.Bodies.{has}
 use Rattle.engine_programs.specs.Bodies.{run as run_body}
@@ -28,22 +28,22 @@ use Rattle.inline_states.specs.Inlines.{bodies}
 use Rattle.inline_states_table.specs.Words.{more, next, retry}
 use Rattle.inline_states.specs.declared.inlines.Inlines.{Inlines}
 use Rattle.inline_codes.specs.Codes.{Sees, byte, nothing, seen, tab}
-use Rattle.inline_verdicts.specs.RawText.{Pieces, SpanNames, closing, ending, is_other, others, piece, run, spanning}
-use Rattle.inline_verdicts.specs.Stretch.{Stretch, ended, longer}
+use Rattle.inline_verdicts.specs.RawText.{Pieces, SpanNames, closing, ending, is_other, others, run, spanning}
+use Rattle.inline_verdicts.specs.Stretch.{Stretch, longer}
 use Rattle.inline_verdicts.specs.Verdicts.{Reads}
 use Rattle.inline_verdicts.proofs.Loops.{At, Over, byte_at, end_at, fed, goes_to, over, stays_to, still_at, stops}
 use Rattle.inline_verdicts.proofs.RawStates
 use Rattle.inline_verdicts.proofs.Runs.{at_run, past_other, past_others, past_run, run_within}
 use Rattle.inline_verdicts.proofs.Seen.{seen_feed}
-use Rattle.inline_verdicts.proofs.Stretches.{Part, Run, eol_differs, filled, part_seen, run_seen, seen_as_itself, sight}
+use Rattle.inline_verdicts.proofs.Stretches.{Run, eol_differs, filled, part_seen, run_seen, seen_as_itself, sight}
 use Rattle.inline_verdicts.proofs.Turns.{on_retry}
 
--- a byte of a sort stands at the front of a stretch
+-- no byte is this one, by what the machine keeps of it
 pub stop_sort : (m : ℕ) (v : Option ℕ) (k : ℕ) → k ≡ m → has (λ b. b == m) v ≡ false → has (λ b. b == k) v ≡ false
 stop_sort m v k e h = subst (λ (n : ℕ). has (λ b. b == n) v ≡ false) (sym e) h
 
 module _ {T : Type 0} (texts : List ℕ → Option (List ℕ)) (is_punctuation : ℕ → Bool) (x : Context T) (text : Text) (given : SpanNames) (m n : ℕ) (c0 : Config Inlines) where
-  -- these events stand, and this is kept; reading isn't right after a line ending
+  -- these events stand, and this is kept
   pub record Here (es : List Event) (k : Kept) (c : Config Inlines) : Type 0 where
     pub events : c.events ≡ es
     pub kept : c.tokenize_state ≡ k
@@ -54,7 +54,7 @@ module _ {T : Type 0} (texts : List ℕ → Option (List ℕ)) (is_punctuation :
   abbrev pub inside : ℕ → Kept
   inside size_b = spanning given m n size_b c0.tokenize_state
 
-  -- what reading comes to from these events on: nothing where no run is found; otherwise it goes well, with further events and the end of the span, up to after the run
+  -- reading goes well from these events on, with further ones and the end of the span, up to after the run that was found
   pub record Found (c : Config Inlines) (s : State) (es : List Event) (shows : List Event → Point → Type 0) (rest : List ℕ) : Type 0 where
     pub config : Config Inlines
     pub end : Point
@@ -65,6 +65,7 @@ module _ {T : Type 0} (texts : List ℕ → Option (List ℕ)) (is_punctuation :
     pub shown : shows added end
     pub sees : Sees text end (drop n rest)
 
+  -- what reading comes to: nothing where no run is found
   abbrev pub Outcome : Config Inlines → State → List Event → (List Event → Point → Type 0) → Option (List ℕ) → Type 0
   Outcome c s es shows None = (d : Config Inlines) × Reads texts is_punctuation x text c s d false
   Outcome c s es shows (Some rest) = Found c s es shows rest
@@ -85,13 +86,6 @@ module _ {T : Type 0} (texts : List ℕ → Option (List ℕ)) (is_punctuation :
     sees = f.sees;
   }
 
-  -- from another configuration, with no further event
-  by_reading : (c e : Config Inlines) (s t : State) (es : List Event) (shows : List Event → Point → Type 0) (o : Option (List ℕ))
-      → ((d : Config Inlines) (w : Bool) → Reads texts is_punctuation x text e t d w → Reads texts is_punctuation x text c s d w)
-      → Outcome e t es shows o → Outcome c s es shows o
-  by_reading c e s t es shows None back (d, r) = (d, back d false r)
-  by_reading c e s t es shows (Some rest) back f = record { config = f.config; end = f.end; added = f.added; reads = back f.config true f.reads; here = f.here; point = f.point; shown = f.shown; sees = f.sees }
-
   pub enters : {es : List Event} {k : Kept} {c : Config Inlines} {q : Point} (name goal : EventName) → name ≡ goal → Here es k c → At text c q → Here (es ++ event Enter goal (text.start q) None ∷ []) k (with_enter name None c)
   enters {es} {k} {c} {q} name goal e h at = record {
     events = ap (λ (z : EventName). c.events ++ event Enter z c.point None ∷ []) e ∙ (ap (λ (p : Point). c.events ++ event Enter goal p None ∷ []) at.point ∙ ap (λ (l : List Event). l ++ event Enter goal (text.start q) None ∷ []) h.events);
@@ -104,9 +98,9 @@ module _ {T : Type 0} (texts : List ℕ → Option (List ℕ)) (is_punctuation :
       → Here (es ++ event Exit goal (text.start q) None ∷ []) k (with_exit name c)
   exits {es} {k} {c} {q} name goal e h apart at = record {
     events =
-      ap (λ (z : EventName). c.events ++ event Exit z (if is_feed c.previous then c.line_start else c.point) None ∷ []) e
-      ∙ (ap (λ (b : Bool). c.events ++ event Exit goal (if b then c.line_start else c.point) None ∷ []) apart
-      ∙ (ap (λ (p : Point). c.events ++ event Exit goal p None ∷ []) at.point ∙ ap (λ (l : List Event). l ++ event Exit goal (text.start q) None ∷ []) h.events));
+        ap (λ (z : EventName). c.events ++ event Exit z (if is_feed c.previous then c.line_start else c.point) None ∷ []) e
+        ∙ (ap (λ (b : Bool). c.events ++ event Exit goal (if b then c.line_start else c.point) None ∷ []) apart
+        ∙ (ap (λ (p : Point). c.events ++ event Exit goal p None ∷ []) at.point ∙ ap (λ (l : List Event). l ++ event Exit goal (text.start q) None ∷ []) h.events));
     kept = h.kept;
     map = h.map;
     resolvers = h.resolvers;
@@ -172,7 +166,7 @@ module _ {T : Type 0} (texts : List ℕ → Option (List ℕ)) (is_punctuation :
       after_event c (feed text d) (retry inline_states.RawTextBetween) (retry inline_states.RawTextData) es (event Enter given.content (text.start q) None)
       (Pieces text given m n q) (λ added z. Pieces text given m n q (event Enter given.content (text.start q) None ∷ added) z) (run_of m n false cs)
       (λ z w reads. goes_to texts is_punctuation x text (Inline inline_states.RawTextBetween) (Inline inline_states.RawTextData) c d z w
-        (RawStates.between_others texts is_punctuation x v c (byte_at at e) apart.0 (ap (λ (i : ℕ). v == i) (marker_is h) ∙ apart.1)) reads)
+      (RawStates.between_others texts is_punctuation x v c (byte_at at e) apart.0 (ap (λ (i : ℕ). v == i) (marker_is h) ∙ apart.1)) reads)
       (λ added z pieces. pieces)
       (data_reads (es ++ event Enter given.content (text.start q) None ∷ []) b (feed text d) cs (longer e is st) st (begun, ap is_feed (byte_at at e) ∙ apart.0) (fed text d r (at.next (as_byte v r) e)) rest s)
 
@@ -187,8 +181,8 @@ module _ {T : Type 0} (texts : List ℕ → Option (List ℕ)) (is_punctuation :
       let g = enters names.LineEnding names.LineEnding refl h at in
       record {
         events =
-          ap (λ (p : Point). (c.events ++ event Enter names.LineEnding c.point None ∷ []) ++ event Exit names.LineEnding p None ∷ []) (line_place c.current c.next c.line_start (byte_at at e) ∙ at.next (as_byte 10 r) e)
-          ∙ ap (λ (l : List Event). l ++ event Exit names.LineEnding r None ∷ []) g.events;
+            ap (λ (p : Point). (c.events ++ event Enter names.LineEnding c.point None ∷ []) ++ event Exit names.LineEnding p None ∷ []) (line_place c.current c.next c.line_start (byte_at at e) ∙ at.next (as_byte 10 r) e)
+            ∙ ap (λ (l : List Event). l ++ event Exit names.LineEnding r None ∷ []) g.events;
         kept = h.kept;
         map = h.map;
         resolvers = h.resolvers;
@@ -312,7 +306,7 @@ module _ {T : Type 0} (texts : List ℕ → Option (List ℕ)) (is_punctuation :
         after_event c (feed text d) (retry inline_states.RawTextBetween) (retry inline_states.RawTextSequenceClose) es (event Enter given.sequence (text.start q) None)
         (Pieces text given m n q) (λ added z. Pieces text given m n q (event Enter given.sequence (text.start q) None ∷ added) z) (by_size is code cs)
         (λ z w reads. goes_to texts is_punctuation x text (Inline inline_states.RawTextBetween) (Inline inline_states.RawTextSequenceClose) c d z w
-          (RawStates.between_run texts is_punctuation x m c (byte_at at e) no_feed (ap (λ (i : ℕ). m == i) (marker_is h) ∙ eq-eqb m m refl)) reads)
+        (RawStates.between_run texts is_punctuation x m c (byte_at at e) no_feed (ap (λ (i : ℕ). m == i) (marker_is h) ∙ eq-eqb m m refl)) reads)
         (λ added z pieces. pieces)
         (close_reads (es ++ event Enter given.sequence (text.start q) None ∷ []) (feed text d) code cs is size low e f (fed_here first, ap is_feed (byte_at at e) ∙ no_feed) (fed text d r (at.next (as_byte m r) e)) rest)
 

@@ -1,16 +1,15 @@
 -- What the states of code and math do at each byte.
-use Rattle.std.proofs.Common.{◌≡◌, ◌∙◌, ℕ, ◌+◌, Bool, true, false, not, ◌==◌, ◌&&◌, ◌||◌, if◌then◌else◌, List, Option, Some, None, refl, sym, ap}
-use Rattle.std.proofs.lemmas.Bool.{not-true, not-false}
+use Rattle.std.proofs.Common.{◌≡◌, ℕ, Bool, true, false, not, ◌==◌, ◌&&◌, ◌||◌, if◌then◌else◌, List, Option, Some, None, refl}
+use Rattle.std.proofs.lemmas.Bool.{not-false}
 use Rattle.engine_events.specs.declared.event.Name.TheVariants as names
 use Rattle.engine_events.specs.declared.state.Inline.TheVariants as inline_states
 use Rattle.engine_events.specs.declared.state.Name.TheVariants.{Inline}
 use Rattle.engine_events.specs.declared.state.State.TheVariants as states
 use Rattle.markdown_engine.specs.Context.{Context}
 use Rattle.markdown_engine.specs.Machine.{past_byte, plain, with_enter, with_exit}
-use Rattle.markdown_engine.specs.Reading.{Config, Effect}
+use Rattle.markdown_engine.specs.Reading.{Config}
 use Rattle.engine_programs.specs.Bodies.{has, run}
 use Rattle.inline_states_table.specs.Words.{more, next, retry}
-use Rattle.inline_states_leaves.specs.RawText.{begins_run}
 use Rattle.inline_states.specs.declared.inlines.Inlines.{Inlines}
 use Rattle.inline_states.specs.Inlines.{bodies}
 use Rattle.inline_verdicts.specs.RawText.{SpanNames, is_other, spanning}

@@ -1,8 +1,8 @@
 -- An attempt at code or math reads a span where the definition has one, and nothing else.
 use Rattle.std.proofs.Common.{◌≡◌, ◌∙◌, ℕ, suc, ◌+◌, ◌-◌, ◌^◌, ◌<◌, ◌≤◌, min, Bool, true, false, not, ◌==◌, ◌&&◌, if◌then◌else◌, List, [], ◌∷◌, ◌++◌, length, drop, take, Option, Some, None, refl, sym, ap, subst, arith, append_assoc}
-use Rattle.std.proofs.lemmas.Bool.{cases_Bool, eq-eqb, eqb-true, ne_eqb}
+use Rattle.std.proofs.lemmas.Bool.{eq-eqb, eqb-true, ne_eqb}
 use Rattle.std.proofs.lemmas.List.{drop-drop, length-drop, length-take}
-use Rattle.definition_text.specs.Content.{Part, is_eol, up_to}
+use Rattle.definition_text.specs.Content.{is_eol, up_to}
 use Rattle.definition_text.specs.Runs.{after_run}
 use Rattle.definition_text.specs.Runs.{run as run_length}
 use Rattle.definition_inline.specs.CodeText.{code_text, raw_at, raw_leaf, raw_part, run_of}
@@ -26,11 +26,10 @@ use Rattle.inline_states_leaves.specs.RawText.{begins_run}
 use Rattle.inline_states.specs.declared.inlines.Inlines.{Inlines}
 use Rattle.inline_states.specs.Inlines.{bodies}
 use Rattle.inline_codes.specs.Codes.{Sees, byte, nothing, seen, tab}
-use Rattle.inline_verdicts.specs.RawText.{IsSpan, Pieces, SpanNames, SpanVerdict, is_text, of_span, piece, spanning}
-use Rattle.inline_verdicts.specs.Stretch.{Stretch}
-use Rattle.inline_verdicts.specs.Verdicts.{Leaves, Reads}
-use Rattle.inline_verdicts.proofs.Loops.{At, Over, byte_at, end_at, fed, goes_to, over, stays_to, still_at, stops}
-use Rattle.inline_verdicts.proofs.RawReads.{Found, Goes, Here, Outcome, Within, exits, fed_here, goes, keeping_here, limit, one_longer, stop_sort}
+use Rattle.inline_verdicts.specs.RawText.{Pieces, SpanNames, SpanVerdict, is_text, of_span, spanning}
+use Rattle.inline_verdicts.specs.Verdicts.{Reads}
+use Rattle.inline_verdicts.proofs.Loops.{Over, byte_at, end_at, fed, goes_to, over, stays_to, still_at, stops}
+use Rattle.inline_verdicts.proofs.RawReads.{Found, Here, Outcome, exits, goes, stop_sort}
 use Rattle.inline_verdicts.proofs.RawStates
 use Rattle.inline_verdicts.proofs.Runs.{IsRest, is_rest, run_within}
 use Rattle.inline_verdicts.proofs.Stretches.{Run, run_seen, seen_as_itself}
@@ -50,7 +49,8 @@ span_by m cs found = of_span (Some (raw_leaf m (suc (run_length m cs)) (m ∷ cs
 abbrev leaf_of : ℕ → Bool → List ℕ → ℕ → Option Leaf
 leaf_of m on content n = if on && not (n == 0) then Some (raw_leaf m n content (up_to (drop n content) (run_of m n false (drop n content)))) else None
 
-full_run : (m : ℕ) (cs : List ℕ) → run_length m (m ∷ cs) ≡ suc (run_length m cs)
+-- how long a run is from its first code on
+pub full_run : (m : ℕ) (cs : List ℕ) → run_length m (m ∷ cs) ≡ suc (run_length m cs)
 full_run m cs = ap (λ (b : Bool). if b then 1 + run_length m cs else 0) (eq-eqb m m refl) ∙ (let e : 1 + run_length m cs ≡ suc (run_length m cs) = omega arith in e)
 
 opens_if : (b on : Bool) (l : Leaf) → b ≡ false → (if on && not b then Some l else None) ≡ (if on then Some l else None)
@@ -121,13 +121,15 @@ module _ {T : Type 0} (texts : List ℕ → Option (List ℕ)) (is_punctuation :
     one_more j = omega arith
 
     open_keeps : (j v : ℕ) (d : Config Inlines) → Opening j d → d.current ≡ Some v → (v == m) ≡ true → Opening (j + 1) (feed text (RawStates.opening_longer d))
-    open_keeps j v d h e is =
-        (record {
-          events = h.0.events;
-          kept = ap (λ (k : Kept). record k { size = more k.size }) h.0.kept ∙ ap (λ (i : ℕ). spanning given m i 0 c.tokenize_state) (one_more j);
-          map = h.0.map;
-          resolvers = h.0.resolvers;
-        }, ap is_feed e ∙ (ap (λ (k : ℕ). k == 10) (eqb-true v m is) ∙ no_feed))
+    open_keeps j v d h e is = (
+      record {
+        events = h.0.events;
+        kept = ap (λ (k : Kept). record k { size = more k.size }) h.0.kept ∙ ap (λ (i : ℕ). spanning given m i 0 c.tokenize_state) (one_more j);
+        map = h.0.map;
+        resolvers = h.0.resolvers;
+      },
+      ap is_feed e ∙ (ap (λ (k : ℕ). k == 10) (eqb-true v m is) ∙ no_feed),
+    )
 
     abbrev begun : Config Inlines
     begun = feed text (RawStates.opened given m at_mark)
@@ -184,11 +186,16 @@ module _ {T : Type 0} (texts : List ℕ → Option (List ℕ)) (is_punctuation :
     span_by_found found e back f =
         let r = is_rest m size false (after_run m cs) found e in
         let whole = leaf (raw_part m (take (length (after_run m cs) - length found) (after_run m cs)) ∷ []) (size + length (take (length (after_run m cs) - length found) (after_run m cs)) + size) in
-        subst (λ (b : Bool). Verdict_by (if b then None else Some whole)) (sym (no_text_by (m == 36) (take (length (after_run m cs) - length found) (after_run m cs))))
-        (f.config, size, _, f.end, back f.config true f.reads,
-        record { further = run_length m cs; opened = opening.end; inside = f.added; all = omega arith; opening = opening.stretch; pieces = f.shown; events = refl },
-        record { events = f.here.events ∙ four c.events (event Enter given.whole p None) (event Enter given.sequence p None) (event Exit given.sequence (text.start opening.end) None) (f.added ++ event Exit given.whole (text.start f.end) None ∷ []); point = f.point; kept = f.here.kept; map = f.here.map; resolvers = f.here.resolvers },
-        subst (λ (ds : List ℕ). Sees text f.end ds) (rest_at size (m ∷ cs) found r) f.sees)
+        subst (λ (b : Bool). Verdict_by (if b then None else Some whole)) (sym (no_text_by (m == 36) (take (length (after_run m cs) - length found) (after_run m cs)))) (
+          f.config,
+          size,
+          _,
+          f.end,
+          back f.config true f.reads,
+          record { further = run_length m cs; opened = opening.end; inside = f.added; all = omega arith; opening = opening.stretch; pieces = f.shown; events = refl },
+          record { events = f.here.events ∙ four c.events (event Enter given.whole p None) (event Enter given.sequence p None) (event Exit given.sequence (text.start opening.end) None) (f.added ++ event Exit given.whole (text.start f.end) None ∷ []); point = f.point; kept = f.here.kept; map = f.here.map; resolvers = f.here.resolvers },
+          subst (λ (ds : List ℕ). Sees text f.end ds) (rest_at size (m ∷ cs) found r) f.sees,
+        )
 
     by_outcome : (o : Option (List ℕ)) → run_of m size false (after_run m cs) ≡ o → From_inside → Outcome texts is_punctuation x text given m size at_mark closed (retry inline_states.RawTextBetween) ready Pieced o → Verdict_by (span_by m cs o)
     by_outcome None e back (d, r) = (d, back d false r)
@@ -196,8 +203,8 @@ module _ {T : Type 0} (texts : List ℕ → Option (List ℕ)) (is_punctuation :
 
     module _ (switch : Bool)
         (starts : (on b : Bool) → switch ≡ on → begins_run m c ≡ b
-          → run_body (bodies texts is_punctuation x (Inline inline_states.RawTextStart)) at_mark
-          ≡ (if on then (if b then plain (RawStates.opened given m at_mark) (next inline_states.RawTextSequenceOpen) else plain at_mark states.Nok) else plain at_mark states.Nok)) where
+        → run_body (bodies texts is_punctuation x (Inline inline_states.RawTextStart)) at_mark
+        ≡ (if on then (if b then plain (RawStates.opened given m at_mark) (next inline_states.RawTextSequenceOpen) else plain at_mark states.Nok) else plain at_mark states.Nok)) where
       fails : run_body (bodies texts is_punctuation x (Inline inline_states.RawTextStart)) at_mark ≡ plain at_mark states.Nok → Verdict_by None
       fails h = (at_mark, on_retry texts is_punctuation x text (Inline inline_states.RawTextStart) at_mark at_mark false (plain at_mark states.Nok) h ends-nok)
 

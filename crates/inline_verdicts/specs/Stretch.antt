@@ -1,5 +1,5 @@
 -- Bytes of one sort that stand together.
-use Rattle.std.specs.Prelude.{◌≡◌, ℕ, ◌+◌, Bool, true, false, None, Some}
+use Rattle.std.specs.Prelude.{◌≡◌, ℕ, ◌+◌, Bool, true, false, Some}
 use Rattle.engine_events.specs.declared.place.Point.{Point}
 use Rattle.markdown_engine.specs.Reading.{byte_of}
 use Rattle.markdown_engine.specs.VirtualText.{Text, as_byte}

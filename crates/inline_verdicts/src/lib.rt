@@ -2,4 +2,6 @@
 #![tactic(auto)]
 
 pub mod character_escape;
+pub mod code_text;
 pub mod hard_break_escape;
+pub mod math_text;
