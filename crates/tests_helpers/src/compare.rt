@@ -1,5 +1,7 @@
 //! Texts and their HTML, compared.
-ghost use Rattle.std.specs.Prelude.{◌≡◌, true, IfOk};
+ghost use Rattle.std.specs.Prelude.{◌≡◌, true, IfOk, None};
+ghost use Rattle.std.specs.List.{All};
+ghost use Rattle.tests_helpers.specs.Compare.{HasPage};
 ghost use Rattle.markdown_options.specs.Built.{is_built};
 ghost use Rattle.markdown_definition.specs.Html.{html};
 ghost use Rattle.markdown_tables.specs.Builtin.{builtin_tables};
@@ -21,6 +23,7 @@ pub fn first_wrong<'a>(
     options: &Options,
 ) -> Result<Option<&'a str>, RunError>
     requires { is_built options.now.parse.constructs ≡ true }
+    ensures { IfOk result (λ found. found ≡ None → All (HasPage options.now) rows.now) }
 {
     for row in rows {
         let (text, want) = *row;
