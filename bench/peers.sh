@@ -5,7 +5,7 @@
 #     bench/peers.sh FOLDER
 set -eu
 here=$(cd "$(dirname "$0")" && pwd)
-packages="cmark cmark-gfm libcmark-dev libmd4c-html0-dev librust-pulldown-cmark-dev time valgrind"
+packages="cmark cmark-gfm libcmark-dev libmd4c-dev libmd4c-html0-dev librust-pulldown-cmark-dev time valgrind"
 command -v cc > /dev/null || packages="$packages gcc libc6-dev"
 command -v cargo > /dev/null || packages="$packages cargo"
 missing=""
