@@ -20,11 +20,12 @@ use Rattle.definition_inline.specs.LabelEnd.{Ended, label_end_at}
 use Rattle.definition_inline.specs.Attention.{Run, run_at}
 use Rattle.definition_inline.specs.Spans.{Token, Item, Delimiters, emphasized}
 
--- what a content is read by: the options, the texts of named characters, and whether a label is defined in the document
+-- what a content is read by: the options, the texts of named characters, and whether a label is that of a link reference definition, and of a footnote definition, of the document
 pub record InlineContext : Type 0 where
   pub options : ParseOptions
   pub names : List ℕ → Option (List ℕ)
   pub is_defined : List ℕ → Bool
+  pub is_footnote : List ℕ → Bool
 
 -- ---- constructs that hold no other
 

@@ -6,7 +6,7 @@ use Rattle.markdown_options.specs.declared.configuration.CompileOptions.{Compile
 use Rattle.definition_text.specs.Columns.{bytes_of, bare}
 use Rattle.definition_text.specs.Content.{is_eol}
 use Rattle.definition_text.specs.Encode.{plain}
-use Rattle.definition_inline.specs.Inline.{Target, Resource, Reference, Linked, linked, LiteralKind, Www, Protocol, Email, Inline, Data, Escape, Character, Code, Math, Autolink, Literal, Html, EscapedBreak, TrailingBreak, LineEnd, Emphasis, Strong, Strikethrough, Link, Image, Inlines, Nil, Cons}
+use Rattle.definition_inline.specs.Inline.{Target, Resource, Reference, Linked, linked, LiteralKind, Www, Protocol, Email, Inline, Data, Escape, Character, Code, Math, Autolink, Literal, Html, EscapedBreak, TrailingBreak, LineEnd, Emphasis, Strong, Strikethrough, Link, Image, Call, Inlines, Nil, Cons}
 use Rattle.definition_inline.specs.Strings.{string_text}
 use Rattle.definition_page.specs.GfmTagfilter.{filtered}
 use Rattle.definition_page.specs.Urls.{percent, sanitized, permitted, href_protocols, src_protocols}
@@ -134,6 +134,7 @@ abbrev mutual
   part_says options (Strikethrough kids) = description options kids
   part_says options (Link target kids) = description options kids
   part_says options (Image target kids) = description options kids
+  part_says options (Call label) = []
 
   pub description : CompileOptions → Inlines → List Said
   description options Nil = []
@@ -166,6 +167,7 @@ abbrev mutual
   part_pieces m (Strikethrough kids) = element (bare_tag (codes "del")) (inline_pieces m kids)
   part_pieces m (Link target kids) = element (link_tag m (leads_to m.definition target)) (inline_pieces m kids)
   part_pieces m (Image target kids) = Void (image_tag m (leads_to m.definition target) (description m.compile kids)) ∷ []
+  part_pieces m (Call label) = []
 
   -- what parts print, one after another
   pub inline_pieces : Meaning → Inlines → List Piece

@@ -1,5 +1,5 @@
 -- Blocks printed as pieces are the blocks printed as bytes.
-use Rattle.std.proofs.Common.{◌≡◌, ℕ, ◌+◌, Bool, true, false, cond, ◌||◌, ◌&&◌, not, List, [], ◌∷◌, ◌++◌, Option, None, Some, refl, sym, ap, ◌∙◌, append_assoc, codes, map, eqb, drop}
+use Rattle.std.proofs.Common.{◌≡◌, ℕ, Bool, true, false, cond, ◌&&◌, not, List, [], ◌∷◌, ◌++◌, Option, None, Some, refl, sym, ap, ◌∙◌, append_assoc, codes, map, eqb, drop}
 use Rattle.std.specs.Fmt.{decimal}
 use Rattle.std.specs.List.{fold, flat_map}
 use Rattle.std.proofs.lemmas.List.{append-nil}
@@ -12,35 +12,31 @@ use Rattle.markdown_options.specs.declared.configuration.CompileOptions.{Compile
 use Rattle.markdown_options.specs.declared.configuration.Options.{Options}
 use Rattle.definition_text.specs.BlockLines.{BlockLine, own_lines}
 use Rattle.definition_text.specs.Columns.{code_byte, bytes_of}
-use Rattle.definition_text.specs.Encode.{encode, plain}
+use Rattle.definition_text.specs.Encode.{encode}
 use Rattle.definition_text.specs.Lines.{ending_text}
 use Rattle.definition_text.specs.InlineCode.{InlineCode, codes_of}
 use Rattle.definition_inline.specs.Inline.{Inlines}
 use Rattle.definition_inline.specs.GfmTaskListItem.{check_at, check_size}
 use Rattle.definition_inline.specs.Scan.{inlines_from, unindented}
-use Rattle.definition_inline.specs.Definition.{Definition}
-use Rattle.definition_block.specs.Container.{Container, Quote, Item, Footnote}
+use Rattle.definition_block.specs.Container.{Quote, Item, Footnote}
 use Rattle.definition_block.specs.declared.container.Item.{Item as ItemOf}
 use Rattle.definition_block.specs.Blocks as tree
 use Rattle.definition_block.specs.Lists.{is_loose}
-use Rattle.definition_block.specs.Tree.{is_ending}
-use Rattle.definition_page.specs.GfmTagfilter.{filtered}
-use Rattle.definition_page.specs.Targets.{is_label_of, linked_by}
+use Rattle.definition_page.specs.Targets.{Targets, linked_by}
 use Rattle.definition_page.specs.TextTables.{TextTables}
-use Rattle.definition_page.specs.Tags.{Said, Words, AsItIs, Number, said_bytes, Attribute, Tag, tag, bare_tag, attribute, start_tag, end_tag, void_tag, attribute_bytes}
-use Rattle.definition_page.specs.Pieces.{Piece, Open, Close, Void, Says, Eol, Fresh, print}
+use Rattle.definition_page.specs.Tags.{Words, Number, said_bytes, Attribute, Tag, tag, bare_tag, attribute, start_tag, end_tag, void_tag, attribute_bytes}
+use Rattle.definition_page.specs.Pieces.{Piece, Close, Void, Says, Eol, Fresh, print}
 use Rattle.definition_page.specs.InlinePieces.{Meaning, element, inline_pieces}
-use Rattle.definition_page.specs.InlinePieces as inline
 use Rattle.definition_page.specs.Page as page
-use Rattle.definition_page.specs.Read.{Reading, context_of, Standing, on_page, in_container, in_item, next_standing, text_content, read_text, checked_paragraph, read_paragraph, read_blocks, read_table, info_text, code_lines, without_ending, after_code, list_number}
-use Rattle.definition_page.specs.BlockPieces.{Place, says, checkable_attributes, done_attributes, check_tag, check_pieces, code_line, html_line, heading_name, info_attributes, start_attributes, list_tag, is_silent, last_shown, ends_plainly, fresh_unless, fenced_pieces, block_pieces, children_pieces}
+use Rattle.definition_page.specs.Read.{Reading, reading, context_of, Standing, on_page, in_container, in_item, next_standing, text_content, read_text, checked_paragraph, read_paragraph, read_blocks, read_table, info_text, code_lines, without_ending, after_code, list_number}
+use Rattle.definition_page.specs.BlockPieces.{Place, says, checkable_attributes, done_attributes, check_tag, code_line, html_line, heading_name, info_attributes, list_tag, is_silent, last_shown, ends_plainly, fresh_unless, fenced_pieces, block_pieces, children_pieces}
 use Rattle.html_bytes.specs.RawHtml.{raw_html}
-use Rattle.html_bytes.specs.Document.{Document, document, meaning_of, text_of, checked_text, paragraph_of, info_of}
+use Rattle.html_bytes.specs.Document.{Document, document, meaning_of, text_of, checked_text, info_of}
 use Rattle.html_bytes.specs.InlineHtml.{inline_html, check_html}
 use Rattle.html_bytes.specs.Pieces as bytes
 use Rattle.html_bytes.specs.Html as old
 use Rattle.html_bytes.proofs.SameTable.{table_same}
-use Rattle.html_bytes.proofs.SameText.{says_printed, element_printed, one_attribute, piece_meaning, raw_said, text_printed}
+use Rattle.html_bytes.proofs.SameText.{says_printed, one_attribute, piece_meaning, raw_said, text_printed}
 
 -- ---- lines
 
@@ -180,18 +176,18 @@ fenced_same default false tight false (l ∷ next ∷ ls) out = cut_same default
 
 -- ---- paragraphs, headings and code
 
-module _ (default : List ℕ) (options : Options) (tables : TextTables) (ds : List Definition) where
+module _ (default : List ℕ) (options : Options) (tables : TextTables) (ds : Targets) where
   abbrev pub d : Document
   d = document options tables ds
 
   abbrev pub r : Reading
-  r = record { options = options.parse; tables = tables; is_defined = is_label_of ds }
+  r = reading tables options.parse ds
 
   abbrev pub m : Meaning
-  m = piece_meaning options.parse.constructs options.compile tables.names (linked_by ds)
+  m = piece_meaning options.parse.constructs options.compile tables.names (linked_by ds.definitions)
 
   text_same : (ls : List BlockLine) (out : List ℕ) → fold (print default) out (inline_pieces m (read_text r ls)) ≡ out ++ text_of d ls
-  text_same ls out = text_printed options.parse.constructs options.compile tables.names (linked_by ds) default (read_text r ls) out
+  text_same ls out = text_printed options.parse.constructs options.compile tables.names (linked_by ds.definitions) default (read_text r ls) out
 
   -- a text between tags
   text_element : (name : List ℕ) (ls : List BlockLine) (out : List ℕ)
@@ -204,7 +200,7 @@ module _ (default : List ℕ) (options : Options) (tables : TextTables) (ds : Li
   structure_same : (content : List InlineCode) (out : List ℕ)
       → fold (print default) out (inline_pieces m (inlines_from (context_of r) content))
       ≡ out ++ inline_html (meaning_of d) (inlines_from (context_of r) content)
-  structure_same content out = text_printed options.parse.constructs options.compile tables.names (linked_by ds) default (inlines_from (context_of r) content) out
+  structure_same content out = text_printed options.parse.constructs options.compile tables.names (linked_by ds.definitions) default (inlines_from (context_of r) content) out
 
   check_same : (done : Bool) → void_tag (check_tag options.compile done) ≡ check_html options.compile done
   check_same done = by_case options.compile.gfm_task_list_item_checkable done

@@ -1,5 +1,5 @@
 -- The page that is printed in bytes is the page of the definition.
-use Rattle.std.proofs.Common.{◌≡◌, ℕ, Bool, true, false, not, List, [], ◌++◌, Option, None, refl, sym, ap, ◌∙◌}
+use Rattle.std.proofs.Common.{◌≡◌, ℕ, Bool, true, false, not, List, [], None, refl, sym, ap, ◌∙◌}
 use Rattle.std.specs.List.{fold}
 use Rattle.std.proofs.lemmas.List.Sums.{fold-append}
 use Rattle.markdown_options.specs.declared.configuration.Options.{Options}
@@ -7,7 +7,7 @@ use Rattle.definition_text.specs.Lines.{without_mark, kind_before_text}
 use Rattle.definition_block.specs.Lists.{grouped}
 use Rattle.definition_block.specs.Tree.{blocks}
 use Rattle.definition_page.specs.TextTables.{TextTables}
-use Rattle.definition_page.specs.Targets.{document_definitions}
+use Rattle.definition_page.specs.Targets.{document_targets}
 use Rattle.definition_page.specs.Pieces.{print}
 use Rattle.definition_page.specs.BlockPieces.{at_top, children_pieces, fresh_unless}
 use Rattle.definition_page.specs.DocumentPieces.{default_ending}
@@ -30,7 +30,7 @@ pub html_is : (tables : TextTables) (text : List ℕ) (options : Options)
 html_is tables text options =
     let default = default_ending options (without_mark text) in
     let bs = blocks options.parse.constructs (kind_before_text text) (without_mark text) in
-    let ds = document_definitions bs in
+    let ds = document_targets bs in
     let blank = ends_blank false bs in
     let kids = children_pieces (m default options tables ds) at_top None (read_blocks (r default options tables ds) on_page (grouped bs)) in
     let shown = old.children_pieces (document options tables ds) on_page false false (grouped bs) in

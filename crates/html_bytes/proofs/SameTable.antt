@@ -9,17 +9,16 @@ use Rattle.markdown_options.specs.declared.configuration.Options.{Options}
 use Rattle.definition_text.specs.BlockLines.{BlockLine}
 use Rattle.definition_text.specs.Encode.{encode}
 use Rattle.definition_text.specs.Lines.{ending_text}
-use Rattle.definition_inline.specs.Definition.{Definition}
 use Rattle.definition_inline.specs.Inline as inline
 use Rattle.definition_block.specs.declared.align_kind.AlignKind.{AlignKind}
 use Rattle.definition_block.specs.declared.align_kind.AlignKind.TheVariants as align
 use Rattle.definition_block.specs.GfmTable.{Cell, line_cells}
-use Rattle.definition_page.specs.Targets.{is_label_of, linked_by}
+use Rattle.definition_page.specs.Targets.{Targets, linked_by}
 use Rattle.definition_page.specs.TextTables.{TextTables}
 use Rattle.definition_page.specs.Tags.{Tag, tag, bare_tag, start_tag, end_tag}
 use Rattle.definition_page.specs.Pieces.{Piece, Close, Fresh, print}
 use Rattle.definition_page.specs.InlinePieces.{Meaning, element, inline_pieces}
-use Rattle.definition_page.specs.Read.{Reading, read_cell, read_row, read_table}
+use Rattle.definition_page.specs.Read.{Reading, reading, read_cell, read_row, read_table}
 use Rattle.definition_page.specs.GfmTable.{head_line, delimiter_line, body_lines, line_aligns, align_attributes, cell_pieces, cells_pieces, row_pieces, ending_piece, body_row_pieces, head_pieces, body_pieces, table_pieces}
 use Rattle.html_bytes.specs.Document.{Document, document, cell_of}
 use Rattle.html_bytes.specs.Pieces as bytes
@@ -76,20 +75,20 @@ module _ (default : List ℕ) where
   tag_same name align.Center = refl
   tag_same name align.None = refl
 
-  module _ (options : Options) (tables : TextTables) (ds : List Definition) where
+  module _ (options : Options) (tables : TextTables) (ds : Targets) where
     abbrev d : Document
     d = document options tables ds
 
     abbrev r : Reading
-    r = record { options = options.parse; tables = tables; is_defined = is_label_of ds }
+    r = reading tables options.parse ds
 
     abbrev m : Meaning
-    m = piece_meaning options.parse.constructs options.compile tables.names (linked_by ds)
+    m = piece_meaning options.parse.constructs options.compile tables.names (linked_by ds.definitions)
 
     cell_same : (name : List ℕ) (a : AlignKind) (c : Cell) → Same (cell_pieces m name a (read_cell r c)) (old.cell_pieces d name a c)
     cell_same name a c out =
         element_same (tag name (align_attributes a)) (old.cell_tag name a) (old.cell_end name) (inline_pieces m (read_cell r c)) (bytes.Bytes (cell_of d c) ∷ []) (tag_same name a) refl
-        (λ out. text_printed options.parse.constructs options.compile tables.names (linked_by ds) default (read_cell r c) out)
+        (λ out. text_printed options.parse.constructs options.compile tables.names (linked_by ds.definitions) default (read_cell r c) out)
         (bytes.print default out bytes.Fresh)
 
     missing_same : (name : List ℕ) (a : AlignKind) → Same (cell_pieces m name a inline.Nil) (old.missing_pieces name a)

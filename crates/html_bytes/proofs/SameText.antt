@@ -8,15 +8,15 @@ use Rattle.markdown_options.specs.declared.configuration.Constructs.{Constructs}
 use Rattle.markdown_options.specs.declared.configuration.CompileOptions.{CompileOptions}
 use Rattle.definition_text.specs.Columns.{bytes_of, bare}
 use Rattle.definition_text.specs.Encode.{encode, encoded_byte, plain}
-use Rattle.definition_inline.specs.Inline.{Target, Linked, Inline, Data, Escape, Character, Code, Math, Autolink, Literal, Html, EscapedBreak, TrailingBreak, LineEnd, Emphasis, Strong, Strikethrough, Link, Image, Inlines, Nil, Cons}
+use Rattle.definition_inline.specs.Inline.{Linked, Inline, Data, Escape, Character, Code, Math, Autolink, Literal, Html, EscapedBreak, TrailingBreak, LineEnd, Emphasis, Strong, Strikethrough, Link, Image, Call, Inlines, Nil, Cons}
 use Rattle.definition_inline.specs.Strings.{string_text, eol_bytes}
 use Rattle.definition_page.specs.Urls.{percent, sanitized, permitted, href_protocols, src_protocols}
 use Rattle.definition_page.specs.GfmTagfilter.{filtered}
-use Rattle.definition_page.specs.Tags.{Said, Words, AsItIs, EndOfLine, said_bytes, Attribute, attribute, attribute_bytes, Tag, tag, bare_tag, start_tag, end_tag, void_tag}
-use Rattle.definition_page.specs.Pieces.{Piece, Open, Close, Void, Says, print}
+use Rattle.definition_page.specs.Tags.{Said, Words, AsItIs, EndOfLine, said_bytes, attribute, attribute_bytes, Tag, tag, bare_tag, start_tag, end_tag, void_tag}
+use Rattle.definition_page.specs.Pieces.{Piece, Close, Says, print}
 use Rattle.definition_page.specs.InlinePieces as page
 use Rattle.definition_page.specs.InlinePieces.{Meaning, HtmlLine, html_lines, leads_to, address, literal_address, element, part_pieces, inline_pieces, part_says}
-use Rattle.html_bytes.specs.InlineHtml.{InlineMeaning, html_line_bytes, later_line_bytes, html_lines_bytes, html_text_bytes, title_attribute, titled, link_tag, image_tag, part_description, description, part_html, inline_html}
+use Rattle.html_bytes.specs.InlineHtml.{html_line_bytes, later_line_bytes, html_lines_bytes, html_text_bytes, title_attribute, titled, link_tag, image_tag, part_description, description, part_html, inline_html}
 use Rattle.html_bytes.specs.Meaning.{inline_meaning, link_url, image_url}
 use Rattle.html_bytes.specs.RawHtml.{raw_html}
 
@@ -165,6 +165,7 @@ mutual
   part_said options (Strikethrough kids) = described options kids
   part_said options (Link target kids) = described options kids
   part_said options (Image target kids) = described options kids
+  part_said options (Call label) = refl
 
   described : (options : CompileOptions) (is : Inlines) → flat_map said_bytes (page.description options is) ≡ description options is
   described options Nil = refl
@@ -219,6 +220,7 @@ mutual
       ap (λ x. out ++ x)
       (image_said on options names definition (leads_to definition target) (page.description options kids)
       ∙ ap (image_tag (inline_meaning on options names definition) (leads_to definition target)) (described options kids))
+  part_printed on options names definition default (Call label) out = sym (append-nil out)
 
   pub text_printed : (on : Constructs) (options : CompileOptions) (names : List ℕ → Option (List ℕ)) (definition : List ℕ → Option Linked) (default : List ℕ)
       (is : Inlines) (out : List ℕ)

@@ -3,7 +3,6 @@ use Rattle.std.specs.Prelude.{ℕ, Bool, List, ◌++◌, Option, None, Some, dro
 use Rattle.markdown_options.specs.declared.configuration.Options.{Options}
 use Rattle.definition_text.specs.declared.beside.Kind.TheVariants.{Whitespace}
 use Rattle.definition_text.specs.BlockLines.{BlockLine}
-use Rattle.definition_inline.specs.Definition.{Definition}
 use Rattle.definition_text.specs.InlineCode.{InlineCode, codes_of, inline_content, with_kinds}
 use Rattle.definition_inline.specs.GfmTaskListItem.{check_at, check_size}
 use Rattle.definition_inline.specs.Scan.{InlineContext, inlines, inlines_from, unindented}
@@ -14,24 +13,30 @@ use Rattle.definition_inline.specs.Strings.{string_text}
 use Rattle.html_bytes.specs.InlineHtml.{InlineMeaning, inline_html, check_html}
 use Rattle.html_bytes.specs.Meaning.{inline_meaning}
 use Rattle.definition_page.specs.TextTables.{TextTables}
-use Rattle.definition_page.specs.Targets.{is_label_of, linked_by}
+use Rattle.definition_page.specs.Targets.{Targets, is_label_of, is_footnote_of, linked_by}
 
--- the options, the tables, and the link reference definitions
+-- the options, the tables, and what labels lead to
 pub record Document : Type 0 where
   pub options : Options
   pub tables : TextTables
-  pub definitions : List Definition
+  pub targets : Targets
 
-abbrev pub document : Options → TextTables → List Definition → Document
-document options tables definitions = record { options = options; tables = tables; definitions = definitions }
+abbrev pub document : Options → TextTables → Targets → Document
+document options tables targets = record { options = options; tables = tables; targets = targets }
 
 -- what inline structure is read by
 abbrev pub context_of : Document → InlineContext
-context_of d = record { options = d.options.parse; names = d.tables.names; is_defined = is_label_of d.definitions }
+context_of d =
+    record {
+      options = d.options.parse;
+      names = d.tables.names;
+      is_defined = is_label_of d.targets.definitions;
+      is_footnote = is_footnote_of d.targets.footnotes;
+    }
 
 -- and what it is printed by
 abbrev pub meaning_of : Document → InlineMeaning
-meaning_of d = inline_meaning d.options.parse.constructs d.options.compile d.tables.names (linked_by d.definitions)
+meaning_of d = inline_meaning d.options.parse.constructs d.options.compile d.tables.names (linked_by d.targets.definitions)
 
 -- the text of a heading, which ends where a line does (CommonMark 4.2 and 4.3)
 abbrev pub text_of : Document → List BlockLine → List ℕ

@@ -15,7 +15,7 @@ use Rattle.html_bytes.specs.RawHtml.{raw_html}
 use Rattle.definition_text.specs.BlockLines.{BlockLine, own_lines}
 use Rattle.definition_block.specs.Tree.{Block, Paragraph, Heading, Break, IndentedCode, FencedCode, Html, Table, Definition, Holds, Items, Ending, Blank, Blocks, Nil, Cons, is_ending, blocks}
 use Rattle.definition_block.specs.Lists.{grouped, is_loose}
-use Rattle.definition_page.specs.Targets.{document_definitions}
+use Rattle.definition_page.specs.Targets.{document_targets}
 use Rattle.definition_page.specs.TextTables.{TextTables}
 use Rattle.definition_page.specs.Read.{Standing, on_page, in_container, in_item, next_standing, list_number, ends_blank}
 use Rattle.html_bytes.specs.Document.{Document, document, text_of, paragraph_of, info_of}
@@ -142,7 +142,7 @@ default_ending options text = unwrap_or (first_line text).ending options.compile
 
 -- the HTML of blocks, by all definitions among them
 abbrev pub blocks_html : TextTables → Options → LineEnding → Blocks → List ℕ
-blocks_html tables options ending bs = layout (ending_bytes ending) (document_pieces (document options tables (document_definitions bs)) bs)
+blocks_html tables options ending bs = layout (ending_bytes ending) (document_pieces (document options tables (document_targets bs)) bs)
 
 -- the HTML of a text without a byte order mark, after a character of this kind
 abbrev pub marked_html : TextTables → Kind → List ℕ → Options → List ℕ

@@ -7,7 +7,7 @@ use Rattle.definition_text.specs.Columns.{bytes_of, bare}
 use Rattle.definition_text.specs.Encode.{encode, encoded_byte, plain}
 use Rattle.definition_page.specs.InlinePieces.{HtmlLine, html_lines, leads_to, address, literal_address}
 use Rattle.html_bytes.specs.RawHtml.{raw_html}
-use Rattle.definition_inline.specs.Inline.{Linked, Inline, Data, Escape, Character, Code, Math, Autolink, Literal, Html, EscapedBreak, TrailingBreak, LineEnd, Emphasis, Strong, Strikethrough, Link, Image, Inlines, Nil, Cons}
+use Rattle.definition_inline.specs.Inline.{Linked, Inline, Data, Escape, Character, Code, Math, Autolink, Literal, Html, EscapedBreak, TrailingBreak, LineEnd, Emphasis, Strong, Strikethrough, Link, Image, Call, Inlines, Nil, Cons}
 use Rattle.definition_inline.specs.Strings.{string_text, eol_bytes}
 
 -- what is printed is given by: the options, the texts of named characters, what the definition of a label leads to, and how the URL of a link and of an image is printed as a value of its attribute
@@ -70,6 +70,7 @@ abbrev mutual
   part_description options (Strikethrough kids) = description options kids
   part_description options (Link target kids) = description options kids
   part_description options (Image target kids) = description options kids
+  part_description options (Call label) = []
 
   pub description : CompileOptions → Inlines → List ℕ
   description options Nil = []
@@ -109,6 +110,7 @@ abbrev mutual
   part_html meaning (Strikethrough kids) = codes "<del>" ++ inline_html meaning kids ++ codes "</del>"
   part_html meaning (Link target kids) = link_tag meaning (leads_to meaning.definition target) ++ inline_html meaning kids ++ codes "</a>"
   part_html meaning (Image target kids) = image_tag meaning (leads_to meaning.definition target) (description meaning.compile kids)
+  part_html meaning (Call label) = []
 
   -- the HTML of parts, one after another
   pub inline_html : InlineMeaning → Inlines → List ℕ
