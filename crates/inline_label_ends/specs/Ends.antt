@@ -53,6 +53,11 @@ pub record IsAfterEnd (content rest : List ℕ) : Type 0 where
   pub cut : IsCut content (length content - length rest)
   pub codes : content_codes rest ≡ drop (size_before content rest) (content_codes content)
 
+-- what follows what is formed, where this follows the `]`
+abbrev pub IsAfterFormed : List ℕ → Formed → Type 0
+IsAfterFormed rest (Leads found) = IsAfterEnd rest found.after.now
+IsAfterFormed rest (Calls found) = ⊤
+
 -- the first definition whose label matches this one, if there is one
 abbrev pub IsReference : List (List ℕ) → List ℕ → Option LabelEnd → Type 0
 IsReference ls label None = first_match label ls ≡ None

@@ -4,13 +4,13 @@
 //!
 //! The label is that of a footnote definition. Where it isn't, the text between the brackets is
 //! that of a link, which begins with `^`.
-ghost use Rattle.std.specs.Prelude.{◌≡◌, ℕ, Bool, List, IfOk};
+ghost use Rattle.std.specs.Prelude.{◌≡◌, ℕ, List, IfOk, IfSome};
 ghost use Rattle.std.specs.Option.{option_map};
 ghost use Rattle.definition_text.specs.Content.{content_codes};
 ghost use Rattle.definition_inline.specs.GfmLabelStartFootnote.{called, call_or_link};
 ghost use Rattle.definition_inline.specs.LabelEnd.{leading};
 ghost use Rattle.inline_labels.specs.Table.{HasLabels};
-ghost use Rattle.inline_label_ends.specs.Ends.{IsFormed, is_among, label_among};
+ghost use Rattle.inline_label_ends.specs.Ends.{IsAfterFormed, IsFormed, is_among, label_among};
 
 use crate::forms::{LabelEnd, label_end};
 use crate::text::is_label_text;
@@ -37,10 +37,11 @@ pub fn call_or_link<'a, A: Allocator + Clone>(
     text: &'a str,
     rest: &'a str,
 ) -> Result<Option<Formed<'a>>, AllocError>
-    ensures { (ls notes : List (List ℕ)) → HasLabels labels.now ls → HasLabels footnotes.now notes →
+    ensures read { (ls notes : List (List ℕ)) → HasLabels labels.now ls → HasLabels footnotes.now notes →
         let text = content_codes text.now in
         let label = called on.now (is_among notes) text in
         IfOk result (λ found. IsFormed ls rest.now found (call_or_link on.now (is_among ls) text (content_codes rest.now) label)) }
+    ensures place { IfOk result (λ found. IfSome found (λ formed. IsAfterFormed rest.now formed)) }
 {
     if let Some(label) = called(on, footnotes, text)? {
         return Ok(Some(Formed::Calls(label)));
@@ -59,8 +60,9 @@ pub fn link_or_image<'a, A: Allocator + Clone>(
     text: &'a str,
     rest: &'a str,
 ) -> Result<Option<Formed<'a>>, AllocError>
-    ensures { (ls : List (List ℕ)) → HasLabels labels.now ls →
+    ensures read { (ls : List (List ℕ)) → HasLabels labels.now ls →
         IfOk result (λ found. IsFormed ls rest.now found (leading (is_among ls) (content_codes text.now) (content_codes rest.now))) }
+    ensures place { IfOk result (λ found. IfSome found (λ formed. IsAfterFormed rest.now formed)) }
 {
     match label_end(labels, text, rest)? {
         Some(end) => Ok(Some(Formed::Leads(end))),

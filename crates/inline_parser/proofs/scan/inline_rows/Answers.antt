@@ -28,7 +28,7 @@ loop-source-init g c =
       };
       follows = λ ds has. record {
         now = scan.reading (scan.text [] false) [];
-        shows = c.in_ok-new.ensures.nothing (leads_to (linked_by ds)) (linked_at ds);
+        shows = c.in_ok-new.ensures.nothing (leads_to (linked_by ds.definitions)) (linked_at ds.definitions);
         same = refl;
       };
     }
@@ -57,9 +57,9 @@ returns g c ds has =
     let content = c.args.content in
     let p = g.T.Tables.punctuation_of c.args.tables.now in
     let names = g.T.Tables.reference_of c.args.tables.now in
-    let leads = leads_to (linked_by ds) in
+    let leads = leads_to (linked_by ds.definitions) in
     let f = c.loop-source.invariant.follows ds has in
     let none = no_bytes c.loop-source.scanner.rest.now (sym c.loop-source-test.ensures) in
     let end = ap (scan.scan (context_by c.args.options.now names ds) 0 f.now) (sym (whole.last_view p content c.loop-source.scanner.rest.now none)) ∙ f.same in
-    subst (λ r. IfOk c.finish.result (λ rows. rows_view (linked_at ds) rows.items ≡ inline_rows leads (emphasized (whole_text r).tokens))) end
-    (c.finish.ensures.read leads (linked_at ds) f.now f.shows)
+    subst (λ r. IfOk c.finish.result (λ rows. rows_view (linked_at ds.definitions) rows.items ≡ inline_rows leads (emphasized (whole_text r).tokens))) end
+    (c.finish.ensures.read leads (linked_at ds.definitions) f.now f.shows)
