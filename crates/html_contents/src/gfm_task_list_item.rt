@@ -1,6 +1,6 @@
 //! Paragraphs that may begin with a check (GFM 5.3).
 ghost use Rattle.std.specs.Prelude.{◌≡◌, ◌++◌, List, OnOk, string_bytes};
-ghost use Rattle.definition_inline.specs.Definition.{Definition};
+ghost use Rattle.definition_page.specs.Targets.{Targets};
 ghost use Rattle.definition_inline.specs.GfmTaskListItem.{check_at};
 ghost use Rattle.definition_inline.specs.Scan.{unindented};
 ghost use Rattle.definition_text.specs.InlineCode.{codes_of};
@@ -16,7 +16,7 @@ use markdown_options::Tables;
 use std::alloc::{AllocError, Allocator};
 
 impl<'a, T: Tables, A: Allocator + Clone> Texts<'a, T, A> {
-    ghost use Rattle.html_contents.specs.Texts.{HasDefinitions, document_by};
+    ghost use Rattle.html_contents.specs.Texts.{KnowsTargets, document_by};
 
     /// Prints the content of a paragraph, which has a check where it is the first block of an item
     /// and begins with one (GFM 5.3).
@@ -28,7 +28,7 @@ impl<'a, T: Tables, A: Allocator + Clone> Texts<'a, T, A> {
         first: bool,
         content: Content<'_>,
     ) -> Result<(), AllocError>
-        ensures { (ds : List Definition) → HasDefinitions self.now.labels.now self.now.links.now ds →
+        ensures { (ds : Targets) → KnowsTargets self.now ds →
             let d = document_by T.Tables self.now ds in
             let codes = unindented (content_view (T.punctuation_of self.now.tables.now) content.entry) in
             let text = checked_text d codes (check_at self.now.options.now.parse.constructs first (codes_of codes)) in

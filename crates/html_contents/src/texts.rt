@@ -3,7 +3,7 @@ ghost use Rattle.std.specs.Prelude.{◌≡◌, ◌++◌, ◌∷◌, [], List, On
 ghost use Rattle.html_bytes.specs.Document.{context_of, meaning_of, text_of, paragraph_of, info_of};
 ghost use Rattle.definition_text.specs.Encode.{encode};
 ghost use Rattle.html_bytes.specs.InlineHtml.{inline_html};
-ghost use Rattle.definition_inline.specs.Definition.{Definition};
+ghost use Rattle.definition_page.specs.Targets.{Targets};
 ghost use Rattle.block_rows.specs.ParagraphLines.{HaveNoEnding, AreLines};
 ghost use Rattle.block_rows.specs.Rows.{piece_line, piece_lines, whole_lines};
 ghost use Rattle.definition_inline.specs.Scan.{inlines, inlines_from};
@@ -30,12 +30,14 @@ pub struct Texts<'a, T, A: Allocator + Clone> {
     pub tables: &'a T,
     /// The labels of the document's link reference definitions.
     pub labels: &'a LabelTable<A>,
-    /// Where those lead, in the order of the text.
+    /// The labels of its footnote definitions.
+    pub footnotes: &'a LabelTable<A>,
+    /// Where the link reference definitions lead, in the order of the text.
     pub links: &'a [Linked<'a>],
 }
 
 impl<'a, T: Tables, A: Allocator + Clone> Texts<'a, T, A> {
-    ghost use Rattle.html_contents.specs.Texts.{HasDefinitions, document_by};
+    ghost use Rattle.html_contents.specs.Texts.{KnowsTargets, document_by};
 
     /// Prints the text of a heading's lines, without the last ending (CommonMark 4.3).
     pub fn push_text(
@@ -44,7 +46,7 @@ impl<'a, T: Tables, A: Allocator + Clone> Texts<'a, T, A> {
         buffers: &mut TextBuffers<A>,
         lines: &[Piece<'_>],
     ) -> Result<(), AllocError>
-        ensures { (ds : List Definition) → HasDefinitions self.now.labels.now self.now.links.now ds → AreLines (piece_lines lines.now) →
+        ensures { (ds : Targets) → KnowsTargets self.now ds → AreLines (piece_lines lines.now) →
             OnOk result (string_bytes out.new ≡ string_bytes out.old ++ text_of (document_by T.Tables self.now ds) (own_lines (piece_lines lines.now))) }
     {
         buffers.content.join(lines)?;
@@ -61,7 +63,7 @@ impl<'a, T: Tables, A: Allocator + Clone> Texts<'a, T, A> {
         first: bool,
         lines: &[Piece<'_>],
     ) -> Result<(), AllocError>
-        ensures { (ds : List Definition) → HasDefinitions self.now.labels.now self.now.links.now ds → AreLines (piece_lines lines.now) →
+        ensures { (ds : Targets) → KnowsTargets self.now ds → AreLines (piece_lines lines.now) →
             let text = paragraph_of (document_by T.Tables self.now ds) first (own_lines (piece_lines lines.now)) in
             OnOk result (string_bytes out.new ≡ string_bytes out.old ++ text) }
     {
@@ -77,7 +79,7 @@ impl<'a, T: Tables, A: Allocator + Clone> Texts<'a, T, A> {
         buffers: &mut TextBuffers<A>,
         line: &Piece<'_>,
     ) -> Result<(), AllocError>
-        ensures { (ds : List Definition) → HasDefinitions self.now.labels.now self.now.links.now ds → HaveNoEnding (piece_line line.now).codes →
+        ensures { (ds : Targets) → KnowsTargets self.now ds → HaveNoEnding (piece_line line.now).codes →
             OnOk result (string_bytes out.new ≡ string_bytes out.old ++ text_of (document_by T.Tables self.now ds) (own_lines (piece_line line.now ∷ []))) }
     {
         let lines = [*line];
@@ -96,7 +98,7 @@ impl<'a, T: Tables, A: Allocator + Clone> Texts<'a, T, A> {
         count: usize,
         text: &str,
     ) -> Result<(), AllocError>
-        ensures { (ds : List Definition) → HasDefinitions self.now.labels.now self.now.links.now ds →
+        ensures { (ds : Targets) → KnowsTargets self.now ds →
             let said = paragraph_of (document_by T.Tables self.now ds) first (own_lines (whole_lines count text.now)) in
             OnOk result (string_bytes out.new ≡ string_bytes out.old ++ said) }
     {
@@ -106,7 +108,7 @@ impl<'a, T: Tables, A: Allocator + Clone> Texts<'a, T, A> {
 
     /// Prints what an info string, which has no line ending, stands for (CommonMark 4.5).
     pub fn push_info(&self, out: &mut String<A>, info: &str) -> Result<(), AllocError>
-        ensures { (ds : List Definition) → HaveNoEnding info.now →
+        ensures { (ds : Targets) → HaveNoEnding info.now →
             OnOk result (string_bytes out.new ≡ string_bytes out.old ++ encode (info_of (document_by T.Tables self.now ds) info.now)) }
     {
         push_encoded_string(out, &self.options.parse.constructs, self.tables, info)
@@ -121,7 +123,7 @@ impl<'a, T: Tables, A: Allocator + Clone> Texts<'a, T, A> {
         cell: bool,
         content: Content<'_>,
     ) -> Result<(), AllocError>
-        ensures { (ds : List Definition) → HasDefinitions self.now.labels.now self.now.links.now ds →
+        ensures { (ds : Targets) → KnowsTargets self.now ds →
             let d = document_by T.Tables self.now ds in
             let structure = inlines (context_of d) (content_view (T.punctuation_of self.now.tables.now) content.entry) in
             OnOk result (string_bytes out.new ≡ string_bytes out.old ++ inline_html (meaning_of d) (shown cell structure)) }
@@ -140,13 +142,21 @@ impl<'a, T: Tables, A: Allocator + Clone> Texts<'a, T, A> {
         start: &'c str,
     ) -> Result<(), AllocError>
         requires { IsPlace content.text.now start.now }
-        ensures { (ds : List Definition) → HasDefinitions self.now.labels.now self.now.links.now ds →
+        ensures { (ds : Targets) → KnowsTargets self.now ds →
             let d = document_by T.Tables self.now ds in
             let structure = inlines_from (context_of d) (view_at (T.punctuation_of self.now.tables.now) content.entry start.now) in
             OnOk result (string_bytes out.new ≡ string_bytes out.old ++ inline_html (meaning_of d) (shown cell structure)) }
     {
         let parse = &self.options.parse;
-        let rows = inline_rows(room, parse, self.tables, self.labels, content, start)?;
+        let rows = inline_rows(
+            room,
+            parse,
+            self.tables,
+            self.labels,
+            self.footnotes,
+            content,
+            start,
+        )?;
         let printing = Printing {
             on: &parse.constructs,
             compile: &self.options.compile,

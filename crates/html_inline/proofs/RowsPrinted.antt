@@ -3,7 +3,7 @@ use Rattle.std.proofs.Common.{◌≡◌, ℕ, Bool, true, false, cond, List, [],
 use Rattle.std.specs.List.{fold}
 use Rattle.std.proofs.lemmas.List.{append-nil}
 use Rattle.std.proofs.lemmas.List.Sums.{fold-append}
-use Rattle.definition_inline.specs.Inline.{Target, Linked, Inline, Data, Escape, Character, Code, Math, Autolink, Literal, Html, EscapedBreak, TrailingBreak, LineEnd, Emphasis, Strong, Strikethrough, Link, Image, Inlines, Nil, Cons}
+use Rattle.definition_inline.specs.Inline.{Target, Linked, Inline, Data, Escape, Character, Code, Math, Autolink, Literal, Html, EscapedBreak, TrailingBreak, LineEnd, Emphasis, Strong, Strikethrough, Link, Image, Call, Inlines, Nil, Cons}
 use Rattle.definition_page.specs.InlinePieces.{leads_to}
 use Rattle.html_bytes.specs.InlineHtml.{InlineMeaning, title_attribute, link_tag, image_tag, description, inline_html, part_description, part_html}
 use Rattle.inline_rows.specs.InlineRows.{InlineRow, Leave, part_rows, inline_rows}
@@ -101,6 +101,7 @@ mutual
       span_printed meaning (Link target kids) (link_tag meaning (leads_to meaning.definition target)) (codes "</a>") kids (rows_printed meaning kids) refl
       (append_assoc (link_tag meaning (leads_to meaning.definition target)) (inline_html meaning kids) (codes "</a>")) out stack
   part_rows_printed meaning (Image target kids) out stack = image_printed meaning target kids (rows_printed meaning kids) out stack
+  part_rows_printed meaning (Call label) out stack = refl
 
   rows_printed : (meaning : InlineMeaning) (is : Inlines) (out : List ℕ) (stack : List Opened)
       → fold (row_printed meaning) (printed_at out stack) (inline_rows (leads_to meaning.definition) is)

@@ -5,7 +5,7 @@ use Rattle.html_bytes.specs.InlineHtml.{InlineMeaning}
 use Rattle.inline_runs.specs.View.{span_view}
 use Rattle.inline_rows.specs.declared.row.Linked.{Linked}
 use Rattle.inline_rows.specs.declared.row.InlineRow.{InlineRow}
-use Rattle.inline_rows.specs.declared.row.InlineRow.TheVariants.{Text, Leaf, EnterSpan, EnterLink, EnterImage, Exit}
+use Rattle.inline_rows.specs.declared.row.InlineRow.TheVariants.{Text, Leaf, EnterSpan, EnterLink, EnterImage, Call, Exit}
 use Rattle.inline_rows.specs.View.{linked_view, target_linked}
 use Rattle.html_inline.specs.declared.stack.OpenPart.{OpenPart}
 use Rattle.html_inline.specs.declared.stack.OpenPart.TheVariants as open_part
@@ -25,6 +25,7 @@ image_linked at (Leaf part) = nowhere
 image_linked at (EnterSpan span) = nowhere
 image_linked at (EnterLink target) = nowhere
 image_linked at (EnterImage target) = target_linked at target
+image_linked at (Call label) = nowhere
 image_linked at Exit = nowhere
 
 module _ (meaning : InlineMeaning) (at : ℕ → inline.Linked) (rows : List InlineRow) where

@@ -70,6 +70,7 @@ fn push_row<A: Allocator, T: Tables>(
         InlineRow::EnterSpan(span) => enter_span(out, scratch, span),
         InlineRow::EnterLink(target) => enter_link(out, scratch, printing, target),
         InlineRow::EnterImage(target) => enter_image(out, scratch, printing, place, target),
+        InlineRow::Call(_) => Ok(()),
         InlineRow::Exit => exit(out, scratch, printing, rows),
     }
 }

@@ -8,7 +8,7 @@ use Rattle.block_rows.specs.declared.row.Row.{Row}
 use Rattle.block_rows.specs.declared.row.Row.TheVariants as row
 use Rattle.definition_text.specs.BlockLines.{BlockLine}
 use Rattle.definition_block.specs.Tree.{is_ending}
-use Rattle.definition_inline.specs.Definition.{Definition}
+use Rattle.definition_page.specs.Targets.{Targets}
 use Rattle.block_rows.specs.Rows.{definition_on, definition_value, row_value, rows_value, value_with, row_size}
 use Rattle.html_page.specs.Loose.{PassView, pass_at, pass_start, before_if, pass_row, pass_rows, places_of, starts_item}
 use Rattle.html_page.proofs.RowSteps.{shown_after}

@@ -3,7 +3,7 @@ ghost use Rattle.std.specs.Prelude.{◌≡◌, ◌++◌, List, OnOk, string_byte
 ghost use Rattle.markdown_options.specs.LineEndings.{ending_bytes};
 ghost use Rattle.definition_text.specs.Lines.{ending_text};
 ghost use Rattle.html_bytes.specs.Pieces.{Fresh, print};
-ghost use Rattle.definition_inline.specs.Definition.{Definition};
+ghost use Rattle.definition_page.specs.Targets.{Targets};
 ghost use Rattle.block_rows.specs.ParagraphLines.{HaveNoEnding};
 ghost use Rattle.definition_block.specs.Tree.{FencedCode};
 ghost use Rattle.html_bytes.specs.Html.{block_pieces, class_of, fenced_content};
@@ -29,7 +29,7 @@ impl<A: Allocator + Clone> Page<A> {
         lines: &[Piece<'_>],
     ) -> Result<(), AllocError>
         ensures default { self.new.default_ending ≡ self.old.default_ending }
-        ensures printed { (ds : List Definition) → HaveNoEnding info.now → let code = FencedCode info.now closed (piece_lines lines.now) in
+        ensures printed { (ds : Targets) → HaveNoEnding info.now → let code = FencedCode info.now closed (piece_lines lines.now) in
             OnOk result (LaysOut self.old self.new (block_pieces (document_by T.Tables texts.now ds) (standing_at top) false false code)) }
     {
         self.fresh()?;
@@ -47,7 +47,7 @@ impl<A: Allocator + Clone> Page<A> {
     /// Prints the class of code with an info, which has no line ending.
     fn class<T: Tables>(&mut self, texts: &Texts<'_, T, A>, info: &str) -> Result<(), AllocError>
         ensures default { self.new.default_ending ≡ self.old.default_ending }
-        ensures printed { (ds : List Definition) → HaveNoEnding info.now →
+        ensures printed { (ds : Targets) → HaveNoEnding info.now →
             OnOk result (Prints self.old self.new (class_of (document_by T.Tables texts.now ds) info.now)) }
     {
         if info.is_empty() {

@@ -5,7 +5,7 @@
 //! A row has a cell for each delimiter: those that are missing are empty, and more aren't printed.
 ghost use Rattle.std.specs.Prelude.{◌≡◌, ◌≤◌, ◌++◌, List, OnOk, codes, length};
 ghost use Rattle.std.specs.List.{flat_map};
-ghost use Rattle.definition_inline.specs.Definition.{Definition};
+ghost use Rattle.definition_page.specs.Targets.{Targets};
 ghost use Rattle.definition_text.specs.BlockLines.{own_lines};
 ghost use Rattle.definition_block.specs.GfmTable.{line_cells};
 ghost use Rattle.block_rows.specs.ParagraphLines.{HaveNoEnding};
@@ -13,7 +13,7 @@ ghost use Rattle.block_rows.specs.Rows.{piece_line, piece_lines};
 ghost use Rattle.block_cells.specs.GfmTable.{cell_view};
 ghost use Rattle.html_bytes.specs.GfmTable.{align_of, cell_tag as tag_of_cell, cell_end as end_of_cell, cell_pieces, missing_pieces, cells_pieces};
 ghost use Rattle.html_bytes.specs.GfmTable.{row_pieces, body_row_pieces, body_pieces, head_pieces, table_pieces};
-ghost use Rattle.html_contents.specs.Texts.{HasDefinitions, document_by};
+ghost use Rattle.html_contents.specs.Texts.{KnowsTargets, document_by};
 ghost use Rattle.html_page.specs.GfmTable.{IsClearIf, next_cell_pieces};
 ghost use Rattle.html_page.specs.Printable.{AreClear};
 ghost use Rattle.html_page.specs.Prints.{LaysOut, Prints};
@@ -35,7 +35,7 @@ impl<A: Allocator + Clone> Page<A> {
     ) -> Result<(), AllocError>
         requires { 2 ≤ length lines.now }
         ensures default { self.new.default_ending ≡ self.old.default_ending }
-        ensures printed { (ds : List Definition) → HasDefinitions texts.now.labels.now texts.now.links.now ds → AreClear (piece_lines lines.now) →
+        ensures printed { (ds : Targets) → KnowsTargets texts.now ds → AreClear (piece_lines lines.now) →
             OnOk result (LaysOut self.old self.new (table_pieces (document_by T.Tables texts.now ds) (own_lines (piece_lines lines.now)))) }
     {
         let mut aligns = Vec::new(self.buffers.alloc.clone()?);
@@ -57,7 +57,7 @@ impl<A: Allocator + Clone> Page<A> {
         line: &Piece<'_>,
     ) -> Result<(), AllocError>
         ensures default { self.new.default_ending ≡ self.old.default_ending }
-        ensures printed { (ds : List Definition) → HasDefinitions texts.now.labels.now texts.now.links.now ds → HaveNoEnding (piece_line line.now).codes →
+        ensures printed { (ds : Targets) → KnowsTargets texts.now ds → HaveNoEnding (piece_line line.now).codes →
             OnOk result (LaysOut self.old self.new (head_pieces (document_by T.Tables texts.now ds) aligns.now (piece_line line.now))) }
     {
         self.html.push_str("<thead>")?;
@@ -76,7 +76,7 @@ impl<A: Allocator + Clone> Page<A> {
         rows: &[Piece<'_>],
     ) -> Result<(), AllocError>
         ensures default { self.new.default_ending ≡ self.old.default_ending }
-        ensures printed { (ds : List Definition) → HasDefinitions texts.now.labels.now texts.now.links.now ds → AreClear (piece_lines rows.now) →
+        ensures printed { (ds : Targets) → KnowsTargets texts.now ds → AreClear (piece_lines rows.now) →
             OnOk result (LaysOut self.old self.new (body_pieces (document_by T.Tables texts.now ds) aligns.now ending (own_lines (piece_lines rows.now)))) }
     {
         if rows.is_empty() {
@@ -97,7 +97,7 @@ impl<A: Allocator + Clone> Page<A> {
         rows: &[Piece<'_>],
     ) -> Result<(), AllocError>
         ensures default { self.new.default_ending ≡ self.old.default_ending }
-        ensures printed { (ds : List Definition) → HasDefinitions texts.now.labels.now texts.now.links.now ds → AreClear (piece_lines rows.now) →
+        ensures printed { (ds : Targets) → KnowsTargets texts.now ds → AreClear (piece_lines rows.now) →
             OnOk result (LaysOut self.old self.new
             (flat_map (body_row_pieces (document_by T.Tables texts.now ds) aligns.now) (own_lines (piece_lines rows.now)))) }
     {
@@ -119,7 +119,7 @@ impl<A: Allocator + Clone> Page<A> {
         line: &Piece<'_>,
     ) -> Result<(), AllocError>
         ensures default { self.new.default_ending ≡ self.old.default_ending }
-        ensures printed { (ds : List Definition) → HasDefinitions texts.now.labels.now texts.now.links.now ds → HaveNoEnding (piece_line line.now).codes →
+        ensures printed { (ds : Targets) → KnowsTargets texts.now ds → HaveNoEnding (piece_line line.now).codes →
             OnOk result (LaysOut self.old self.new (row_pieces (document_by T.Tables texts.now ds) name.now aligns.now (piece_line line.now))) }
     {
         self.fresh()?;
@@ -138,7 +138,7 @@ impl<A: Allocator + Clone> Page<A> {
         line: &Piece<'_>,
     ) -> Result<(), AllocError>
         ensures default { self.new.default_ending ≡ self.old.default_ending }
-        ensures printed { (ds : List Definition) → HasDefinitions texts.now.labels.now texts.now.links.now ds → HaveNoEnding (piece_line line.now).codes →
+        ensures printed { (ds : Targets) → KnowsTargets texts.now ds → HaveNoEnding (piece_line line.now).codes →
             OnOk result (LaysOut self.old self.new
             (cells_pieces (document_by T.Tables texts.now ds) name.now aligns.now (line_cells (piece_line line.now)))) }
     {
@@ -159,7 +159,7 @@ impl<A: Allocator + Clone> Page<A> {
         cell: Option<Cell<'_>>,
     ) -> Result<(), AllocError>
         ensures default { self.new.default_ending ≡ self.old.default_ending }
-        ensures printed { (ds : List Definition) → HasDefinitions texts.now.labels.now texts.now.links.now ds → IsClearIf cell.entry →
+        ensures printed { (ds : Targets) → KnowsTargets texts.now ds → IsClearIf cell.entry →
             OnOk result (LaysOut self.old self.new (next_cell_pieces (document_by T.Tables texts.now ds) name.now align cell.entry)) }
     {
         match cell {
@@ -177,7 +177,7 @@ impl<A: Allocator + Clone> Page<A> {
         cell: &Cell<'_>,
     ) -> Result<(), AllocError>
         ensures default { self.new.default_ending ≡ self.old.default_ending }
-        ensures printed { (ds : List Definition) → HasDefinitions texts.now.labels.now texts.now.links.now ds →
+        ensures printed { (ds : Targets) → KnowsTargets texts.now ds →
             HaveNoEnding (piece_line cell.now.line).codes →
             OnOk result (LaysOut self.old self.new (cell_pieces (document_by T.Tables texts.now ds) name.now align (cell_view cell.now))) }
     {

@@ -2,12 +2,12 @@
 ghost use Rattle.std.specs.Prelude.{◌≡◌, ◌≤◌, ◌<◌, List, OnOk, string_bytes, length, true, false};
 ghost use Rattle.markdown_options.specs.LineEndings.{ending_bytes};
 ghost use Rattle.definition_text.specs.Lines.{ending_text};
-ghost use Rattle.definition_inline.specs.Definition.{Definition};
+ghost use Rattle.definition_page.specs.Targets.{Targets};
 ghost use Rattle.definition_block.specs.Tree.{Paragraph, Break};
 ghost use Rattle.definition_page.specs.Pieces.{is_fresh};
 ghost use Rattle.html_bytes.specs.Pieces.{Fresh, print};
 ghost use Rattle.block_rows.specs.Rows.{row_size, piece_lines, row_value};
-ghost use Rattle.html_contents.specs.Texts.{HasDefinitions, document_by};
+ghost use Rattle.html_contents.specs.Texts.{KnowsTargets, document_by};
 ghost use Rattle.html_page.specs.Levels.{row_pieces};
 ghost use Rattle.html_page.specs.Printable.{IsPrintableRow};
 
@@ -40,7 +40,7 @@ impl<A: Allocator + Clone> Page<A> {
         requires enough { row_size row ≤ length lines.now }
         requires printable { IsPrintableRow (row_value row (piece_lines lines.now)) }
         ensures default { self.new.default_ending ≡ self.old.default_ending }
-        ensures printed { (ds : List Definition) → HasDefinitions texts.now.labels.now texts.now.links.now ds →
+        ensures printed { (ds : Targets) → KnowsTargets texts.now ds →
             OnOk result (LaysOut self.old self.new (row_pieces (document_by T.Tables texts.now ds) level (row_value row (piece_lines lines.now)))) }
     {
         let top = level.is_document();

@@ -1,12 +1,12 @@
 //! Paragraphs (CommonMark 4.8).
 ghost use Rattle.std.specs.Prelude.{◌≡◌, ◌<◌, ℕ, List, slice_index, OnOk, true, false};
-ghost use Rattle.definition_inline.specs.Definition.{Definition};
+ghost use Rattle.definition_page.specs.Targets.{Targets};
 ghost use Rattle.block_rows.specs.ParagraphLines.{AreLines};
 ghost use Rattle.definition_text.specs.BlockLines.{own_lines};
 ghost use Rattle.definition_block.specs.Tree.{Paragraph};
 ghost use Rattle.html_bytes.specs.Html.{block_pieces};
 ghost use Rattle.block_rows.specs.Rows.{piece_lines, whole_lines};
-ghost use Rattle.html_contents.specs.Texts.{HasDefinitions, document_by};
+ghost use Rattle.html_contents.specs.Texts.{KnowsTargets, document_by};
 ghost use Rattle.html_page.specs.Levels.{standing_first};
 ghost use Rattle.html_page.specs.Prints.{LaysOut};
 
@@ -27,7 +27,7 @@ impl<A: Allocator + Clone> Page<A> {
         lines: &[Piece<'_>],
     ) -> Result<(), AllocError>
         ensures default { self.new.default_ending ≡ self.old.default_ending }
-        ensures printed { (ds : List Definition) → HasDefinitions texts.now.labels.now texts.now.links.now ds → AreLines (piece_lines lines.now) →
+        ensures printed { (ds : Targets) → KnowsTargets texts.now ds → AreLines (piece_lines lines.now) →
             let paragraph = Paragraph (own_lines (piece_lines lines.now)) in
             OnOk result (LaysOut self.old self.new (block_pieces (document_by T.Tables texts.now ds) (standing_first first) tight false paragraph)) }
     {
@@ -50,7 +50,7 @@ impl<A: Allocator + Clone> Page<A> {
         text: &str,
     ) -> Result<(), AllocError>
         ensures default { self.new.default_ending ≡ self.old.default_ending }
-        ensures printed { (ds : List Definition) → HasDefinitions texts.now.labels.now texts.now.links.now ds →
+        ensures printed { (ds : Targets) → KnowsTargets texts.now ds →
             let paragraph = Paragraph (own_lines (whole_lines count text.now)) in
             OnOk result (LaysOut self.old self.new (block_pieces (document_by T.Tables texts.now ds) (standing_first first) tight false paragraph)) }
         ensures bytes { (k : ℕ) → slice_index text.now k < 256 }

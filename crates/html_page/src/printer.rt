@@ -1,13 +1,13 @@
 //! Rows to HTML.
 ghost use Rattle.std.specs.Prelude.{◌≡◌, ◌≤◌, ◌<◌, ◌+◌, ◌^◌, List, IfOk, OnOk, string_bytes, length};
 ghost use Rattle.markdown_options.specs.LineEndings.{ending_bytes};
-ghost use Rattle.definition_inline.specs.Definition.{Definition};
+ghost use Rattle.definition_page.specs.Targets.{Targets};
 ghost use Rattle.definition_text.specs.BlockLines.{BlockLine};
 ghost use Rattle.definition_block.specs.Tree.{Blocks};
 ghost use Rattle.html_bytes.specs.Pieces.{layout};
 ghost use Rattle.html_bytes.specs.Html.{document_pieces};
 ghost use Rattle.block_rows.specs.Rows.{rows_size, row_size, piece_lines, rows_of, row_value, rows_value};
-ghost use Rattle.html_contents.specs.Texts.{HasDefinitions, document_by};
+ghost use Rattle.html_contents.specs.Texts.{KnowsTargets, document_by};
 ghost use Rattle.html_page.specs.Printable.{IsPrintableRow, ArePrintable, CanBePrinted};
 ghost use Rattle.html_page.specs.PrinterView.{ends_blank_rows, is_blank_row, printer_view, print_row, shown_row};
 
@@ -45,7 +45,7 @@ impl<A: Allocator + Clone> Printer<A> {
         requires printable { IsPrintableRow (row_value row (piece_lines lines.now)) }
         requires few { self.old.hidden + 1 < 2 ^ 64 }
         ensures default { self.new.page.default_ending ≡ self.old.page.default_ending }
-        ensures printed { (ds : List Definition) → HasDefinitions texts.now.labels.now texts.now.links.now ds →
+        ensures printed { (ds : Targets) → KnowsTargets texts.now ds →
             let d = document_by T.Tables texts.now ds in let value = row_value row (piece_lines lines.now) in
             OnOk result (printer_view self.new ≡ print_row d (ending_bytes self.old.page.default_ending) (printer_view self.old) value) }
         ensures few { OnOk result (self.new.hidden ≤ self.old.hidden + 1) }
@@ -67,7 +67,7 @@ impl<A: Allocator + Clone> Printer<A> {
         requires enough { row_size row ≤ length lines.now }
         requires printable { IsPrintableRow (row_value row (piece_lines lines.now)) }
         ensures default { self.new.page.default_ending ≡ self.old.page.default_ending }
-        ensures printed { (ds : List Definition) → HasDefinitions texts.now.labels.now texts.now.links.now ds →
+        ensures printed { (ds : Targets) → KnowsTargets texts.now ds →
             let d = document_by T.Tables texts.now ds in let value = row_value row (piece_lines lines.now) in
             OnOk result (printer_view self.new ≡ shown_row d (ending_bytes self.old.page.default_ending) (printer_view self.old) value) }
         ensures few { OnOk result (self.new.hidden ≤ self.old.hidden + 1) }
@@ -104,7 +104,7 @@ pub fn print_rows<T: Tables, A: Allocator + Clone>(
 ) -> Result<String<A>, AllocError>
     requires enough { rows_size rows.now ≤ length pieces.now }
     requires printable { ArePrintable (rows_value rows.now (piece_lines pieces.now)).rows }
-    ensures { (ds : List Definition) → HasDefinitions texts.now.labels.now texts.now.links.now ds →
+    ensures { (ds : Targets) → KnowsTargets texts.now ds →
         (bs : Blocks) → (rows_value rows.now (piece_lines pieces.now)).rows ≡ rows_of bs → CanBePrinted bs →
         IfOk result (λ html. string_bytes html ≡ layout (ending_bytes default_ending) (document_pieces (document_by T.Tables texts.now ds) bs)) }
 {

@@ -4,7 +4,7 @@ use Rattle.std.specs.Prelude.{◌||◌, false, true}
 use Rattle.std.proofs.lemmas.Bool.{false≢true}
 use Rattle.std.specs.Prelude.{replicate}
 use Rattle.std.specs.List.{flat_map}
-use Rattle.std.proofs.lemmas.List.{length-append, reverse-append, take_all, length-drop, length-take-le}
+use Rattle.std.proofs.lemmas.List.{length-append, reverse-append, take_all, length-drop}
 use Rattle.definition_inline.specs.Inline.{Target, Inline, Data}
 use Rattle.definition_inline.specs.Inline as inline
 use Rattle.inline_rows.specs.InlineRows.{part_rows}
@@ -72,12 +72,14 @@ sound_start rows new row runs slots o opens e at count w out =
     let slots_are = take_all o.runs slots (omega (arith, count, w.same)) in
     record {
       within = sound.within_more runs slots (length rows) (length new) w (omega (arith, more));
-      outside =
-          (omega (arith, more, at), omega (arith, count),
-          subst (AreWithin (take o.runs runs) (take o.runs slots)) (sym at)
-          (subst (λ x. AreWithin x (take o.runs slots) (length rows)) (sym runs_are) (subst (λ x. AreWithin runs x (length rows)) (sym slots_are) w)),
-          subst (λ n. AreOutside opens n (take o.runs runs) (take o.runs slots)) (sym at)
-          (subst (λ x. AreOutside opens (length rows) x (take o.runs slots)) (sym runs_are) (subst (AreOutside opens (length rows) runs) (sym slots_are) out)));
+      outside = (
+        omega (arith, more, at),
+        omega (arith, count),
+        subst (AreWithin (take o.runs runs) (take o.runs slots)) (sym at)
+            (subst (λ x. AreWithin x (take o.runs slots) (length rows)) (sym runs_are) (subst (λ x. AreWithin runs x (length rows)) (sym slots_are) w)),
+        subst (λ n. AreOutside opens n (take o.runs runs) (take o.runs slots)) (sym at)
+            (subst (λ x. AreOutside opens (length rows) x (take o.runs slots)) (sym runs_are) (subst (AreOutside opens (length rows) runs) (sym slots_are) out)),
+      );
     }
 
 -- the same among the label starts

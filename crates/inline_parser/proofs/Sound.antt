@@ -66,10 +66,12 @@ pub outside_run : (opens : List OpenLabel) (rows more n : ℕ) (r : Run) (runs :
 outside_run [] rows more n r runs slots same o le = tt
 outside_run (x ∷ xs) rows more n r runs slots same o le =
     let runs_are = take-append-le x.runs runs (r ∷ []) o.1 in
-    let slots_are = take-append-le x.runs slots (n ∷ []) (omega (arith, same, o.1)) in
-    (omega (arith, o.0, le), omega (arith, o.1, length-append runs (r ∷ [])),
-    subst (λ rs. AreWithin rs (take x.runs (slots ++ n ∷ [])) x.row) (sym runs_are) (subst (λ ss. AreWithin (take x.runs runs) ss x.row) (sym slots_are) o.2),
-    subst (λ rs. AreOutside xs x.row rs (take x.runs (slots ++ n ∷ []))) (sym runs_are) (subst (AreOutside xs x.row (take x.runs runs)) (sym slots_are) o.3))
+    let slots_are = take-append-le x.runs slots (n ∷ []) (omega (arith, same, o.1)) in (
+      omega (arith, o.0, le),
+      omega (arith, o.1, length-append runs (r ∷ [])),
+      subst (λ rs. AreWithin rs (take x.runs (slots ++ n ∷ [])) x.row) (sym runs_are) (subst (λ ss. AreWithin (take x.runs runs) ss x.row) (sym slots_are) o.2),
+      subst (λ rs. AreOutside xs x.row rs (take x.runs (slots ++ n ∷ []))) (sym runs_are) (subst (AreOutside xs x.row (take x.runs runs)) (sym slots_are) o.3),
+    )
 
 -- the innermost is gone
 pub outside_popped : (o : OpenLabel) (opens : List OpenLabel) (rows : ℕ) (runs : List Run) (slots : List ℕ) → AreOutside (o ∷ opens) rows runs slots → AreOutside opens rows runs slots
@@ -78,7 +80,9 @@ outside_popped o (x ∷ xs) rows runs slots h =
     let inner = h.3 in
     let fewer : x.runs ≤ o.runs = omega (arith, inner.1, length-take-le o.runs runs h.1) in
     let runs_are = take-take x.runs o.runs runs fewer in
-    let slots_are = take-take x.runs o.runs slots fewer in
-    (omega (arith, inner.0, h.0), omega (arith, fewer, h.1),
-    subst (λ rs. AreWithin rs (take x.runs slots) x.row) runs_are (subst (λ ss. AreWithin (take x.runs (take o.runs runs)) ss x.row) slots_are inner.2),
-    subst (λ rs. AreOutside xs x.row rs (take x.runs slots)) runs_are (subst (AreOutside xs x.row (take x.runs (take o.runs runs))) slots_are inner.3))
+    let slots_are = take-take x.runs o.runs slots fewer in (
+      omega (arith, inner.0, h.0),
+      omega (arith, fewer, h.1),
+      subst (λ rs. AreWithin rs (take x.runs slots) x.row) runs_are (subst (λ ss. AreWithin (take x.runs (take o.runs runs)) ss x.row) slots_are inner.2),
+      subst (λ rs. AreOutside xs x.row rs (take x.runs slots)) runs_are (subst (AreOutside xs x.row (take x.runs (take o.runs runs))) slots_are inner.3),
+    )

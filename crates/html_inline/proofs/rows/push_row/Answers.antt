@@ -1,4 +1,5 @@
-use Rattle.std.proofs.Common.{◌≡◌, ◌++◌, string_bytes, sym, ap, ◌∙◌}
+use Rattle.std.proofs.Common.{◌≡◌, ℕ, Bool, true, false, cond, List, [], ◌++◌, string_bytes, sym, ap, ◌∙◌}
+use Rattle.std.proofs.lemmas.List.{append-nil}
 use Rattle.std.specs.Prelude.{map, reverse}
 use Rattle.std.specs.List.{fold}
 use Rattle.std.proofs.lemmas.Result.{on_ok_weaker}
@@ -79,6 +80,23 @@ returns-in-EnterImage g c = λ definition.
     let row_is = λ (r : InlineRow). fold (row_printed_in p.cell meaning) old (row_view at r) in
     on_ok_weaker c.enter_image.result (λ e. e ∙ ap row_is (sym c.in-EnterImage.is))
     (c.enter_image.ensures definition c.args.rows.now (ap (image_linked at) (c.requires ∙ c.in-EnterImage.is)))
+
+-- nothing is printed for a call
+nothing_added : (described : Bool) (out : List ℕ) → out ++ (cond described [] []) ≡ out
+nothing_added true out = append-nil out
+nothing_added false out = append-nil out
+
+pub returns-in-Call : goal.returns-in-Call
+returns-in-Call g c = λ definition.
+    let p = c.args.printing.now in
+    let meaning = inline_meaning p.on.now p.compile.now (g.T.Tables.reference_of p.tables.now) definition in
+    let at = place_linked p.definitions.now in
+    let view = opened_view meaning at c.args.rows.now in
+    let stack = map view (reverse c.args.scratch.now.stack.items) in
+    let out = string_bytes c.args.out.now in
+    let old = printed_at out stack in
+    let row_is = λ (r : InlineRow). fold (row_printed_in p.cell meaning) old (row_view at r) in
+    ap (λ x. printed_at x stack) (sym (nothing_added (is_described stack) out)) ∙ ap row_is (sym c.in-Call.is)
 
 pub returns-in-Exit : goal.returns-in-Exit
 returns-in-Exit g c = λ definition.
