@@ -14,7 +14,7 @@ use Rattle.html_bytes.specs.Html.{children_pieces, last_piece, document_pieces}
 use Rattle.block_rows.specs.Rows.{BlockRow, Single, Exit, start_row, rows_of, block_rows, spaced_definition}
 use Rattle.html_page.specs.declared.level.Holder.TheVariants as holder
 use Rattle.html_page.specs.declared.loose.Place.{Place}
-use Rattle.html_page.specs.Printable.{IsPrintable, IsPrintableRow, ArePrintable, CanBePrinted}
+use Rattle.html_page.specs.Printable.{IsPrintable, IsPrintableContainer, IsPrintableRow, ArePrintable, CanBePrinted}
 use Rattle.html_page.specs.Loose.{PassView}
 use Rattle.html_page.specs.Levels.{new_level}
 use Rattle.html_page.specs.PrinterView.{PrinterView, printer_at, print_all, is_blank_row, ends_blank_rows, rows_html}
@@ -70,10 +70,10 @@ all_append P (x ∷ xs) ys h k = All-cons P x (xs ++ ys) (All-head P x xs h) (al
 all_one : (row : BlockRow) → IsPrintableRow row → ArePrintable (row ∷ [])
 all_one row h = All-cons IsPrintableRow row [] h (All-nil IsPrintableRow)
 
-entered_printable : (c : Container) → IsPrintableRow (start_row c)
-entered_printable Quote = tt
-entered_printable (Item item) = tt
-entered_printable (Footnote label) = tt
+entered_printable : (c : Container) → IsPrintableContainer c → IsPrintableRow (start_row c)
+entered_printable Quote h = tt
+entered_printable (Item item) h = tt
+entered_printable (Footnote label) h = h
 
 mutual
   pub printable_block : (b : Block) → IsPrintable b → ArePrintable (block_rows b)
@@ -86,7 +86,7 @@ mutual
   printable_block (Table ls) h = all_one (Single (Table ls)) h
   printable_block (Definition label destination title) h = all_one (Single (spaced_definition label destination title)) h
   printable_block (Holds c kids) h =
-      All-cons IsPrintableRow (start_row c) (rows_of kids ++ Exit ∷ []) (entered_printable c) (all_append IsPrintableRow (rows_of kids) (Exit ∷ []) (printable_rows_of kids h.1) (all_one Exit tt))
+      All-cons IsPrintableRow (start_row c) (rows_of kids ++ Exit ∷ []) (entered_printable c h.0) (all_append IsPrintableRow (rows_of kids) (Exit ∷ []) (printable_rows_of kids h.1) (all_one Exit tt))
   printable_block (Items items) h = absurd h
   printable_block (Ending ending) h = all_one (Single (Ending ending)) h
   printable_block (Blank ending) h = all_one (Single (Blank ending)) h
