@@ -10,7 +10,7 @@ use Rattle.definition_block.specs.declared.align_kind.AlignKind.TheVariants as a
 use Rattle.definition_block.specs.GfmTable.{delimiters}
 use Rattle.definition_page.specs.Tags.{Words, Attribute, attribute, tag, bare_tag}
 use Rattle.definition_page.specs.Pieces.{Piece, Says, Fresh}
-use Rattle.definition_page.specs.InlinePieces.{Meaning, element, inline_pieces}
+use Rattle.definition_page.specs.InlinePieces.{Meaning, element, inline_counts, inline_pieces}
 
 -- a row: its cells, and the ending of its line
 pub record TableRow : Type 0 where
@@ -91,9 +91,9 @@ align_attributes align.None = []
 abbrev pub cell_pieces : Meaning → List ℕ → AlignKind → Inlines → List Piece
 cell_pieces m name align is = Fresh ∷ element (tag name (align_attributes align)) (inline_pieces m is)
 
--- the cells of a row, one for each column: those that are missing are empty, and more aren't printed
+-- the cells of a row, one for each column: those that are missing are empty, and more aren't printed, but the calls of footnotes in them count
 abbrev pub cells_pieces : Meaning → List ℕ → List AlignKind → List Inlines → List Piece
-cells_pieces m name [] cells = []
+cells_pieces m name [] cells = flat_map (inline_counts m) cells
 cells_pieces m name (align ∷ aligns) [] = cell_pieces m name align Nil ++ cells_pieces m name aligns []
 cells_pieces m name (align ∷ aligns) (c ∷ cs) = cell_pieces m name align c ++ cells_pieces m name aligns cs
 

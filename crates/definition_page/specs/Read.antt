@@ -155,7 +155,7 @@ ends_blank before (tree.Cons b bs) = ends_blank (is_blank_ending b) bs
 -- the page of these children of a document, whose labels lead to these targets
 abbrev pub page_with : TextTables → ParseOptions → Targets → tree.Blocks → Page
 page_with tables options t bs =
-    record { blocks = read_blocks (reading tables options t) on_page (grouped bs); definitions = t.definitions; ends_blank = ends_blank false bs }
+    record { blocks = read_blocks (reading tables options t) on_page (grouped bs); definitions = t.definitions; footnotes = t.footnotes; ends_blank = ends_blank false bs }
 
 -- the page of the children of a document: items are grouped to lists, and contents read by all of its definitions
 abbrev pub page_of : TextTables → ParseOptions → tree.Blocks → Page
