@@ -15,7 +15,7 @@ use Rattle.definition_inline.specs.MathText.{math_text_at}
 use Rattle.definition_inline.specs.Autolink.{autolink_at}
 use Rattle.definition_inline.specs.HtmlText.{html_text_at}
 use Rattle.definition_inline.specs.HardBreak.{escaped_break_at, line_end_at, line_spaces_at}
-use Rattle.definition_inline.specs.GfmAutolinkLiteral.{literal_at}
+use Rattle.definition_inline.specs.GfmAutolinkLiteral.{literal_at, linked_literals}
 use Rattle.definition_inline.specs.LabelEnd.{Ended, label_end_at}
 use Rattle.definition_inline.specs.Attention.{Run, run_at}
 use Rattle.definition_inline.specs.Spans.{Token, Item, Delimiters, emphasized}
@@ -198,9 +198,13 @@ scan context (suc k) r (c ∷ cs) = scan context k r cs
 abbrev pub whole_text : Reading → Text
 whole_text r = fold (λ inner label. unformed label inner) r.now r.open_labels
 
+-- what the scan of a content finds that begins here, with its runs paired, where links may still hold literals, and addresses are text
+abbrev pub spans_from : InlineContext → List InlineCode → Inlines
+spans_from context content = emphasized (whole_text (scan context 0 (reading (text [] false) []) content)).tokens
+
 -- the inline structure of a content that begins here, without the spaces and tabs at its end (CommonMark 6)
 abbrev pub inlines_from : InlineContext → List InlineCode → Inlines
-inlines_from context content = emphasized (whole_text (scan context 0 (reading (text [] false) []) content)).tokens
+inlines_from context content = linked_literals context.options.constructs (spans_from context content)
 
 -- a content without the spaces and tabs at its start
 abbrev pub unindented : List InlineCode → List InlineCode
