@@ -20,7 +20,7 @@ use Rattle.definition_inline.specs.MathText.{math_text_at}
 use Rattle.definition_inline.specs.Autolink.{autolink_at}
 use Rattle.definition_inline.specs.HtmlText.{html_text_at}
 use Rattle.definition_inline.specs.HardBreak.{escaped_break_at, line_end_at, line_spaces_at}
-use Rattle.definition_inline.specs.GfmAutolinkLiteral.{literal_at}
+use Rattle.definition_inline.specs.GfmAutolinkLiteral.{literal_at, linked_literals}
 use Rattle.definition_inline.specs.LabelEnd.{Ended, label_end_at}
 use Rattle.definition_inline.specs.Attention.{Run, is_marker, run_between, run_size, run_at}
 use Rattle.definition_inline.specs.Spans.{Token, Item, Delimiters, emphasized}
@@ -32,6 +32,7 @@ use Rattle.laws_endings.proofs.Codes.{cond-under, same_code, before-with}
 use Rattle.laws_endings.proofs.Leaves.{if_found, or_else-with, same_byte, begins-byte, leaf_at-with}
 use Rattle.laws_endings.proofs.Literals.{codes_of-with, literal_at-with}
 use Rattle.laws_endings.proofs.LabelEnds.{begins-two, if_ended, label_end_at-with}
+use Rattle.laws_endings.proofs.Addresses.{linked-with}
 use Rattle.laws_endings.proofs.Tokens.{token_with, tokens_with, emphasized-with}
 
 -- ---- where no construct begins that holds no other stands no ending
@@ -272,9 +273,11 @@ module _ (e : LineEnding) where
     from-with content =
         let empty = reading (text [] false) [] in
         let read = scan context 0 empty content in
-        ap (λ r. emphasized (whole_text r).tokens) (scan-with 0 empty content)
-        ∙ ap (λ (t : Text). emphasized t.tokens) (unformed_all read.now read.open_labels)
-        ∙ emphasized-with e (whole_text read).tokens
+        let linked = linked_literals context.options.constructs in
+        ap (λ r. linked (emphasized (whole_text r).tokens)) (scan-with 0 empty content)
+        ∙ ap (λ (t : Text). linked (emphasized t.tokens)) (unformed_all read.now read.open_labels)
+        ∙ ap linked (emphasized-with e (whole_text read).tokens)
+        ∙ linked-with e context.options.constructs (emphasized (whole_text read).tokens)
 
     pub inlines-with : (content : List InlineCode) → inlines context (content_with e content) ≡ inlines_with e (inlines context content)
     inlines-with content = ap (inlines_from context) (unindented-with content) ∙ from-with (unindented content)

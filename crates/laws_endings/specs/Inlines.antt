@@ -27,7 +27,7 @@ abbrev mutual
   inline_with e (Code text) = Code text
   inline_with e (Math text) = Math text
   inline_with e (Autolink is_email text) = Autolink is_email (codes_with e text)
-  inline_with e (Literal kind text) = Literal kind (codes_with e text)
+  inline_with e (Literal kind text) = Literal kind text
   inline_with e (Html html) = Html (codes_with e html)
   inline_with e EscapedBreak = EscapedBreak
   inline_with e TrailingBreak = TrailingBreak

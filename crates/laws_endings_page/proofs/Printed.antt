@@ -311,9 +311,7 @@ module _ (e : LineEnding) where
       part-with (Autolink is_email text) p =
           subst (λ t. PiecesWith (part_pieces meaning_with (Autolink is_email t)) (part_pieces m (Autolink is_email text)))
           (sym (codes-kept e text (plains_no_feed text p))) (autolink_piece is_email text p)
-      part-with (Literal kind text) p =
-          subst (λ t. PiecesWith (part_pieces meaning_with (Literal kind t)) (part_pieces m (Literal kind text)))
-          (sym (codes-kept e text (plains_no_feed text p))) (literal_piece kind text p)
+      part-with (Literal kind text) p = literal_piece kind text p
       part-with (Html html) p = saids-with (html_says m.compile (codes_with e html)) (html_says m.compile html) (html_says-with e m.compile html p)
       part-with EscapedBreak p = void_piece-with (codes "br") [] [] refl refl
       part-with TrailingBreak p = void_piece-with (codes "br") [] [] refl refl

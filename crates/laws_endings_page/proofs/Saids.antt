@@ -252,7 +252,7 @@ module _ (e : LineEnding) where
       part_says-with (Code text) p = text_says text p
       part_says-with (Math text) p = text_says text p
       part_says-with (Autolink is_email text) p = says_one (Words (codes_with e text)) (Words text) (words-codes text (plains_no_feed text p))
-      part_says-with (Literal kind text) p = says_one (Words (codes_with e text)) (Words text) (words-codes text (plains_no_feed text p))
+      part_says-with (Literal kind text) p = text_says text p
       part_says-with (Html html) p = html_says-with html p
       part_says-with EscapedBreak p = refl
       part_says-with TrailingBreak p = refl
