@@ -9,8 +9,8 @@ use Rattle.laws_each.proofs.Each.{Each, each-append, each-take, each-drop}
 module _ (Good : Inline → Type 0) (AllGood : Inlines → Type 0) (Keeps : Inlines → Inlines → Type 0) where
   -- what holds others is good where they are, and stays so with others that keep what it needs of them
   pub record Holds (make : Inlines → Inline) : Type 0 where
-    pub open : (kids : Inlines) → Good (make kids) → AllGood kids
-    pub close : (kids others : Inlines) → Good (make kids) → Keeps kids others → AllGood others → Good (make others)
+    pub opens : (kids : Inlines) → Good (make kids) → AllGood kids
+    pub closes : (kids others : Inlines) → Good (make kids) → Keeps kids others → AllGood others → Good (make others)
 
   -- what is good of literals and text
   pub record Carries : Type 0 where
@@ -79,7 +79,7 @@ module _ (Good : Inline → Type 0) (AllGood : Inlines → Type 0) (Keeps : Inli
         → (AllGood kids → AllGood others) → (AllGood is → AllGood rest) → AllGood (Cons (make others) rest)
     held make holds kids others is rest h keeps f g =
         let one = c.first (make kids) is h in
-        c.more (make others) rest (holds.close kids others one keeps (f (holds.open kids one))) (g (c.rest (make kids) is h))
+        c.more (make others) rest (holds.closes kids others one keeps (f (holds.opens kids one))) (g (c.rest (make kids) is h))
 
     without_good : (is : Inlines) → AllGood is → AllGood (without_literals is)
     without_good Nil h = h
