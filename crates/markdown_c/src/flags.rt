@@ -1,6 +1,6 @@
 //! The options that a sum of flags asks for.
-ghost use Rattle.std.specs.Prelude.{◌≡◌, ◌<◌, IfSome, true};
-ghost use Rattle.markdown_options.specs.Built.{is_built};
+ghost use Rattle.std.specs.Prelude.{◌≡◌, ◌<◌, IfSome, false};
+ghost use Rattle.markdown_options.specs.Mdx.{has_mdx};
 ghost use Rattle.markdown_c.specs.Flags.{flagged_constructs, flagged_options, has_flag, options_of};
 
 use markdown::{CompileOptions, Constructs, Options, ParseOptions};
@@ -32,7 +32,7 @@ const ALL: u32 = DANGEROUS + PLAIN + STRIKETHROUGH + MATH + FRONTMATTER + TASK_L
 /// The options that a sum of flags asks for, if it has no others.
 pub(crate) fn options_of(flags: u32) -> Option<Options>
     ensures options { result ≡ options_of flags }
-    ensures built { IfSome result (λ options. is_built options.parse.constructs ≡ true) }
+    ensures without_mdx { IfSome result (λ options. has_mdx options.parse.constructs ≡ false) }
 {
     if flags > ALL {
         return None;
@@ -51,7 +51,7 @@ fn has_flag(flag: u32, flags: u32) -> bool
 /// The constructs that are on by default, and those of the flags; none with the flag for none.
 fn flagged_constructs(flags: u32) -> Constructs
     ensures constructs { result ≡ flagged_constructs flags }
-    ensures built { is_built result ≡ true }
+    ensures without_mdx { has_mdx result ≡ false }
 {
     if has_flag(PLAIN, flags) {
         return Constructs::none();
@@ -70,7 +70,7 @@ fn flagged_constructs(flags: u32) -> Constructs
 /// The default options, with what the flags change.
 fn flagged_options(flags: u32) -> Options
     ensures options { result ≡ flagged_options flags }
-    ensures built { is_built result.parse.constructs ≡ true }
+    ensures without_mdx { has_mdx result.parse.constructs ≡ false }
 {
     Options {
         parse: ParseOptions {

@@ -1,6 +1,6 @@
 //! Tables (GFM 4.10): texts and their HTML.
-ghost use Rattle.std.specs.Prelude.{◌≡◌, true};
-ghost use Rattle.markdown_options.specs.Built.{is_built};
+ghost use Rattle.std.specs.Prelude.{◌≡◌, false};
+ghost use Rattle.markdown_options.specs.Mdx.{has_mdx};
 
 use markdown::{Options, RunError};
 use tests_helpers::first_wrong;
@@ -208,7 +208,7 @@ const AMONG_BLOCKS: [(&str, &str); 32] = [
 
 /// The default options, with tables.
 fn with_tables() -> Options
-    ensures { is_built result.parse.constructs ≡ true }
+    ensures { has_mdx result.parse.constructs ≡ false }
 {
     let mut options = Options::default();
     options.parse.constructs.gfm_table = true;

@@ -1,6 +1,6 @@
 //! Memory that runs out.
-ghost use Rattle.std.specs.Prelude.{◌≡◌, true};
-ghost use Rattle.markdown_options.specs.Built.{is_built};
+ghost use Rattle.std.specs.Prelude.{◌≡◌, false};
+ghost use Rattle.markdown_options.specs.Mdx.{has_mdx};
 
 use crate::extensions::{MATH_FLOW, STRIKETHROUGH, extensions};
 use crate::gfm_task_list_item::TASKS;
@@ -46,7 +46,7 @@ fn first_unjoined<'a>(
     rows: &[(&'a str, &str)],
     options: &Options,
 ) -> Result<Option<&'a str>, RunError>
-    requires { is_built options.now.parse.constructs ≡ true }
+    requires { has_mdx options.now.parse.constructs ≡ false }
 {
     for (first, _) in rows {
         for (second, _) in rows {
