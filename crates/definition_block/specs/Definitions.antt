@@ -1,8 +1,9 @@
--- Link reference definitions at the front of a paragraph (CommonMark 4.7).
+-- Link reference definitions at the front of a paragraph (CommonMark 4.7), and the definitions of a whole document.
 use Rattle.std.specs.Prelude.{ℕ, suc, zero, ◌+◌, ◌-◌, if◌then◌else◌, List, [], ◌∷◌, ◌++◌, Option, None, Some, take, drop, length}
 use Rattle.std.specs.List.{count_by}
 use Rattle.markdown_options.specs.declared.configuration.Constructs.{Constructs}
 use Rattle.definition_text.specs.BlockLines.{BlockLine, last_ending, own_lines}
+use Rattle.definition_block.specs.Container.{Container, Quote, Item, Footnote}
 use Rattle.definition_block.specs.Blocks.{Block, Paragraph, Heading, Break, IndentedCode, FencedCode, Html, Table, Definition, Holds, Items, Ending, Blank, Blocks, Nil, Cons, join, ended}
 use Rattle.definition_text.specs.Content.{is_eol, content_of}
 use Rattle.definition_inline.specs.Definition.{Definition as LinkDefinition, definition, definition_at}
@@ -64,3 +65,29 @@ abbrev mutual
   pub definitions : Blocks → List LinkDefinition
   definitions Nil = []
   definitions (Cons b bs) = block_definitions b ++ definitions bs
+
+-- the label of a footnote definition
+abbrev pub container_footnotes : Container → List (List ℕ)
+container_footnotes Quote = []
+container_footnotes (Item item) = []
+container_footnotes (Footnote label) = label ∷ []
+
+-- the labels of the footnote definitions in a document, as they are written, in the order in which these end, repeats kept: one ends after those in it
+abbrev mutual
+  pub block_footnotes : Block → List (List ℕ)
+  block_footnotes (Paragraph ls) = []
+  block_footnotes (Heading rank ls) = []
+  block_footnotes Break = []
+  block_footnotes (IndentedCode ls) = []
+  block_footnotes (FencedCode info closed ls) = []
+  block_footnotes (Html ls) = []
+  block_footnotes (Table ls) = []
+  block_footnotes (Definition label destination title) = []
+  block_footnotes (Holds c kids) = footnotes kids ++ container_footnotes c
+  block_footnotes (Items items) = footnotes items
+  block_footnotes (Ending ending) = []
+  block_footnotes (Blank ending) = []
+
+  pub footnotes : Blocks → List (List ℕ)
+  footnotes Nil = []
+  footnotes (Cons b bs) = block_footnotes b ++ footnotes bs

@@ -9,8 +9,8 @@ use Rattle.markdown_options.specs.declared.configuration.ParseOptions.{ParseOpti
 use Rattle.definition_text.specs.InlineCode.{InlineCode, codes_of}
 use Rattle.definition_inline.specs.Inline.{Data, Leaf}
 use Rattle.definition_inline.specs.Attention.{Run, run_size, run_at, is_marker}
-use Rattle.definition_inline.specs.LabelEnd.{Ended}
 use Rattle.definition_inline.specs.Spans.{Token, Item, Delimiters}
+use Rattle.definition_inline.specs.LabelEnd.{Formed, formed_size}
 use Rattle.definition_inline.specs.Scan.{InlineContext, leaf_here, LabelStart, label_start_at, start_more, OpenLabel, Text, text, Reading, reading, read_tokens, with_tokens, unformed, ended_by, ended_step, label_end_step, data_step, last_step, Step, Next, step, scan, whole_text}
 use Rattle.definition_inline.specs.LabelPairs.{Stretch, Plain, Start, End, is_label_end, ended_size, IsBare, AreStretches, AtEnd, AtLeaf, AtRun, AtLabelStart, AtLabelEnd, AtByte, open_label, ended_text, IsText, Nothing, More, Pair, LeftOver, IsRest, Last, OneMore, IsWhole, AllMatched, SomeLeft, Reads}
 use Rattle.definition_inline.proofs.InlineSizes.{here_fits}
@@ -39,7 +39,7 @@ more_open context (label ∷ others) t ss tokens (outer, inner, is, around, here
   More false inner t tokens here,
 )
 
-pair_open : (context : InlineContext) (labels : List OpenLabel) (label : OpenLabel) (ss between : List Stretch) (content : List ℕ) (inner : Text) (end : Option Ended)
+pair_open : (context : InlineContext) (labels : List OpenLabel) (label : OpenLabel) (ss between : List Stretch) (content : List ℕ) (inner : Text) (end : Option Formed)
     → IsOpen context labels label.outer ss → IsText context false between inner → end ≡ ended_by context content label inner
     → IsOpen context labels (ended_text label inner end) (ss ++ Start label.start label.from ∷ (between ++ End content end ∷ []))
 pair_open context [] label ss between content inner end h here is = Pair true ss between label.start label.from content label.outer inner h here end is
@@ -131,18 +131,18 @@ module _ (context : InlineContext) (most : ℕ) (c : InlineCode) (cs : List Inli
   ended_place (label ∷ others) are bare no_start is steps (outer, inner, same, around, here) =
       ended (ended_by context content label r.now) refl
     where
-      there : (end : Option Ended) → end ≡ ended_by context content label r.now → IsOpen context others (ended_text label r.now end) (ss ++ End content end ∷ [])
+      there : (end : Option Formed) → end ≡ ended_by context content label r.now → IsOpen context others (ended_text label r.now end) (ss ++ End content end ∷ [])
       there end e =
           subst (λ xs. IsOpen context others (ended_text label r.now end) xs)
           (sym (ap (λ xs. xs ++ End content end ∷ []) same ∙ append_assoc outer (Start label.start label.from ∷ inner) (End content end ∷ [])))
           (pair_open context others label outer inner content r.now end around here e)
 
-      ended : (end : Option Ended) → end ≡ ended_by context content label r.now → Here
+      ended : (end : Option Formed) → end ≡ ended_by context content label r.now → Here
       ended None e =
           one_place context most c cs r (reading (ended_text label r.now None) others) ss 0 (End content None) shorter le (steps ∙ ap (ended_step label others r.now) (sym e)) (there None e)
           (λ rest stand. AtLabelEnd c cs None rest bare no_start is stand)
       ended (Some found) e =
-          one_place context most c cs r (reading (ended_text label r.now (Some found)) others) ss found.size (End content (Some found)) shorter le
+          one_place context most c cs r (reading (ended_text label r.now (Some found)) others) ss (formed_size found) (End content (Some found)) shorter le
           (steps ∙ ap (ended_step label others r.now) (sym e)) (there (Some found) e) (λ rest stand. AtLabelEnd c cs (Some found) rest bare no_start is stand)
 
   end_place : IsBare context (c ∷ cs) → label_start_at context.options.constructs content ≡ None → is_label_end context c.code ≡ true → Here

@@ -1,5 +1,6 @@
 -- What a `]` forms with the label start before it (CommonMark 6.3 and 6.4): a resource, or a full, a collapsed or a shortcut reference.
 use Rattle.std.specs.Prelude.{ℕ, ◌-◌, Bool, true, false, if◌then◌else◌, not, ◌&&◌, List, [], ◌∷◌, Option, None, Some, codes, length}
+use Rattle.std.specs.Option.{option_map}
 use Rattle.definition_text.specs.Bytes.{begins_with}
 use Rattle.definition_text.specs.Content.{Part, may_escape}
 use Rattle.definition_inline.specs.Label.{ends_label, is_label, label_at}
@@ -45,3 +46,17 @@ by_resource is_defined text rest (Some resource) =
 -- what stands behind a text between brackets, given what follows the `]` and which labels are defined (CommonMark 6.3)
 abbrev pub label_end_at : (List ℕ → Bool) → List ℕ → List ℕ → Option Ended
 label_end_at is_defined text rest = by_resource is_defined text rest (resource_at rest)
+
+-- what a `]` forms with the label start before it: a link or an image, which leads somewhere, or a call of the footnote with this label
+pub data Formed : Type 0 where
+  Leads : Ended → Formed
+  Calls : List ℕ → Formed
+
+-- how many codes after the `]` belong to it
+abbrev pub formed_size : Formed → ℕ
+formed_size (Leads end) = end.size
+formed_size (Calls label) = 0
+
+-- a link or an image, where one stands there (CommonMark 6.3 and 6.4)
+abbrev pub leading : (List ℕ → Bool) → List ℕ → List ℕ → Option Formed
+leading is_defined text rest = option_map Leads (label_end_at is_defined text rest)

@@ -3,24 +3,24 @@ use Rattle.std.specs.Prelude.{◌≡◌, ◌+◌, ℕ, Bool, true, false, ◌&&�
 use Rattle.definition_text.specs.InlineCode.{InlineCode, codes_of}
 use Rattle.definition_inline.specs.Inline.{Data, Leaf}
 use Rattle.definition_inline.specs.Attention.{Run, run_at}
-use Rattle.definition_inline.specs.LabelEnd.{Ended}
 use Rattle.definition_inline.specs.Spans.{Token, Item, Delimiters}
+use Rattle.definition_inline.specs.LabelEnd.{Formed, formed_size}
 use Rattle.definition_inline.specs.Scan.{InlineContext, leaf_here, LabelStart, label_start_at, start_more, OpenLabel, Text, text, with_tokens, unformed, formed, ended_by}
 
 -- A stretch of a content: tokens; a label start with the codes after it; a `]` with the codes from it on, and what it forms, if anything.
 pub data Stretch : Type 0 where
   Plain : List Token → Stretch
   Start : LabelStart → List ℕ → Stretch
-  End : List ℕ → Option Ended → Stretch
+  End : List ℕ → Option Formed → Stretch
 
 -- a `]` that may end a label
 abbrev pub is_label_end : InlineContext → ℕ → Bool
 is_label_end context code = context.options.constructs.label_end && (code == 93)
 
 -- how many codes after a `]` belong to what it forms
-abbrev pub ended_size : Option Ended → ℕ
+abbrev pub ended_size : Option Formed → ℕ
 ended_size None = 0
-ended_size (Some found) = found.size
+ended_size (Some found) = formed_size found
 
 -- nothing of its own stands at a place: no construct that holds no other, no run
 pub record IsBare (context : InlineContext) (content : List InlineCode) : Type 0 where
@@ -39,7 +39,7 @@ pub data AreStretches (context : InlineContext) : List InlineCode → List Stret
       → label_start_at context.options.constructs (codes_of (c ∷ cs)) ≡ Some start
       → AreStretches context (drop (1 + start_more start) (c ∷ cs)) others
       → AreStretches context (c ∷ cs) (Start start (drop (1 + start_more start) (codes_of (c ∷ cs))) ∷ others)
-  AtLabelEnd : (c : InlineCode) (cs : List InlineCode) (end : Option Ended) (others : List Stretch) → IsBare context (c ∷ cs)
+  AtLabelEnd : (c : InlineCode) (cs : List InlineCode) (end : Option Formed) (others : List Stretch) → IsBare context (c ∷ cs)
       → label_start_at context.options.constructs (codes_of (c ∷ cs)) ≡ None → is_label_end context c.code ≡ true
       → AreStretches context (drop (1 + ended_size end) (c ∷ cs)) others → AreStretches context (c ∷ cs) (End (codes_of (c ∷ cs)) end ∷ others)
   AtByte : (c : InlineCode) (cs : List InlineCode) (others : List Stretch) → IsBare context (c ∷ cs)
@@ -51,9 +51,9 @@ abbrev pub open_label : LabelStart → List ℕ → Text → OpenLabel
 open_label start from outer = record { start = start; from = from; outer = outer }
 
 -- the text with what a label start and its `]` form; where they form nothing, both are text
-abbrev pub ended_text : OpenLabel → Text → Option Ended → Text
+abbrev pub ended_text : OpenLabel → Text → Option Formed → Text
 ended_text label inner None = with_tokens (unformed label inner) (Item (Data 93) ∷ [])
-ended_text label inner (Some found) = formed label found.target inner
+ended_text label inner (Some found) = formed label found inner
 
 -- Stretches whose label starts are all taken, each by the `]` that matches it, and the text that they stand for. What a pair forms depends on the text between, on whether that holds a link, and on what follows. At the top a `]` may be left over, which forms nothing.
 pub data IsText (context : InlineContext) : Bool → List Stretch → Text → Type 0 where
@@ -61,7 +61,7 @@ pub data IsText (context : InlineContext) : Bool → List Stretch → Text → T
   More : (top : Bool) (ss : List Stretch) (t : Text) (tokens : List Token) → IsText context top ss t
       → IsText context top (ss ++ Plain tokens ∷ []) (with_tokens t tokens)
   Pair : (top : Bool) (before between : List Stretch) (start : LabelStart) (from content : List ℕ) (outer inner : Text) → IsText context top before outer
-      → IsText context false between inner → (end : Option Ended) → end ≡ ended_by context content (open_label start from outer) inner
+      → IsText context false between inner → (end : Option Formed) → end ≡ ended_by context content (open_label start from outer) inner
       → IsText context top (before ++ Start start from ∷ (between ++ End content end ∷ [])) (ended_text (open_label start from outer) inner end)
   LeftOver : (ss : List Stretch) (t : Text) (content : List ℕ) → IsText context true ss t
       → IsText context true (ss ++ End content None ∷ []) (with_tokens t (Item (Data 93) ∷ []))

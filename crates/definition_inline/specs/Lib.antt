@@ -16,6 +16,7 @@ pub mod HtmlText
 pub mod HardBreak
 pub mod Resource
 pub mod LabelEnd
+pub mod GfmLabelStartFootnote
 pub mod GfmAutolinkLiteral
 pub mod GfmStrikethrough
 pub mod Attention

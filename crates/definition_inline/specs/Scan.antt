@@ -7,7 +7,7 @@ use Rattle.definition_text.specs.Columns.{is_white}
 use Rattle.definition_text.specs.Bytes.{begins_with}
 use Rattle.definition_text.specs.Content.{before}
 use Rattle.definition_text.specs.InlineCode.{InlineCode, codes_of}
-use Rattle.definition_inline.specs.Inline.{Target, Inline, Data, Link, Image, Inlines, Leaf, or_else}
+use Rattle.definition_inline.specs.Inline.{Target, Inline, Data, Link, Image, Call, Inlines, Leaf, or_else}
 use Rattle.definition_inline.specs.CharacterEscape.{escape_at}
 use Rattle.definition_inline.specs.CharacterReference.{reference_at}
 use Rattle.definition_inline.specs.CodeText.{code_text_at}
@@ -15,16 +15,18 @@ use Rattle.definition_inline.specs.MathText.{math_text_at}
 use Rattle.definition_inline.specs.Autolink.{autolink_at}
 use Rattle.definition_inline.specs.HtmlText.{html_text_at}
 use Rattle.definition_inline.specs.HardBreak.{escaped_break_at, line_end_at, line_spaces_at}
-use Rattle.definition_inline.specs.GfmAutolinkLiteral.{literal_at}
-use Rattle.definition_inline.specs.LabelEnd.{Ended, label_end_at}
+use Rattle.definition_inline.specs.GfmAutolinkLiteral.{literal_at, linked_literals}
+use Rattle.definition_inline.specs.LabelEnd.{Formed, Leads, Calls, formed_size, leading}
+use Rattle.definition_inline.specs.GfmLabelStartFootnote.{starts_call, starts_marked_call, called, call_or_link}
 use Rattle.definition_inline.specs.Attention.{Run, run_at}
 use Rattle.definition_inline.specs.Spans.{Token, Item, Delimiters, emphasized}
 
--- what a content is read by: the options, the texts of named characters, and whether a label is defined in the document
+-- what a content is read by: the options, the texts of named characters, and whether a label is that of a link reference definition, and of a footnote definition, of the document
 pub record InlineContext : Type 0 where
   pub options : ParseOptions
   pub names : List ℕ → Option (List ℕ)
   pub is_defined : List ℕ → Bool
+  pub is_footnote : List ℕ → Bool
 
 -- ---- constructs that hold no other
 
@@ -47,17 +49,22 @@ leaf_here context content = or_else (leaf_at context (codes_of content)) (litera
 
 -- ---- labels
 
--- what starts the text of a link or an image (CommonMark 6.3 and 6.4)
+-- what starts the text of a link or an image (CommonMark 6.3 and 6.4); a call of a footnote starts as a link does
 pub data LabelStart : Type 0 where
   LinkStart : LabelStart
   ImageStart : LabelStart
 
--- `![` starts an image, `[` a link (CommonMark 6.3 and 6.4)
+-- `![` starts an image (CommonMark 6.4), unless `!` stands before a call
+abbrev pub starts_image : Constructs → List ℕ → Bool
+starts_image on content = on.label_start_image && begins_with (codes "![") content && not (starts_marked_call on content)
+
+-- `[` starts a link (CommonMark 6.3), and `[^` a call
+abbrev pub starts_link : Constructs → List ℕ → Bool
+starts_link on content = (on.label_start_link && begins_with (codes "[") content) || starts_call on content
+
+-- what a content begins with, if it starts a label (CommonMark 6.3 and 6.4)
 abbrev pub label_start_at : Constructs → List ℕ → Option LabelStart
-label_start_at on content =
-    if on.label_start_image && begins_with (codes "![") content then Some ImageStart
-    else (if on.label_start_link && begins_with (codes "[") content then Some LinkStart
-    else None)
+label_start_at on content = if starts_image on content then Some ImageStart else (if starts_link on content then Some LinkStart else None)
 
 -- the bytes of a label start
 abbrev pub start_bytes : LabelStart → List ℕ
@@ -78,19 +85,24 @@ abbrev pub may_form : LabelStart → Bool → Bool
 may_form LinkStart holds_link = not holds_link
 may_form ImageStart holds_link = true
 
--- what is formed, with its text
+-- a link or an image with its text
 abbrev pub label_part : LabelStart → Target → Inlines → Inline
 label_part LinkStart target kids = Link target kids
 label_part ImageStart target kids = Image target kids
 
--- whether this is a link, or its text holds one
+-- whether this is a link or a call, or its text holds one
 abbrev pub makes_link : LabelStart → Bool → Bool
 makes_link LinkStart holds_link = true
 makes_link ImageStart holds_link = holds_link
 
+-- what is formed of a text; a call prints a number in place of its own
+abbrev pub formed_part : LabelStart → Formed → List Token → Inline
+formed_part start (Leads end) tokens = label_part start end.target (emphasized tokens)
+formed_part start (Calls label) tokens = Call label
+
 -- ---- what is read so far
 
--- the tokens of a text, and whether a link is among them or inside of an image among them
+-- the tokens of a text, and whether a link or a call is among them or inside of an image among them
 pub record Text : Type 0 where
   pub tokens : List Token
   pub holds_link : Bool
@@ -123,10 +135,10 @@ read_tokens more r = reading (with_tokens r.now more) r.open_labels
 abbrev pub unformed : OpenLabel → Text → Text
 unformed label inner = text (label.outer.tokens ++ (start_tokens label.start ++ inner.tokens)) (label.outer.holds_link || inner.holds_link)
 
--- a link or an image of the text after its start (CommonMark 6.3 and 6.4)
-abbrev pub formed : OpenLabel → Target → Text → Text
-formed label target inner =
-    text (label.outer.tokens ++ Item (label_part label.start target (emphasized inner.tokens)) ∷ [])
+-- a link, an image or a call of the text after its start (CommonMark 6.3 and 6.4)
+abbrev pub formed : OpenLabel → Formed → Text → Text
+formed label found inner =
+    text (label.outer.tokens ++ Item (formed_part label.start found inner.tokens) ∷ [])
     (label.outer.holds_link || makes_link label.start inner.holds_link)
 
 -- ---- one place
@@ -140,14 +152,20 @@ abbrev pub data_step : ℕ → Reading → Step
 data_step code r = Next 0 (read_tokens (Item (Data code) ∷ []) r)
 
 -- a `]` after the innermost label start that is open: that one is used up, and both are text where nothing is formed (CommonMark 6.3)
-abbrev pub ended_step : OpenLabel → List OpenLabel → Text → Option Ended → Step
+abbrev pub ended_step : OpenLabel → List OpenLabel → Text → Option Formed → Step
 ended_step label others inner None = Next 0 (read_tokens (Item (Data 93) ∷ []) (reading (unformed label inner) others))
-ended_step label others inner (Some found) = Next found.size (reading (formed label found.target inner) others)
+ended_step label others inner (Some found) = Next (formed_size found) (reading (formed label found inner) others)
+
+-- what the text between a label start and a `]` forms, given what follows that
+abbrev pub formed_at : InlineContext → LabelStart → List ℕ → List ℕ → Option Formed
+formed_at context LinkStart between rest =
+    call_or_link context.options.constructs context.is_defined between rest (called context.options.constructs context.is_footnote between)
+formed_at context ImageStart between rest = leading context.is_defined between rest
 
 -- what a `]` forms with a label start that is open (CommonMark 6.3)
-abbrev pub ended_by : InlineContext → List ℕ → OpenLabel → Text → Option Ended
+abbrev pub ended_by : InlineContext → List ℕ → OpenLabel → Text → Option Formed
 ended_by context content label inner =
-    if may_form label.start inner.holds_link then label_end_at context.is_defined (before label.from content) (drop 1 content) else None
+    if may_form label.start inner.holds_link then formed_at context label.start (before label.from content) (drop 1 content) else None
 
 -- a `]`, where these label starts are open
 abbrev pub label_end_step : InlineContext → List ℕ → Text → List OpenLabel → Step
@@ -198,9 +216,13 @@ scan context (suc k) r (c ∷ cs) = scan context k r cs
 abbrev pub whole_text : Reading → Text
 whole_text r = fold (λ inner label. unformed label inner) r.now r.open_labels
 
+-- what the scan of a content finds that begins here, with its runs paired, where links may still hold literals, and addresses are text
+abbrev pub spans_from : InlineContext → List InlineCode → Inlines
+spans_from context content = emphasized (whole_text (scan context 0 (reading (text [] false) []) content)).tokens
+
 -- the inline structure of a content that begins here, without the spaces and tabs at its end (CommonMark 6)
 abbrev pub inlines_from : InlineContext → List InlineCode → Inlines
-inlines_from context content = emphasized (whole_text (scan context 0 (reading (text [] false) []) content)).tokens
+inlines_from context content = linked_literals context.options.constructs (spans_from context content)
 
 -- a content without the spaces and tabs at its start
 abbrev pub unindented : List InlineCode → List InlineCode

@@ -1,13 +1,13 @@
 -- What the blocks of a page print (CommonMark 4 and 5).
-use Rattle.std.specs.Prelude.{ℕ, ◌+◌, Bool, true, false, if◌then◌else◌, ◌==◌, ◌&&◌, ◌||◌, not, List, [], ◌∷◌, ◌++◌, Option, None, Some, codes, map}
+use Rattle.std.specs.Prelude.{ℕ, ◌+◌, Bool, true, false, if◌then◌else◌, ◌==◌, ◌||◌, not, List, [], ◌∷◌, ◌++◌, Option, None, Some, codes, map}
 use Rattle.std.specs.List.{flat_map}
 use Rattle.markdown_options.specs.declared.configuration.CompileOptions.{CompileOptions}
 use Rattle.markdown_options.specs.LineEndings.{ending_bytes}
-use Rattle.definition_text.specs.BlockLines.{BlockLine, own_lines}
+use Rattle.definition_text.specs.BlockLines.{BlockLine}
 use Rattle.definition_text.specs.Lines.{ending_text}
 use Rattle.definition_text.specs.Columns.{code_byte, bytes_of}
 use Rattle.definition_page.specs.Tags.{Said, Words, Number, Attribute, attribute, Tag, tag, bare_tag}
-use Rattle.definition_page.specs.Pieces.{Piece, Open, Close, Void, Says, Eol, Fresh}
+use Rattle.definition_page.specs.Pieces.{Piece, Void, Says, Eol, Fresh, NoteStart, NoteEnd}
 use Rattle.definition_page.specs.InlinePieces.{Meaning, raw_html, element, inline_pieces}
 use Rattle.definition_page.specs.GfmTable.{table_pieces}
 use Rattle.definition_page.specs.Page.{Page, Block, Paragraph, Heading, Break, IndentedCode, FencedCode, Html, Table, Definition, Quote, ItemList, Item, Footnote, Ending, Blank, Blocks, Nil, Cons}
@@ -131,7 +131,7 @@ abbrev mutual
   block_pieces m place before (Item kids) =
       Fresh ∷ element (bare_tag (codes "li"))
       (children_pieces m (inside place.tight) None kids ++ fresh_unless (ends_plainly place.tight (last_shown None kids)))
-  block_pieces m place before (Footnote label kids) = []
+  block_pieces m place before (Footnote label kids) = NoteStart ∷ children_pieces m (inside false) None kids ++ NoteEnd ∷ []
   block_pieces m place before (Ending ending) = if is_silent place before then [] else Says (Words (ending_bytes ending)) ∷ []
   block_pieces m place before (Blank ending) = []
 

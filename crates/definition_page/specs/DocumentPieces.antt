@@ -10,10 +10,16 @@ use Rattle.definition_page.specs.Pieces.{Piece}
 use Rattle.definition_page.specs.InlinePieces.{Meaning}
 use Rattle.definition_page.specs.BlockPieces.{document_pieces}
 
--- links lead where the first definition of their label does (CommonMark 4.7)
+-- links lead where the first definition of their label does (CommonMark 4.7), and so do calls of footnotes
 abbrev pub meaning_of : TextTables → Options → Page → Meaning
 meaning_of tables options page =
-    record { on = options.parse.constructs; compile = options.compile; names = tables.names; definition = linked_by page.definitions }
+    record {
+      on = options.parse.constructs;
+      compile = options.compile;
+      names = tables.names;
+      definition = linked_by page.definitions;
+      footnotes = page.footnotes;
+    }
 
 abbrev pub pieces : TextTables → Options → Page → List Piece
 pieces tables options page = document_pieces (meaning_of tables options page) page

@@ -4,13 +4,13 @@ use Rattle.std.specs.List.{flat_map}
 use Rattle.markdown_options.specs.declared.line_ending.LineEnding.{LineEnding}
 use Rattle.definition_text.specs.BlockLines.{BlockLine, spaced_line}
 use Rattle.definition_text.specs.Lines.{ending_text}
-use Rattle.definition_inline.specs.Inline.{Inline, Data, Escape, Character, Code, Math, Autolink, Literal, Html, EscapedBreak, TrailingBreak, LineEnd, Emphasis, Strong, Strikethrough, Link, Image, Inlines, Nil, Cons}
+use Rattle.definition_inline.specs.Inline.{Inline, Data, Escape, Character, Code, Math, Autolink, Literal, Html, EscapedBreak, TrailingBreak, LineEnd, Emphasis, Strong, Strikethrough, Link, Image, Call, Inlines, Nil, Cons}
 use Rattle.definition_block.specs.declared.align_kind.AlignKind.{AlignKind}
 use Rattle.definition_block.specs.declared.align_kind.AlignKind.TheVariants as align
 use Rattle.definition_block.specs.GfmTable.{delimiters}
 use Rattle.definition_page.specs.Tags.{Words, Attribute, attribute, tag, bare_tag}
 use Rattle.definition_page.specs.Pieces.{Piece, Says, Fresh}
-use Rattle.definition_page.specs.InlinePieces.{Meaning, element, inline_pieces}
+use Rattle.definition_page.specs.InlinePieces.{Meaning, element, inline_counts, inline_pieces}
 
 -- a row: its cells, and the ending of its line
 pub record TableRow : Type 0 where
@@ -72,6 +72,7 @@ abbrev mutual
   part_in_cell (Strikethrough kids) = Strikethrough (in_cell kids)
   part_in_cell (Link target kids) = Link target (in_cell kids)
   part_in_cell (Image target kids) = Image target (in_cell kids)
+  part_in_cell (Call label) = Call label
 
   pub in_cell : Inlines → Inlines
   in_cell Nil = Nil
@@ -90,9 +91,9 @@ align_attributes align.None = []
 abbrev pub cell_pieces : Meaning → List ℕ → AlignKind → Inlines → List Piece
 cell_pieces m name align is = Fresh ∷ element (tag name (align_attributes align)) (inline_pieces m is)
 
--- the cells of a row, one for each column: those that are missing are empty, and more aren't printed
+-- the cells of a row, one for each column: those that are missing are empty, and more aren't printed, but the calls of footnotes in them count
 abbrev pub cells_pieces : Meaning → List ℕ → List AlignKind → List Inlines → List Piece
-cells_pieces m name [] cells = []
+cells_pieces m name [] cells = flat_map (inline_counts m) cells
 cells_pieces m name (align ∷ aligns) [] = cell_pieces m name align Nil ++ cells_pieces m name aligns []
 cells_pieces m name (align ∷ aligns) (c ∷ cs) = cell_pieces m name align c ++ cells_pieces m name aligns cs
 

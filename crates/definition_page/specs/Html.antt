@@ -1,13 +1,13 @@
--- The HTML of a text: it is read to a page, the page is printed to pieces, and these are laid out.
+-- The HTML of a text: it is read to a page, the page is printed to pieces, and these are laid out, with its footnotes at the end.
 use Rattle.std.specs.Prelude.{ℕ, List}
 use Rattle.markdown_options.specs.declared.configuration.Options.{Options}
 use Rattle.definition_text.specs.Lines.{without_mark}
 use Rattle.definition_page.specs.TextTables.{TextTables}
 use Rattle.definition_page.specs.Read.{read}
 use Rattle.definition_page.specs.DocumentPieces.{pieces, default_ending}
-use Rattle.definition_page.specs.Pieces.{layout}
+use Rattle.definition_page.specs.Layout.{page_layout}
 
 abbrev pub html : TextTables → List ℕ → Options → List ℕ
 html tables text options =
     let page = read tables options.parse text in
-    layout (default_ending options (without_mark text)) (pieces tables options page)
+    page_layout options.compile (default_ending options (without_mark text)) (pieces tables options page)

@@ -6,19 +6,21 @@ use Rattle.markdown_options.specs.declared.configuration.CompileOptions.{Compile
 use Rattle.definition_text.specs.Columns.{bytes_of, bare}
 use Rattle.definition_text.specs.Content.{is_eol}
 use Rattle.definition_text.specs.Encode.{plain}
-use Rattle.definition_inline.specs.Inline.{Target, Resource, Reference, Linked, linked, LiteralKind, Www, Protocol, Email, Inline, Data, Escape, Character, Code, Math, Autolink, Literal, Html, EscapedBreak, TrailingBreak, LineEnd, Emphasis, Strong, Strikethrough, Link, Image, Inlines, Nil, Cons}
+use Rattle.definition_inline.specs.Inline.{Target, Resource, Reference, Linked, linked, LiteralKind, Www, Protocol, Email, Inline, Data, Escape, Character, Code, Math, Autolink, Literal, Html, EscapedBreak, TrailingBreak, LineEnd, Emphasis, Strong, Strikethrough, Link, Image, Call, Inlines, Nil, Cons}
+use Rattle.definition_inline.specs.LabelMatch.{normal_label, first_match}
 use Rattle.definition_inline.specs.Strings.{string_text}
 use Rattle.definition_page.specs.GfmTagfilter.{filtered}
 use Rattle.definition_page.specs.Urls.{percent, sanitized, permitted, href_protocols, src_protocols}
 use Rattle.definition_page.specs.Tags.{Said, Words, AsItIs, EndOfLine, Attribute, attribute, Tag, tag, bare_tag}
-use Rattle.definition_page.specs.Pieces.{Piece, Open, Close, Void, Says}
+use Rattle.definition_page.specs.Pieces.{Piece, Open, Close, Void, Says, CallOf, CountOf}
 
--- what is printed by: the constructs that are on, the options, the texts of named characters, and what the definition of a label leads to
+-- what is printed by: the constructs that are on, the options, the texts of named characters, what the definition of a label leads to, and the labels of the footnote definitions, in the order in which these end
 pub record Meaning : Type 0 where
   pub on : Constructs
   pub compile : CompileOptions
   pub names : List ℕ → Option (List ℕ)
   pub definition : List ℕ → Option Linked
+  pub footnotes : List (List ℕ)
 
 -- ---- raw HTML
 
@@ -134,10 +136,47 @@ abbrev mutual
   part_says options (Strikethrough kids) = description options kids
   part_says options (Link target kids) = description options kids
   part_says options (Image target kids) = description options kids
+  part_says options (Call label) = []
 
   pub description : CompileOptions → Inlines → List Said
   description options Nil = []
   description options (Cons i is) = part_says options i ++ description options is
+
+-- ---- calls of footnotes
+
+-- a call of the footnote at this place
+abbrev pub call_at : Option ℕ → List ℕ → List Piece
+call_at None label = []
+call_at (Some place) label = CallOf place label ∷ []
+
+abbrev pub count_at : Option ℕ → List ℕ → List Piece
+count_at None label = []
+count_at (Some place) label = CountOf place label ∷ []
+
+abbrev mutual
+  -- the calls in what isn't printed, or without tags: they count
+  pub part_counts : Meaning → Inline → List Piece
+  part_counts m (Data b) = []
+  part_counts m (Escape b) = []
+  part_counts m (Character text) = []
+  part_counts m (Code text) = []
+  part_counts m (Math text) = []
+  part_counts m (Autolink is_email text) = []
+  part_counts m (Literal kind text) = []
+  part_counts m (Html html) = []
+  part_counts m EscapedBreak = []
+  part_counts m TrailingBreak = []
+  part_counts m (LineEnd code) = []
+  part_counts m (Emphasis kids) = inline_counts m kids
+  part_counts m (Strong kids) = inline_counts m kids
+  part_counts m (Strikethrough kids) = inline_counts m kids
+  part_counts m (Link target kids) = inline_counts m kids
+  part_counts m (Image target kids) = inline_counts m kids
+  part_counts m (Call label) = count_at (first_match label m.footnotes) (normal_label label)
+
+  pub inline_counts : Meaning → Inlines → List Piece
+  inline_counts m Nil = []
+  inline_counts m (Cons i is) = part_counts m i ++ inline_counts m is
 
 -- ---- pieces
 
@@ -165,7 +204,8 @@ abbrev mutual
   part_pieces m (Strong kids) = element (bare_tag (codes "strong")) (inline_pieces m kids)
   part_pieces m (Strikethrough kids) = element (bare_tag (codes "del")) (inline_pieces m kids)
   part_pieces m (Link target kids) = element (link_tag m (leads_to m.definition target)) (inline_pieces m kids)
-  part_pieces m (Image target kids) = Void (image_tag m (leads_to m.definition target) (description m.compile kids)) ∷ []
+  part_pieces m (Image target kids) = Void (image_tag m (leads_to m.definition target) (description m.compile kids)) ∷ inline_counts m kids
+  part_pieces m (Call label) = call_at (first_match label m.footnotes) (normal_label label)
 
   -- what parts print, one after another
   pub inline_pieces : Meaning → Inlines → List Piece

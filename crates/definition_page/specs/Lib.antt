@@ -10,6 +10,7 @@ pub mod Page
 pub mod Read
 pub mod BlockPieces
 pub mod DocumentPieces
-pub mod Html
 pub mod GfmLabelStartFootnote
 pub mod GfmFootnoteDefinition
+pub mod Layout
+pub mod Html

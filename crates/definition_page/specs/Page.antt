@@ -28,10 +28,11 @@ mutual
     Nil : Blocks
     Cons : Block → Blocks → Blocks
 
--- the blocks of a document, its link reference definitions in the order of the text, repeats kept, and whether the text's very last child is the ending of a blank line
+-- the blocks of a document, its link reference definitions in the order of the text, repeats kept, the labels of its footnote definitions in the order in which these end, and whether the text's very last child is the ending of a blank line
 pub record Page : Type 0 where
   pub blocks : Blocks
   pub definitions : List link.Definition
+  pub footnotes : List (List ℕ)
   pub ends_blank : Bool
 
 -- an ending before these blocks, if there is one

@@ -3,7 +3,7 @@ use Rattle.std.specs.Prelude.{ℕ, Bool, true, if◌then◌else◌, ◌==◌, �
 use Rattle.std.specs.List.{fold}
 use Rattle.definition_page.specs.Tags.{Said, said_bytes, Tag, start_tag, end_tag, void_tag}
 
--- a start tag, an end tag by its name, the tag of an element that holds nothing, a part of a text or of raw HTML, the default ending, or that ending unless nothing, CR or LF stands before
+-- a start tag, an end tag by its name, the tag of an element that holds nothing, a part of a text or of raw HTML, the default ending, or that ending unless nothing, CR or LF stands before; and what footnotes need: a call, and one that isn't printed but counts, each with the place of its footnote, in the order in which these end, and with its label as labels are matched; the start and the end of a footnote definition
 pub data Piece : Type 0 where
   Open : Tag → Piece
   Close : List ℕ → Piece
@@ -11,6 +11,10 @@ pub data Piece : Type 0 where
   Says : Said → Piece
   Eol : Piece
   Fresh : Piece
+  CallOf : ℕ → List ℕ → Piece
+  CountOf : ℕ → List ℕ → Piece
+  NoteStart : Piece
+  NoteEnd : Piece
 
 -- whether this last byte is none, CR or LF
 abbrev pub ends_a_line : Option ℕ → Bool
@@ -21,7 +25,7 @@ ends_a_line (Some b) = (b == 10) || (b == 13)
 abbrev pub is_fresh : List ℕ → Bool
 is_fresh out = ends_a_line (slice_get out (length out - 1))
 
--- one more piece after what was printed, where the default ending is given
+-- one more piece after what was printed, where the default ending is given; what footnotes need is laid out with the page
 abbrev pub print : List ℕ → List ℕ → Piece → List ℕ
 print default out (Open t) = out ++ start_tag t
 print default out (Close name) = out ++ end_tag name
@@ -29,6 +33,11 @@ print default out (Void t) = out ++ void_tag t
 print default out (Says said) = out ++ said_bytes said
 print default out Eol = out ++ default
 print default out Fresh = if is_fresh out then out else out ++ default
+print default out (CallOf place label) = out
+print default out (CountOf place label) = out
+print default out NoteStart = out
+print default out NoteEnd = out
 
+-- pieces without footnotes, one after another
 abbrev pub layout : List ℕ → List Piece → List ℕ
 layout default pieces = fold (print default) [] pieces

@@ -17,17 +17,21 @@ use Rattle.definition_block.specs.Tree.{is_ending, blocks}
 use Rattle.definition_block.specs.Lists.{grouped, is_loose}
 use Rattle.definition_block.specs.GfmTable.{Cell, line_cells}
 use Rattle.definition_page.specs.GfmTable.{Table, TableRow, head_line, delimiter_line, body_lines, line_aligns, in_cell}
-use Rattle.definition_page.specs.Targets.{document_definitions, is_label_of}
+use Rattle.definition_page.specs.Targets.{Targets, document_targets, is_label_of, is_footnote_of}
 use Rattle.definition_page.specs.TextTables.{TextTables}
 use Rattle.definition_page.specs.Page as page
 use Rattle.definition_page.specs.Page.{Page, cons_ending, cons_blank}
-use Rattle.definition_inline.specs.Definition as link
 
--- what a text is read by: the options, the tables, and which labels are defined
+-- what a text is read by: the options, the tables, and which labels are those of link reference definitions and of footnote definitions
 pub record Reading : Type 0 where
   pub options : ParseOptions
   pub tables : TextTables
   pub is_defined : List ℕ → Bool
+  pub is_footnote : List ℕ → Bool
+
+abbrev pub reading : TextTables → ParseOptions → Targets → Reading
+reading tables options t =
+    record { options = options; tables = tables; is_defined = is_label_of t.definitions; is_footnote = is_footnote_of t.footnotes }
 
 -- where a block stands: at the top of the document or in a container, and whether in an item with no block before it
 pub record Standing : Type 0 where
@@ -49,7 +53,7 @@ next_standing standing b = record { top = standing.top; first = standing.first &
 
 -- what inline structure is read by
 abbrev pub context_of : Reading → InlineContext
-context_of r = record { options = r.options; names = r.tables.names; is_defined = r.is_defined }
+context_of r = record { options = r.options; names = r.tables.names; is_defined = r.is_defined; is_footnote = r.is_footnote }
 
 -- the content of a paragraph or a heading, which ends where a line does (CommonMark 4.8)
 abbrev pub text_content : Reading → List BlockLine → List InlineCode
@@ -148,15 +152,14 @@ abbrev pub ends_blank : Bool → tree.Blocks → Bool
 ends_blank before tree.Nil = before
 ends_blank before (tree.Cons b bs) = ends_blank (is_blank_ending b) bs
 
--- the page of these children of a document, which have these definitions
-abbrev pub page_with : TextTables → ParseOptions → List link.Definition → tree.Blocks → Page
-page_with tables options definitions bs =
-    let r : Reading = record { options = options; tables = tables; is_defined = is_label_of definitions } in
-    record { blocks = read_blocks r on_page (grouped bs); definitions = definitions; ends_blank = ends_blank false bs }
+-- the page of these children of a document, whose labels lead to these targets
+abbrev pub page_with : TextTables → ParseOptions → Targets → tree.Blocks → Page
+page_with tables options t bs =
+    record { blocks = read_blocks (reading tables options t) on_page (grouped bs); definitions = t.definitions; footnotes = t.footnotes; ends_blank = ends_blank false bs }
 
 -- the page of the children of a document: items are grouped to lists, and contents read by all of its definitions
 abbrev pub page_of : TextTables → ParseOptions → tree.Blocks → Page
-page_of tables options bs = page_with tables options (document_definitions bs) bs
+page_of tables options bs = page_with tables options (document_targets bs) bs
 
 -- the page of a text without a byte order mark, after a character of this kind: its lines are folded to blocks
 abbrev pub read_after : Kind → TextTables → ParseOptions → List ℕ → Page

@@ -4,7 +4,7 @@ use Rattle.std.specs.Option.{option_map}
 use Rattle.definition_text.specs.Columns.{code_byte}
 use Rattle.definition_block.specs.Blocks.{Blocks}
 use Rattle.definition_inline.specs.Definition.{Definition, definition}
-use Rattle.definition_block.specs.Definitions.{definitions}
+use Rattle.definition_block.specs.Definitions.{definitions, footnotes}
 use Rattle.definition_inline.specs.LabelMatch.{first_match}
 use Rattle.definition_inline.specs.Inline.{Linked, linked}
 
@@ -34,3 +34,22 @@ linked_by ds label = option_map (linked_at ds) (first_match label (labels_of ds)
 -- whether a label is that of a definition
 abbrev pub is_label_of : List Definition → List ℕ → Bool
 is_label_of ds label = is_some (first_match label (labels_of ds))
+
+-- what the labels of a document lead to: its link reference definitions, in the order of the text, and the labels of its footnote definitions, in the order in which these end; repeats kept
+pub record Targets : Type 0 where
+  pub definitions : List Definition
+  pub footnotes : List (List ℕ)
+
+abbrev pub targets : List Definition → List (List ℕ) → Targets
+targets definitions footnotes = record { definitions = definitions; footnotes = footnotes }
+
+abbrev pub no_targets : Targets
+no_targets = targets [] []
+
+-- what the labels of a document lead to; those of footnotes have no white space, and so no columns left of a tab
+abbrev pub document_targets : Blocks → Targets
+document_targets bs = targets (document_definitions bs) (footnotes bs)
+
+-- whether a label is that of a footnote definition, where these are their labels
+abbrev pub is_footnote_of : List (List ℕ) → List ℕ → Bool
+is_footnote_of labels label = is_some (first_match label labels)

@@ -15,6 +15,9 @@ pub use Rattle.definition_page.specs.Page
 pub use Rattle.definition_page.specs.BlockPieces
 pub use Rattle.definition_page.specs.InlinePieces
 pub use Rattle.definition_page.specs.Pieces
+pub use Rattle.definition_page.specs.GfmLabelStartFootnote
+pub use Rattle.definition_page.specs.GfmFootnoteDefinition
+pub use Rattle.definition_page.specs.Layout
 pub use Rattle.definition_page.specs.Tags
 pub use Rattle.definition_page.specs.Targets
 pub use Rattle.definition_page.specs.TextTables

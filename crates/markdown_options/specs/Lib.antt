@@ -1,5 +1,5 @@
 pub mod LineEndings
-pub mod Built
+pub mod Mdx
 pub mod Defaults
 pub mod Places
 pub mod Messages

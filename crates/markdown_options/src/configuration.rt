@@ -1,9 +1,9 @@
 //! Which constructs are on, and how HTML is printed.
-ghost use Rattle.std.specs.Prelude.{◌≡◌, true};
+ghost use Rattle.std.specs.Prelude.{◌≡◌};
 ghost use Rattle.markdown_options.specs.Defaults.{no_constructs, default_constructs, gfm_constructs, mdx_constructs};
 ghost use Rattle.markdown_options.specs.Defaults.{default_parse_options, gfm_parse_options, mdx_parse_options};
 ghost use Rattle.markdown_options.specs.Defaults.{default_compile_options, gfm_compile_options, default_options, gfm_options};
-ghost use Rattle.markdown_options.specs.Built.{has_extensions, has_mdx, is_built};
+ghost use Rattle.markdown_options.specs.Mdx.{has_mdx};
 
 use crate::line_ending::LineEnding;
 
@@ -157,13 +157,6 @@ impl Constructs {
         }
     }
 
-    /// Whether some of the extensions are on that can't be read so far.
-    fn has_extensions(&self) -> bool
-        ensures { result ≡ has_extensions self.now }
-    {
-        self.gfm_autolink_literal || self.gfm_footnote_definition || self.gfm_label_start_footnote
-    }
-
     /// Whether some of the constructs of MDX are on.
     pub fn has_mdx(&self) -> bool
         ensures { result ≡ has_mdx self.now }
@@ -232,14 +225,6 @@ pub struct ParseOptions {
 }
 
 impl ParseOptions {
-    /// Whether all that is on can be read so far.
-    pub fn built(&self) -> bool
-        ensures { result ≡ is_built self.now.constructs }
-    {
-        let on = &self.constructs;
-        !(on.has_extensions() || on.has_mdx())
-    }
-
     /// Reads what GitHub has.
     pub fn gfm() -> ParseOptions
         ensures { result ≡ gfm_parse_options }
