@@ -1,1 +1,2 @@
 pub mod Leads
+mod Notes

@@ -18,7 +18,8 @@ fn main(rt: HostRuntime) -> io::Result<()> {
         },
         ..ParseOptions::default()
     };
-    let Ok(labels) = LabelTable::new(rt.alloc()) else {
+    let (Ok(labels), Ok(footnotes)) = (LabelTable::new(rt.alloc()), LabelTable::new(rt.alloc()))
+    else {
         return Err(ErrorKind::OutOfMemory.into());
     };
     let Ok(mut room) = Room::new(rt.alloc()) else {
@@ -28,7 +29,9 @@ fn main(rt: HostRuntime) -> io::Result<()> {
     for paragraph in input.split("\n\n") {
         let content = whole_content(paragraph.len(), paragraph);
         let start = content_start(content);
-        let Ok(rows) = inline_rows(&mut room, &options, &Builtin, &labels, content, start) else {
+        let Ok(rows) = inline_rows(
+            &mut room, &options, &Builtin, &labels, &footnotes, content, start,
+        ) else {
             return Err(ErrorKind::OutOfMemory.into());
         };
         count = count.saturating_add(rows.len());

@@ -36,7 +36,7 @@ after_same content =
     }
 
 -- a content whose codes begin with one that is no line ending begins with that byte
-first_byte : (c : ℕ) (cs xs : List ℕ) → (c ≡ 13 → ⊥) → (c ≡ 257 → ⊥) → content_codes xs ≡ c ∷ cs → (ys : List ℕ) × (xs ≡ c ∷ ys) × (content_codes ys ≡ cs)
+pub first_byte : (c : ℕ) (cs xs : List ℕ) → (c ≡ 13 → ⊥) → (c ≡ 257 → ⊥) → content_codes xs ≡ c ∷ cs → (ys : List ℕ) × (xs ≡ c ∷ ys) × (content_codes ys ≡ cs)
 first_byte c cs [] return both e = absurd (omega (arith, ap length e))
 first_byte c cs (b ∷ []) return both e = elim (cases_Bool (eqb b 13)) [
   | inl h ↦ absurd (return (sym (ap (λ x. get_or x 0 0) (sym (cond-true (eqb b 13) _ _ h) ∙ e))))

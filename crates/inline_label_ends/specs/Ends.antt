@@ -1,9 +1,10 @@
 -- What the answers on a label end stand for.
-use Rattle.std.specs.Prelude.{◌≡◌, ◌-◌, ℕ, ⊤, List, Option, None, Some, is_some, drop, length}
+use Rattle.std.specs.Prelude.{◌≡◌, ◌-◌, ℕ, ⊤, Bool, if◌then◌else◌, ◌&&◌, List, Option, None, Some, is_some, drop, length}
 use Rattle.definition_text.specs.Content.{content_codes}
 use Rattle.definition_inline.specs.Inline.{Target, linked}
 use Rattle.definition_inline.specs.Inline as inline
-use Rattle.definition_inline.specs.LabelEnd.{Ended, label_end_at}
+use Rattle.definition_inline.specs.LabelEnd.{Ended, is_label_text, label_end_at}
+use Rattle.definition_inline.specs.LabelEnd as ends
 use Rattle.definition_inline.specs.LabelMatch.{first_match}
 use Rattle.inline_links.specs.Codes.{IsCut, IsRest}
 use Rattle.inline_leaves.specs.Leaves.{size_before}
@@ -11,6 +12,16 @@ use Rattle.inline_rows.specs.declared.row.LinkTarget.{LinkTarget}
 use Rattle.inline_rows.specs.declared.row.LinkTarget.TheVariants.{Resource, Definition}
 use Rattle.inline_rows.specs.View.{linked_view}
 use Rattle.inline_label_ends.specs.declared.forms.LabelEnd.{LabelEnd}
+use Rattle.inline_label_ends.specs.declared.gfm_label_start_footnote.Formed.{Formed}
+use Rattle.inline_label_ends.specs.declared.gfm_label_start_footnote.Formed.TheVariants.{Leads, Calls}
+
+-- whether a label matches one of these
+abbrev pub is_among : List (List ℕ) → List ℕ → Bool
+is_among ls label = is_some (first_match label ls)
+
+-- a text, where it may be a label and matches one of these
+abbrev pub label_among : List (List ℕ) → List ℕ → Option (List ℕ)
+label_among ls text = if is_label_text text && is_among ls text then Some text else None
 
 -- a target of the definition, where these are the labels of the definitions: the same destination and title, or the place of the first label that matches
 abbrev pub IsTarget : List (List ℕ) → LinkTarget → Target → Type 0
@@ -34,7 +45,7 @@ IsEnded ls rest (Some found) (Some end) = IsEnd ls rest found end
 
 -- what a `]` after a text forms before a rest, where these are the labels of the definitions
 abbrev pub EndsAs : List (List ℕ) → List ℕ → List ℕ → Option LabelEnd → Type 0
-EndsAs ls text rest found = IsEnded ls rest found (label_end_at (λ label. is_some (first_match label ls)) (content_codes text) (content_codes rest))
+EndsAs ls text rest found = IsEnded ls rest found (label_end_at (is_among ls) (content_codes text) (content_codes rest))
 
 -- what follows the first codes of a content
 pub record IsAfterEnd (content rest : List ℕ) : Type 0 where
@@ -42,7 +53,22 @@ pub record IsAfterEnd (content rest : List ℕ) : Type 0 where
   pub cut : IsCut content (length content - length rest)
   pub codes : content_codes rest ≡ drop (size_before content rest) (content_codes content)
 
+-- what follows what is formed, where this follows the `]`
+abbrev pub IsAfterFormed : List ℕ → Formed → Type 0
+IsAfterFormed rest (Leads found) = IsAfterEnd rest found.after.now
+IsAfterFormed rest (Calls found) = ⊤
+
 -- the first definition whose label matches this one, if there is one
 abbrev pub IsReference : List (List ℕ) → List ℕ → Option LabelEnd → Type 0
 IsReference ls label None = first_match label ls ≡ None
 IsReference ls label (Some found) = IsTarget ls found.target (inline.Reference label)
+
+-- the same thing is formed as in the definition, where these are the labels of the link reference definitions
+abbrev pub IsFormed : List (List ℕ) → List ℕ → Option Formed → Option ends.Formed → Type 0
+IsFormed ls rest None None = ⊤
+IsFormed ls rest None (Some formed) = ⊥
+IsFormed ls rest (Some found) None = ⊥
+IsFormed ls rest (Some (Leads found)) (Some (ends.Leads end)) = IsEnd ls rest found end
+IsFormed ls rest (Some (Leads found)) (Some (ends.Calls label)) = ⊥
+IsFormed ls rest (Some (Calls found)) (Some (ends.Leads end)) = ⊥
+IsFormed ls rest (Some (Calls found)) (Some (ends.Calls label)) = content_codes found.now ≡ label

@@ -1,8 +1,8 @@
 //! The labels of definitions, each with the place of the first definition that has it
 //! (CommonMark 4.7).
-ghost use Rattle.std.specs.Prelude.{◌≡◌, ℕ, List, [], false, length, IfOk, OnOk, OnErr};
+ghost use Rattle.std.specs.Prelude.{◌≡◌, ℕ, List, [], false, length, map, IfOk, OnOk, OnErr};
 ghost use Rattle.definition_text.specs.Content.{content_codes};
-ghost use Rattle.definition_inline.specs.LabelMatch.{first_match};
+ghost use Rattle.definition_inline.specs.LabelMatch.{first_match, normal_label, place_of};
 
 use crate::label::normalize_label;
 use std::alloc::{AllocError, Allocator};
@@ -52,6 +52,13 @@ impl<A: Allocator + Clone> LabelTable<A> {
     {
         let mut normal = String::new(self.alloc.clone()?);
         normalize_label(&mut normal, label)?;
-        Ok(self.places.get(normal.as_str()).copied())
+        Ok(self.find_normal(normal.as_str()))
+    }
+
+    /// The place of the first label that is this one as labels are matched (CommonMark 6.3).
+    pub fn find_normal(&self, normal: &str) -> Option<usize>
+        ensures { (labels : List (List ℕ)) → HasLabels self.now labels → result ≡ place_of normal.now (map normal_label labels) }
+    {
+        self.places.get(normal).copied()
     }
 }

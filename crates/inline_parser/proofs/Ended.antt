@@ -6,9 +6,8 @@ use Rattle.std.proofs.lemmas.Option.{slice_get_within, slice_get-get_or, get_or_
 use Rattle.std.proofs.lemmas.List.{length-append, take_at, get_or-drop, take-append-drop, drop_more, length-drop}
 use Rattle.definition_text.specs.Content.{content_codes, before}
 use Rattle.definition_inline.specs.Inline.{Target, Linked}
-use Rattle.definition_inline.specs.LabelEnd.{label_end_at}
 use Rattle.definition_inline.specs.Scan as scan
-use Rattle.definition_inline.specs.Scan.{InlineContext, may_form}
+use Rattle.definition_inline.specs.Scan.{InlineContext, formed_at, may_form}
 use Rattle.inline_runs.specs.declared.run.Run.{Run}
 use Rattle.inline_rows.specs.declared.row.InlineRow.{InlineRow}
 use Rattle.inline_links.specs.Codes.{IsRest, IsCut}
@@ -91,17 +90,17 @@ module _ (leads : Target → Linked) (at : ℕ → Linked) (context : InlineCont
       let there = readings.has_label leads at rows runs slots o opens labels now.tokens s2 in
       let may : may_form there.label.start now.holds_link ≡ false = sym (ap₂ (λ a b. may_form a b) there.is.start same) ∙ not in
       ap (λ ls. ended_here context content ls now) there.labels_are
-      ∙ cond-false (may_form there.label.start now.holds_link) (label_end_at context.is_defined (before there.label.from content) (drop 1 content)) None may
+      ∙ cond-false (may_form there.label.start now.holds_link) (formed_at context there.label.start (before there.label.from content) (drop 1 content)) None may
 
   -- the innermost may form something
   pub last_may : (rows : List InlineRow) (runs : List Run) (slots : List ℕ) (all opens : List OpenLabel) (o : OpenLabel) (labels : List scan.OpenLabel) (now : scan.Text) (holds_link : Bool)
       → reverse all ≡ o ∷ opens → holds_link ≡ now.holds_link → may_form (start_view o.start) holds_link ≡ true
       → ShowsBy leads at rows runs slots (reverse all) labels now.tokens
-      → ended_here context content labels now ≡ label_end_at context.is_defined (before (content_codes o.from.now) content) (drop 1 content)
+      → ended_here context content labels now ≡ formed_at context (start_view o.start) (before (content_codes o.from.now) content) (drop 1 content)
   last_may rows runs slots all opens o labels now holds_link e same is s =
       let s2 = subst (λ os. ShowsBy leads at rows runs slots os labels now.tokens) e s in
       let there = readings.has_label leads at rows runs slots o opens labels now.tokens s2 in
       let may : may_form there.label.start now.holds_link ≡ true = sym (ap₂ (λ a b. may_form a b) there.is.start same) ∙ is in
       ap (λ ls. ended_here context content ls now) there.labels_are
-      ∙ cond-true (may_form there.label.start now.holds_link) (label_end_at context.is_defined (before there.label.from content) (drop 1 content)) None may
-      ∙ ap (λ f. label_end_at context.is_defined (before f content) (drop 1 content)) (sym there.is.from)
+      ∙ cond-true (may_form there.label.start now.holds_link) (formed_at context there.label.start (before there.label.from content) (drop 1 content)) None may
+      ∙ ap₂ (λ s f. formed_at context s (before f content) (drop 1 content)) (sym there.is.start) (sym there.is.from)

@@ -20,8 +20,9 @@ use Rattle.definition_inline.proofs.GfmAutolinkLiteral.{literals_off}
 use Rattle.definition_inline.proofs.Scanning.{drop-codes_of}
 use Rattle.definition_inline.specs.Attention.{run_at}
 use Rattle.definition_inline.specs.Spans.{Item, Delimiters}
-use Rattle.definition_inline.specs.LabelEnd.{Ended}
-use Rattle.definition_inline.specs.Definition.{Definition}
+use Rattle.definition_inline.specs.LabelEnd.{Ended, formed_size}
+use Rattle.definition_inline.specs.LabelEnd as ends
+use Rattle.definition_page.specs.Targets.{Targets}
 use Rattle.definition_inline.specs.Scan as scan
 use Rattle.definition_inline.specs.Scan.{InlineContext, label_start_at, start_bytes, start_more, read_tokens, leaf_here}
 use Rattle.inline_runs.specs.View.{run_view}
@@ -37,7 +38,10 @@ use Rattle.inline_leaves.proofs.Codes.{end_after, plain_code, plain_take, plain_
 use Rattle.inline_literals.specs.Literals.{may_begin}
 use Rattle.inline_literals.proofs.Found.{none_first}
 use Rattle.inline_label_ends.specs.declared.forms.LabelEnd.{LabelEnd}
-use Rattle.inline_label_ends.specs.Ends.{IsAfterEnd, IsEnd, IsEnded}
+use Rattle.inline_label_ends.specs.declared.gfm_label_start_footnote.Formed.{Formed}
+use Rattle.inline_label_ends.specs.declared.gfm_label_start_footnote.Formed.TheVariants.{Leads, Calls}
+use Rattle.inline_label_ends.specs.Ends.{IsAfterEnd, IsAfterFormed, IsEnd, IsFormed}
+use Rattle.inline_label_ends.proofs.Rests.{after_same}
 use Rattle.inline_parser.specs.declared.label.LabelStart.{LabelStart}
 use Rattle.inline_parser.specs.declared.label.LabelStart.TheVariants as start
 use Rattle.inline_parser.specs.Plain.{is_text_at}
@@ -147,21 +151,35 @@ end_next rest after a = record {
   codes = a.codes;
 }
 
--- the place of an end that was found
-pub some_place : {rest : List ℕ} {o : Option LabelEnd} {found : LabelEnd} → o ≡ Some found → IfSome o (λ end. IsAfterEnd rest end.after.now) → IsAfterEnd rest found.after.now
-some_place {rest} {o} {found} is h = subst (λ x. IfSome x (λ end. IsAfterEnd rest end.after.now)) is h
+-- the place after what was formed
+pub some_place : {rest : List ℕ} {o : Option Formed} {found : LabelEnd} → o ≡ Some (Leads found) → IfSome o (IsAfterFormed rest) → IsAfterEnd rest found.after.now
+some_place {rest} is h = subst (λ x. IfSome x (IsAfterFormed rest)) is h
 
--- an end that was found is the definition's
-pub record IsFound (ls : List (List ℕ)) (rest : List ℕ) (found : LabelEnd) (o : Option Ended) : Type 0 where
+-- a link or an image that was found is the definition's
+pub record IsFound (ls : List (List ℕ)) (rest : List ℕ) (found : LabelEnd) (o : Option ends.Formed) : Type 0 where
   pub end : Ended
-  pub is : o ≡ Some end
+  pub is : o ≡ Some (ends.Leads end)
   pub as_end : IsEnd ls rest found end
 
-pub found_is : (ls : List (List ℕ)) (rest : List ℕ) (found : LabelEnd) (o : Option Ended) → IsEnded ls rest (Some found) o → IsFound ls rest found o
-found_is ls rest found (Some e) h = record { end = e; is = refl; as_end = h }
+pub found_is : (ls : List (List ℕ)) (rest : List ℕ) (found : LabelEnd) (o : Option ends.Formed) → IsFormed ls rest (Some (Leads found)) o → IsFound ls rest found o
+found_is ls rest found (Some (ends.Leads e)) h = record { end = e; is = refl; as_end = h }
+found_is ls rest found (Some (ends.Calls label)) h = absurd h
 found_is ls rest found None h = absurd h
 
-pub none_is : (ls : List (List ℕ)) (rest : List ℕ) (o : Option Ended) → IsEnded ls rest None o → o ≡ None
+-- and so is a call
+pub call_is : (ls : List (List ℕ)) (rest : List ℕ) (name : _) (o : Option ends.Formed) → IsFormed ls rest (Some (Calls name)) o → o ≡ Some (ends.Calls (content_codes name.now))
+call_is ls rest name (Some (ends.Calls label)) h = ap (λ l. Some (ends.Calls l)) (sym h)
+call_is ls rest name (Some (ends.Leads end)) h = absurd h
+call_is ls rest name None h = absurd h
+
+-- nothing stands between a content and itself
+pub none_after : (content : List ℕ) → 0 ≡ size_before content content
+none_after content = omega arith
+
+pub same_next : (content : List ℕ) → IsNext content content
+same_next content = end_next content content (after_same content)
+
+pub none_is : (ls : List (List ℕ)) (rest : List ℕ) (o : Option ends.Formed) → IsFormed ls rest None o → o ≡ None
 none_is ls rest None h = refl
 none_is ls rest (Some e) h = absurd h
 
@@ -189,7 +207,7 @@ pub with_literal : (options : ParseOptions) (names : List ℕ → Option (List �
 with_literal options names p content rest place none =
     ap (λ o. or_else o (literal_at options.constructs (view_at p content rest))) (ap (leaf_in options names) (codes_left p content rest place) ∙ none)
 
-module _ (options : ParseOptions) (names : List ℕ → Option (List ℕ)) (p : ℕ → Bool) (ds : List Definition) (content : Content) where
+module _ (options : ParseOptions) (names : List ℕ → Option (List ℕ)) (p : ℕ → Bool) (ds : Targets) (content : Content) where
   view_count : (rest : List ℕ) → IsPlace content.text.now rest → 0 < length (content_codes rest) → 0 < length (view_at p content rest)
   view_count rest place some =
       omega (arith, some, ap length (codes_left p content rest place), length-map (view_at p content rest) (λ (c : InlineCode). c.code))
@@ -282,19 +300,19 @@ module _ (options : ParseOptions) (names : List ℕ → Option (List ℕ)) (p : 
       (sym (one_byte rest some ∙ ap (λ b. b ∷ []) bracket)))
 
   -- a `]` that forms a link or an image
-  pub formed_follows : (rest after : List ℕ) (e : Ended) (now final : scan.Reading) → IsPlace content.text.now rest → leaf_here (without_labels options names) (view_at p content rest) ≡ None
+  pub formed_follows : (rest after : List ℕ) (e : ends.Formed) (now final : scan.Reading) → IsPlace content.text.now rest → leaf_here (without_labels options names) (view_at p content rest) ≡ None
       → run_at options (view_at p content rest) ≡ None → label_start_at options.constructs (content_codes rest) ≡ None → options.constructs.label_end ≡ true → get_or rest 0 0 ≡ 93 → IsSingle rest → 0 < length rest
-      → ended_here (context_by options names ds) (content_codes rest) now.open_labels now.now ≡ Some e → e.size ≡ size_before (drop 1 rest) after → IsNext (drop 1 rest) after
+      → ended_here (context_by options names ds) (content_codes rest) now.open_labels now.now ≡ Some e → formed_size e ≡ size_before (drop 1 rest) after → IsNext (drop 1 rest) after
       → scan.scan (context_by options names ds) 0 now (view_at p content rest) ≡ final
-      → scan.scan (context_by options names ds) 0 (formed_in e.target now.open_labels now.now) (view_at p content after) ≡ final
+      → scan.scan (context_by options names ds) 0 (formed_in e now.open_labels now.now) (view_at p content after) ≡ final
   formed_follows rest after e now final place none no_run no_start end bracket single some ended size next same =
       let codes = codes_left p content rest place in
       let first = first_code rest (view_at p content rest) single codes in
       let there = next_place content.text.now rest (drop 1 rest) place (single_next rest single) in
       let one = ap (λ n. drop n (view_at p content rest)) (sym (single_size rest single)) ∙ view_next p content rest (drop 1 rest) place (single_next rest single) in
-      let left : drop e.size (drop 1 (view_at p content rest)) ≡ view_at p content after =
-      ap (drop e.size) one ∙ ap (λ n. drop n (view_at p content (drop 1 rest))) size ∙ view_next p content (drop 1 rest) after there next in
-      ap (scan.scan (context_by options names ds) 0 (formed_in e.target now.open_labels now.now)) (sym left)
+      let left : drop (formed_size e) (drop 1 (view_at p content rest)) ≡ view_at p content after =
+      ap (drop (formed_size e)) one ∙ ap (λ n. drop n (view_at p content (drop 1 rest))) size ∙ view_next p content (drop 1 rest) after there next in
+      ap (scan.scan (context_by options names ds) 0 (formed_in e now.open_labels now.now)) (sym left)
       ∙ sym (goes.formed_view_goes (context_by options names ds) now (view_at p content rest) e (view_count rest place (omega (arith, single.next.fewer))) none no_run
       (ap (label_start_at options.constructs) codes ∙ no_start) end (first ∙ bracket)
       (ap (λ cs. ended_here (context_by options names ds) cs now.open_labels now.now) codes ∙ ended))

@@ -1,4 +1,4 @@
--- A link or an image is formed.
+-- A link, an image or a call is formed.
 use Rattle.std.proofs.Common.{◌≡◌, ℕ, ◌+◌, List, [], ◌∷◌, ◌++◌, refl, sym, ap, ap₂, ◌∙◌, length, subst, append_assoc, take, drop, set}
 use Rattle.std.specs.List.{flat_map}
 use Rattle.std.proofs.lemmas.List.{append-nil, length-append, take_at, drop_at}
@@ -75,6 +75,28 @@ module _ (leads : Target → inline.Linked) (at : ℕ → inline.Linked) where
         now = container.items leads at more (enter ∷ (inner ++ Exit ∷ [])) (length rows) more_runs more_slots label.outer.tokens (part ∷ []) inside made;
       }
 
+  -- rows up to a label start, and one in place of it and of those after it
+  call_outer : (outer_rows now_rows : List InlineRow) (outer_runs : List Run) (outer_slots : List ℕ) (o : OpenLabel) (opens : List OpenLabel) (label : scan.OpenLabel) (labels : List scan.OpenLabel)
+      (call : InlineRow) (name : List ℕ)
+      → AreOpen leads at outer_rows outer_runs outer_slots (o ∷ opens) (label ∷ labels) → rows_view at (call ∷ []) ≡ flat_map (part_rows leads) (inline.Call name ∷ [])
+      → ShowsBy leads at (take o.row (outer_rows ++ now_rows) ++ call ∷ []) outer_runs outer_slots opens labels (label.outer.tokens ++ Item (inline.Call name) ∷ [])
+  call_outer _ now_rows _ _ _ _ _ _ call name (Inside rows more runs more_runs slots more_slots opens labels o label row outer inside is view) made = record {
+    outer_rows = rows;
+    now_rows = more ++ call ∷ [];
+    outer_runs = runs;
+    now_runs = more_runs;
+    outer_slots = slots;
+    now_slots = more_slots;
+    rows_are =
+        ap₂ (λ n xs. take n xs ++ call ∷ []) is.row (append_assoc (rows ++ more) (row ∷ []) now_rows)
+        ∙ ap (λ xs. xs ++ call ∷ []) (take_at (rows ++ more) (row ∷ now_rows) (length (rows ++ more)) refl)
+        ∙ append_assoc rows more (call ∷ []);
+    runs_are = refl;
+    slots_are = refl;
+    outer = outer;
+    now = container.items leads at more (call ∷ []) (length rows) more_runs more_slots label.outer.tokens (inline.Call name ∷ []) inside made;
+  }
+
   -- so many runs and slots stand outside
   outer_counts : (rows : List InlineRow) (runs : List Run) (slots : List ℕ) (opens : List OpenLabel) (labels : List scan.OpenLabel) → AreOpen leads at rows runs slots opens labels
       → length slots ≡ length runs
@@ -103,6 +125,8 @@ module _ (leads : Target → inline.Linked) (at : ℕ → inline.Linked) where
     pub formed : (target : LinkTarget) (t : Target) (all : List InlineRow) → target_linked at target ≡ leads t → AreTold leads at outer_rows tokens all
         → ShowsBy leads at (set all o.row (entered o.start target) ++ Exit ∷ []) (take o.runs runs) (take o.runs slots) opens others
         (label.outer.tokens ++ Item (label_part label.start t (emphasized tokens)) ∷ [])
+    pub called : (call : InlineRow) (name : List ℕ) → rows_view at (call ∷ []) ≡ flat_map (part_rows leads) (inline.Call name ∷ [])
+        → ShowsBy leads at (take o.row rows ++ call ∷ []) (take o.runs runs) (take o.runs slots) opens others (label.outer.tokens ++ Item (inline.Call name) ∷ [])
 
   pub is_inner : (rows : List InlineRow) (runs : List Run) (slots : List ℕ) (o : OpenLabel) (opens : List OpenLabel) (labels : List scan.OpenLabel) (tokens : List Token)
       → ShowsBy leads at rows runs slots (o ∷ opens) labels tokens → IsInner rows runs slots o opens labels tokens
@@ -130,4 +154,10 @@ module _ (leads : Target → inline.Linked) (at : ℕ → inline.Linked) where
             subst (λ x. ShowsBy leads at made x (take o.runs slots) opens there.others more) (sym (take_front runs s.outer_runs s.now_runs o.runs s.runs_are count))
             (subst (λ x. ShowsBy leads at made s.outer_runs x opens there.others more) (sym (take_front slots s.outer_slots s.now_slots o.runs s.slots_are count2))
             (form_outer s.outer_rows s.outer_runs s.outer_slots o opens there.label there.others target t all (emphasized tokens) outer leads_there told.before told.told));
+        called = λ call name view.
+            let more = there.label.outer.tokens ++ Item (inline.Call name) ∷ [] in
+            subst (λ x. ShowsBy leads at (take o.row x ++ call ∷ []) (take o.runs runs) (take o.runs slots) opens there.others more) (sym s.rows_are)
+            (subst (λ x. ShowsBy leads at (take o.row (s.outer_rows ++ s.now_rows) ++ call ∷ []) x (take o.runs slots) opens there.others more) (sym (take_front runs s.outer_runs s.now_runs o.runs s.runs_are count))
+            (subst (λ x. ShowsBy leads at (take o.row (s.outer_rows ++ s.now_rows) ++ call ∷ []) s.outer_runs x opens there.others more) (sym (take_front slots s.outer_slots s.now_slots o.runs s.slots_are count2))
+            (call_outer s.outer_rows s.now_rows s.outer_runs s.outer_slots o opens there.label there.others call name outer view)));
       }

@@ -1,7 +1,7 @@
 -- Where runs and label starts stand among the rows.
-use Rattle.std.proofs.Common.{inl, inr, ◌≡◌, ℕ, ◌+◌, ◌-◌, ◌<◌, ◌≤◌, List, [], ◌∷◌, ◌++◌, sym, ap, ◌∙◌, length, arith, get_or, take, drop}
+use Rattle.std.proofs.Common.{inl, inr, ◌≡◌, ℕ, ◌+◌, ◌-◌, ◌<◌, ◌≤◌, List, [], ◌∷◌, ◌++◌, sym, ap, ◌∙◌, length, arith, get_or, subst, take, drop}
 use Rattle.std.proofs.lemmas.Bool.{cases_lt}
-use Rattle.std.proofs.lemmas.List.{length-append, get_or_append_left, get_or-append-add, get_or-take, get_or-drop, length-take-le, length-drop}
+use Rattle.std.proofs.lemmas.List.{length-append, get_or_append_left, get_or-append-add, get_or-take, get_or-drop, length-take-le, length-drop, take-append-le, take-take}
 use Rattle.inline_runs.specs.declared.run.Run.{Run}
 use Rattle.inline_spans.specs.Container.{AreWithin}
 use Rattle.inline_parser.specs.declared.label.OpenLabel.{OpenLabel}
@@ -55,6 +55,34 @@ within_drop runs slots n k w = record {
       omega (arith, e, s, q);
 }
 
-pub outside_more : (opens : List OpenLabel) (rows runs more_rows more_runs : ℕ) → AreOutside opens rows runs → rows ≤ more_rows → runs ≤ more_runs → AreOutside opens more_rows more_runs
-outside_more [] rows runs more_rows more_runs o p q = tt
-outside_more (x ∷ xs) rows runs more_rows more_runs o p q = (omega (arith, o.0, p), omega (arith, o.1, q), o.2)
+-- more rows inside
+pub outside_more : (opens : List OpenLabel) (rows more : ℕ) (runs : List Run) (slots : List ℕ) → AreOutside opens rows runs slots → rows ≤ more → AreOutside opens more runs slots
+outside_more [] rows more runs slots o le = tt
+outside_more (x ∷ xs) rows more runs slots o le = (omega (arith, o.0, le), o.1, o.2, o.3)
+
+-- one more run inside, and more rows
+pub outside_run : (opens : List OpenLabel) (rows more n : ℕ) (r : Run) (runs : List Run) (slots : List ℕ) → length slots ≡ length runs
+    → AreOutside opens rows runs slots → rows ≤ more → AreOutside opens more (runs ++ r ∷ []) (slots ++ n ∷ [])
+outside_run [] rows more n r runs slots same o le = tt
+outside_run (x ∷ xs) rows more n r runs slots same o le =
+    let runs_are = take-append-le x.runs runs (r ∷ []) o.1 in
+    let slots_are = take-append-le x.runs slots (n ∷ []) (omega (arith, same, o.1)) in (
+      omega (arith, o.0, le),
+      omega (arith, o.1, length-append runs (r ∷ [])),
+      subst (λ rs. AreWithin rs (take x.runs (slots ++ n ∷ [])) x.row) (sym runs_are) (subst (λ ss. AreWithin (take x.runs runs) ss x.row) (sym slots_are) o.2),
+      subst (λ rs. AreOutside xs x.row rs (take x.runs (slots ++ n ∷ []))) (sym runs_are) (subst (AreOutside xs x.row (take x.runs runs)) (sym slots_are) o.3),
+    )
+
+-- the innermost is gone
+pub outside_popped : (o : OpenLabel) (opens : List OpenLabel) (rows : ℕ) (runs : List Run) (slots : List ℕ) → AreOutside (o ∷ opens) rows runs slots → AreOutside opens rows runs slots
+outside_popped o [] rows runs slots h = tt
+outside_popped o (x ∷ xs) rows runs slots h =
+    let inner = h.3 in
+    let fewer : x.runs ≤ o.runs = omega (arith, inner.1, length-take-le o.runs runs h.1) in
+    let runs_are = take-take x.runs o.runs runs fewer in
+    let slots_are = take-take x.runs o.runs slots fewer in (
+      omega (arith, inner.0, h.0),
+      omega (arith, fewer, h.1),
+      subst (λ rs. AreWithin rs (take x.runs slots) x.row) runs_are (subst (λ ss. AreWithin (take x.runs (take o.runs runs)) ss x.row) slots_are inner.2),
+      subst (λ rs. AreOutside xs x.row rs (take x.runs slots)) runs_are (subst (AreOutside xs x.row (take x.runs (take o.runs runs))) slots_are inner.3),
+    )

@@ -7,6 +7,9 @@ use Rattle.markdown_options.specs.declared.configuration.ParseOptions.{ParseOpti
 use Rattle.definition_text.specs.Columns.{is_white, indent, bare}
 use Rattle.definition_text.specs.Content.{content_codes, is_eol}
 use Rattle.definition_inline.specs.HardBreak.{ends_here, escaped_break_at, line_end_at, line_spaces_at}
+use Rattle.std.specs.Prelude.{codes}
+use Rattle.definition_text.specs.Bytes.{begins_with}
+use Rattle.definition_inline.specs.GfmLabelStartFootnote.{starts_call}
 use Rattle.definition_inline.specs.Strings.{begins_with_eol}
 use Rattle.definition_inline.specs.CharacterEscape.{escape_at}
 use Rattle.definition_inline.specs.CharacterReference.{reference_at, reference_of}
@@ -165,8 +168,12 @@ text_run options c cs h =
 pub text_start : (on : Constructs) (c : ℕ) (cs : List ℕ) → starts c ≡ false → label_start_at on (c ∷ cs) ≡ None
 text_start on c cs h =
     let o = is_other c h in
-    cond-false _ _ _ (and_right on.label_start_image _ (and_left (eqb 33 c) _ (flip c 33 o.exclamation)))
-    ∙ cond-false _ _ _ (and_right on.label_start_link _ (and_left (eqb 91 c) _ (flip c 91 o.opening)))
+    let opening = flip c 91 o.opening in
+    let image = and_right on.label_start_image (begins_with (codes "![") (c ∷ cs)) (and_left (eqb 33 c) _ (flip c 33 o.exclamation)) in
+    cond-false _ _ _ (and_left (on.label_start_image && begins_with (codes "![") (c ∷ cs)) _ image)
+    ∙ cond-false _ _ _
+    (or_from (on.label_start_link && begins_with (codes "[") (c ∷ cs)) (starts_call on (c ∷ cs))
+    (and_right on.label_start_link _ (and_left (eqb 91 c) _ opening)) (and_right on.gfm_label_start_footnote _ (and_left (eqb 91 c) _ opening)))
 
 -- ---- what the scan makes of text
 

@@ -1,11 +1,12 @@
 -- What is read so far, as the definition has it.
-use Rattle.std.specs.Prelude.{◌≡◌, ◌<◌, ◌≤◌, ℕ, false, List, [], ◌∷◌, ◌++◌, length, reverse, OnOk, Result}
+use Rattle.std.specs.Prelude.{◌≡◌, ◌<◌, ◌≤◌, ℕ, false, List, [], ◌∷◌, ◌++◌, length, reverse, take, OnOk, Result}
 use Rattle.std.specs.List.{All}
 use Rattle.definition_text.specs.Content.{content_codes}
 use Rattle.definition_inline.specs.Inline.{Target, Data}
 use Rattle.definition_inline.specs.Inline as inline
 use Rattle.definition_inline.specs.Scan as scan
 use Rattle.definition_inline.specs.Scan.{LinkStart, ImageStart, start_bytes, unformed, formed}
+use Rattle.definition_inline.specs.LabelEnd.{Formed}
 use Rattle.definition_inline.specs.Spans.{Token}
 use Rattle.inline_links.specs.Codes.{IsRest}
 use Rattle.inline_runs.specs.declared.run.Run.{Run}
@@ -47,13 +48,13 @@ unformed_in (label ∷ others) now = scan.reading (unformed label now) others
 abbrev pub unformed_last : scan.Reading → scan.Reading
 unformed_last r = unformed_in r.open_labels r.now
 
-abbrev pub formed_in : Target → List scan.OpenLabel → scan.Text → scan.Reading
-formed_in target [] now = scan.reading now []
-formed_in target (label ∷ others) now = scan.reading (formed label target now) others
+abbrev pub formed_in : Formed → List scan.OpenLabel → scan.Text → scan.Reading
+formed_in found [] now = scan.reading now []
+formed_in found (label ∷ others) now = scan.reading (formed label found now) others
 
--- the innermost label start forms what leads to this target
-abbrev pub formed_last : Target → scan.Reading → scan.Reading
-formed_last target r = formed_in target r.open_labels r.now
+-- the innermost label start forms this
+abbrev pub formed_last : Formed → scan.Reading → scan.Reading
+formed_last found r = formed_in found r.open_labels r.now
 
 -- ---- how rows show it
 
@@ -108,11 +109,13 @@ StartsBefore rest s = All (λ (o : OpenLabel). IsRest o.from.now rest) s.labels.
 abbrev pub KeepsStarts : {A B C : Type 0} → Reading A → Result B C → Reading A → Type 0
 KeepsStarts old result new = (rest : List ℕ) → StartsBefore rest old → OnOk result (StartsBefore rest new)
 
--- the rows and the runs of open label starts stand before those inside of them, the innermost first
-abbrev pub AreOutside : List OpenLabel → ℕ → ℕ → Type 0
-AreOutside [] rows runs = Unit {0}
-AreOutside (o ∷ others) rows runs = (o.row < rows) × (o.runs ≤ runs) × AreOutside others o.row o.runs
+-- the rows and the runs of open label starts stand before those inside of them, the innermost first, and the rows of the runs before each stand before its own
+abbrev pub AreOutside : List OpenLabel → ℕ → List Run → List ℕ → Type 0
+AreOutside [] rows runs slots = Unit {0}
+AreOutside (o ∷ others) rows runs slots =
+    (o.row < rows) × (o.runs ≤ length runs)
+    × AreWithin (take o.runs runs) (take o.runs slots) o.row × AreOutside others o.row (take o.runs runs) (take o.runs slots)
 
 pub record IsSound {A : Type 0} (s : Reading A) : Type 0 where
   pub within : AreWithin s.runs.items s.slots.items (length s.rows.items)
-  pub outside : AreOutside (reverse s.labels.items) (length s.rows.items) (length s.runs.items)
+  pub outside : AreOutside (reverse s.labels.items) (length s.rows.items) s.runs.items s.slots.items

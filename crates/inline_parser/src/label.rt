@@ -10,7 +10,7 @@ use inline_rows::{InlineRow, LinkTarget};
 /// What is started.
 #[derive(Clone, Copy)]
 pub(crate) enum LabelStart {
-    /// A link, by `[` (CommonMark 6.3).
+    /// A link, by `[` (CommonMark 6.3), or a call of a footnote, by `[^`.
     Link,
     /// An image, by `![` (CommonMark 6.4).
     Image,
@@ -37,7 +37,7 @@ impl LabelStart {
         }
     }
 
-    /// Whether what it forms is a link, or its text holds one.
+    /// Whether what it forms is a link or a call, or its text holds one.
     pub(crate) fn makes_link(self, holds_link: bool) -> bool
         ensures { result ≡ makes_link (start_view self) holds_link }
     {

@@ -1,6 +1,7 @@
 //! The inline structure of a content (CommonMark 6).
 #![tactic(auto)]
 
+mod gfm_autolink_literal;
 mod label;
 mod plain;
 mod reading;

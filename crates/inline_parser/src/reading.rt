@@ -5,7 +5,9 @@
 //! image, and the runs after it are told apart. The runs that are left are told apart at the end.
 ghost use Rattle.std.specs.Prelude.{◌≡◌, OnOk, IfOk};
 ghost use Rattle.std.specs.Prelude.{ℕ, false, List, ◌∷◌, ◌++◌, [], length, map, replicate};
+ghost use Rattle.definition_text.specs.Content.{content_codes};
 ghost use Rattle.definition_inline.specs.Inline.{Target, Linked, Data};
+ghost use Rattle.definition_inline.specs.LabelEnd.{Ended, Leads, Calls};
 ghost use Rattle.inline_rows.specs.InlineRows.{inline_rows};
 ghost use Rattle.definition_inline.specs.Scan as scan;
 ghost use Rattle.definition_inline.specs.Scan.{read_tokens, whole_text};
@@ -167,8 +169,8 @@ impl<'a, A: Allocator> Reading<'a, A> {
         requires sound { IsSound self.old }
         ensures sound { OnOk result (IsSound self.new) }
         ensures from { KeepsStarts self.old result self.new }
-        ensures read { (leads : Target → Linked) (at : ℕ → Linked) (r : scan.Reading) (t : Target) → target_linked at target.entry ≡ leads t →
-            Shows leads at self.old r → OnOk result (Shows leads at self.new (formed_last t r)) }
+        ensures read { (leads : Target → Linked) (at : ℕ → Linked) (r : scan.Reading) (e : Ended) → target_linked at target.entry ≡ leads e.target →
+            Shows leads at self.old r → OnOk result (Shows leads at self.new (formed_last (Leads e) r)) }
     {
         let Some(label) = self.labels.pop() else {
             return Ok(());
@@ -184,6 +186,26 @@ impl<'a, A: Allocator> Reading<'a, A> {
         self.rows[label.row] = label.start.entered(target);
         self.holds_link = label.around_holds_link(label.start.makes_link(self.holds_link));
         self.rows.push(InlineRow::Exit)?;
+        Ok(())
+    }
+
+    /// The innermost label start that is open forms a call of the footnote with this label. What
+    /// was read of its text isn't kept.
+    pub(crate) fn call(&mut self, name: &'a str) -> Result<(), AllocError>
+        requires sound { IsSound self.old }
+        ensures sound { OnOk result (IsSound self.new) }
+        ensures from { KeepsStarts self.old result self.new }
+        ensures read { (leads : Target → Linked) (at : ℕ → Linked) (r : scan.Reading) → Shows leads at self.old r →
+            OnOk result (Shows leads at self.new (formed_last (Calls (content_codes name.now)) r)) }
+    {
+        let Some(label) = self.labels.pop() else {
+            return Ok(());
+        };
+        self.rows.truncate(label.row);
+        self.runs.truncate(label.runs);
+        self.slots.truncate(label.runs);
+        self.holds_link = label.around_holds_link(label.start.makes_link(self.holds_link));
+        self.rows.push(InlineRow::Call(name))?;
         Ok(())
     }
 }

@@ -2,7 +2,7 @@
 use inline_runs::{Pairing, Run};
 use std::alloc::{AllocError, Allocator};
 
-/// Room for the runs of a content, which the next content uses again (CommonMark 6.2).
+/// Room for the runs and the text of a content, which the next content uses again.
 #[derive(Drop)]
 pub struct Room<A: Allocator + Clone> {
     /// What else is allocated by.
@@ -11,6 +11,8 @@ pub struct Room<A: Allocator + Clone> {
     pub(crate) slots: Vec<usize, A>,
     /// None while a content is read.
     pub(crate) pairing: Option<Box<Pairing<A>, A>>,
+    /// The texts of the rows of a content in which addresses are looked for (GFM 6.9).
+    pub(crate) text: String<A>,
 }
 
 impl<A: Allocator + Clone> Room<A> {
@@ -20,6 +22,7 @@ impl<A: Allocator + Clone> Room<A> {
             runs: Vec::new(alloc.clone()?),
             slots: Vec::new(alloc.clone()?),
             pairing: None,
+            text: String::new(alloc.clone()?),
             alloc,
         })
     }

@@ -8,31 +8,32 @@ ghost use Rattle.std.specs.Option.{option_map};
 ghost use Rattle.std.specs.Str.{IsCharBoundary};
 ghost use Rattle.markdown_options.specs.declared.configuration.ParseOptions.{ParseOptions as SeenOptions};
 ghost use Rattle.definition_text.specs.Columns.{is_white};
+ghost use Rattle.definition_text.specs.Bytes.{begins_with};
 ghost use Rattle.definition_text.specs.Content.{content_codes};
 ghost use Rattle.definition_inline.specs.Inline.{Target, Linked, Data};
 ghost use Rattle.definition_page.specs.InlinePieces.{leads_to};
 ghost use Rattle.inline_rows.specs.InlineRows.{inline_rows};
-ghost use Rattle.definition_inline.specs.Definition.{Definition};
 ghost use Rattle.definition_inline.specs.Scan as scan;
-ghost use Rattle.definition_inline.specs.Scan.{inlines_from, unindented, label_start_at, read_tokens, start_bytes};
+ghost use Rattle.definition_inline.specs.Scan.{inlines_from, spans_from, unindented, formed_at, label_start_at, read_tokens, start_bytes, starts_image, starts_link};
+ghost use Rattle.definition_inline.specs.GfmLabelStartFootnote.{starts_call, starts_marked_call};
 ghost use Rattle.definition_inline.specs.Spans.{Item, Delimiters};
-ghost use Rattle.definition_page.specs.Targets.{labels_of, linked_at, linked_by};
+ghost use Rattle.definition_page.specs.Targets.{Targets, labels_of, linked_at, linked_by};
 ghost use Rattle.inline_runs.specs.View.{run_view};
 ghost use Rattle.inline_content.specs.View.{content_view, view_at};
 ghost use Rattle.inline_leaves.specs.Leaves.{parts_of, size_before, IsAfter};
 ghost use Rattle.inline_rows.specs.View.{rows_view};
-ghost use Rattle.inline_label_ends.specs.Ends.{IsAfterEnd, IsEnded};
-ghost use Rattle.inline_labels.specs.Table.{HasLabels};
-ghost use Rattle.inline_parser.specs.Scanned.{context_by, ended_here, IsPlace, IsPlaced, IsRunFront, IsSingle, StartsLabel};
+ghost use Rattle.inline_label_ends.specs.Ends.{IsAfterFormed, IsFormed};
+ghost use Rattle.inline_parser.specs.Scanned.{context_by, ended_here, has_no_return, HasTargets, IsPlace, IsPlaced, IsRunFront, IsSingle, StartsLabel};
 ghost use Rattle.inline_parser.specs.Scanned.{GoesOn, HasNoLeaf, HasNoLeafHere, HasNoRun, Shortens, StaysPlaced};
 ghost use Rattle.inline_parser.specs.Shows.{opened, start_view, IsSound, Shows, ShowsThen, StartsBefore};
 
+use crate::gfm_autolink_literal::linked;
 use crate::label::{LabelStart, OpenLabel};
 use crate::plain::text_size;
 use crate::reading::Reading;
 use crate::room::Room;
 use inline_content::Content;
-use inline_label_ends::{LabelEnd, label_end};
+use inline_label_ends::{Formed, call_or_link, link_or_image};
 use inline_labels::LabelTable;
 use inline_leaves::Leaf;
 use inline_leaves::cut::{cut_after, text_before};
@@ -51,6 +52,7 @@ pub(crate) struct Source<'a, T, A: Allocator + Clone> {
     pub(crate) options: &'a ParseOptions,
     pub(crate) tables: &'a T,
     pub(crate) labels: &'a LabelTable<A>,
+    pub(crate) footnotes: &'a LabelTable<A>,
     pub(crate) content: Content<'a>,
 }
 
@@ -63,26 +65,53 @@ pub(crate) struct Scanner<'a, A: Allocator> {
     pub(crate) reading: Reading<'a, A>,
 }
 
-/// The inline structure of a content from a place on, as rows (CommonMark 6). Whatever the room
-/// holds makes no difference.
+/// The inline structure of a content from a place on, as rows (CommonMark 6), where these are the
+/// labels of the document's link reference definitions and of its footnote definitions. Whatever
+/// the room holds makes no difference.
 pub fn inline_rows<'a, T: Tables, A: Allocator + Clone>(
-    room: &mut Room<A>,
+    room: &'a mut Room<A>,
     options: &'a ParseOptions,
     tables: &'a T,
     labels: &'a LabelTable<A>,
+    footnotes: &'a LabelTable<A>,
     content: Content<'a>,
     start: &'a str,
 ) -> Result<Vec<InlineRow<'a>, A>, AllocError>
     requires { IsPlace content.text.now start.now }
-    ensures { (ds : List Definition) → HasLabels labels.now (labels_of ds) →
-        IfOk result (λ rows. rows_view (linked_at ds) rows.items
-        ≡ inline_rows (leads_to (linked_by ds))
+    ensures { (ds : Targets) → HasTargets labels.now footnotes.now ds →
+        IfOk result (λ rows. rows_view (linked_at ds.definitions) rows.items
+        ≡ inline_rows (leads_to (linked_by ds.definitions))
         (inlines_from (context_by options.now (T.reference_of tables.now) ds) (view_at (T.punctuation_of tables.now) content.entry start.now))) }
+{
+    let rows = span_rows(room, options, tables, labels, footnotes, content, start)?;
+    if options.constructs.gfm_autolink_literal {
+        linked(room, rows)
+    } else {
+        Ok(rows)
+    }
+}
+
+/// The same while addresses are text, and links may hold literals.
+fn span_rows<'a, T: Tables, A: Allocator + Clone>(
+    room: &mut Room<A>,
+    options: &'a ParseOptions,
+    tables: &'a T,
+    labels: &'a LabelTable<A>,
+    footnotes: &'a LabelTable<A>,
+    content: Content<'a>,
+    start: &'a str,
+) -> Result<Vec<InlineRow<'a>, A>, AllocError>
+    requires { IsPlace content.text.now start.now }
+    ensures { (ds : Targets) → HasTargets labels.now footnotes.now ds →
+        IfOk result (λ rows. rows_view (linked_at ds.definitions) rows.items
+        ≡ inline_rows (leads_to (linked_by ds.definitions))
+        (spans_from (context_by options.now (T.reference_of tables.now) ds) (view_at (T.punctuation_of tables.now) content.entry start.now))) }
 {
     let source = Source {
         options,
         tables,
         labels,
+        footnotes,
         content,
     };
     let mut scanner = Scanner {
@@ -287,10 +316,15 @@ impl<'a, A: Allocator + Clone> Scanner<'a, A> {
         ensures read { GoesOn (T.reference_of source.now.tables.now) (T.punctuation_of source.now.tables.now) source.now self.old result self.new }
     {
         let after = cut_after(self.rest, 1);
-        match self.ended(source.labels, after)? {
-            Some(end) => {
+        match self.formed(source, after)? {
+            Some(Formed::Leads(end)) => {
                 self.reading.form(end.target)?;
                 self.rest = end.after;
+                Ok(())
+            }
+            Some(Formed::Calls(label)) => {
+                self.reading.call(label)?;
+                self.rest = after;
                 Ok(())
             }
             None => {
@@ -302,19 +336,18 @@ impl<'a, A: Allocator + Clone> Scanner<'a, A> {
 
     /// What a `]` before this content forms with the innermost label start that is open, unless a
     /// link would hold a link (CommonMark 6.3).
-    fn ended(
+    fn formed<T: Tables>(
         &self,
-        labels: &LabelTable<A>,
+        source: &Source<'a, T, A>,
         after: &'a str,
-    ) -> Result<Option<LabelEnd<'a>>, AllocError>
+    ) -> Result<Option<Formed<'a>>, AllocError>
         requires placed { StartsBefore self.now.rest.now self.now.reading }
         requires bracket { self.now.rest.now ≡ 93 ∷ after.now }
-        ensures read { (leads : Target → Linked) (at : ℕ → Linked) (r : scan.Reading) (options : SeenOptions)
-            (names : List ℕ → Option (List ℕ)) (ds : List Definition) →
-            HasLabels labels.now (labels_of ds) → Shows leads at self.now.reading r →
-            IfOk result (λ found. IsEnded (labels_of ds) after.now found
-            (ended_here (context_by options names ds) (content_codes self.now.rest.now) r.open_labels r.now)) }
-        ensures place { IfOk result (λ found. IfSome found (λ end. IsAfterEnd after.now end.after.now)) }
+        ensures read { (leads : Target → Linked) (at : ℕ → Linked) (r : scan.Reading) (names : List ℕ → Option (List ℕ)) (ds : Targets) →
+            HasTargets source.now.labels.now source.now.footnotes.now ds → Shows leads at self.now.reading r →
+            IfOk result (λ found. IsFormed (labels_of ds.definitions) after.now found
+            (ended_here (context_by source.now.options.now names ds) (content_codes self.now.rest.now) r.open_labels r.now)) }
+        ensures place { IfOk result (λ found. IfSome found (λ formed. IsAfterFormed after.now formed)) }
     {
         match self.reading.labels.last() {
             Some(label) => {
@@ -322,14 +355,31 @@ impl<'a, A: Allocator + Clone> Scanner<'a, A> {
                     return Ok(None);
                 }
                 let from = label.from;
-                label_end(
-                    labels,
-                    text_before(from, from.len() - self.rest.len()),
-                    after,
-                )
+                let text = text_before(from, from.len() - self.rest.len());
+                formed_at(source, label.start, text, after)
             }
             None => Ok(None),
         }
+    }
+}
+
+/// What the text between a label start and a `]` forms, where this follows (CommonMark 6.3 and
+/// 6.4).
+fn formed_at<'a, T, A: Allocator + Clone>(
+    source: &Source<'a, T, A>,
+    start: LabelStart,
+    text: &'a str,
+    after: &'a str,
+) -> Result<Option<Formed<'a>>, AllocError>
+    ensures read { (names : List ℕ → Option (List ℕ)) (ds : Targets) → HasTargets source.now.labels.now source.now.footnotes.now ds →
+        IfOk result (λ found. IsFormed (labels_of ds.definitions) after.now found
+        (formed_at (context_by source.now.options.now names ds) (start_view start) (content_codes text.now) (content_codes after.now))) }
+    ensures place { IfOk result (λ found. IfSome found (λ formed. IsAfterFormed after.now formed)) }
+{
+    let on = &source.options.constructs;
+    match start {
+        LabelStart::Link => call_or_link(on, source.labels, source.footnotes, text, after),
+        LabelStart::Image => link_or_image(source.labels, text, after),
     }
 }
 
@@ -346,11 +396,47 @@ fn label_start_at(on: &Constructs, rest: &str) -> Option<LabelStart>
     ensures read { option_map start_view result ≡ label_start_at on.now (content_codes rest.now) }
     ensures front { IfSome result (λ start. StartsLabel rest.now start) }
 {
-    if on.label_start_image && rest.starts_with("![") {
+    if starts_image(on, rest) {
         return Some(LabelStart::Image);
     }
-    if on.label_start_link && rest.starts_with("[") {
+    if starts_link(on, rest) {
         return Some(LabelStart::Link);
     }
     None
+}
+
+/// Whether an image starts (CommonMark 6.4): by `![`, unless `!` stands before a call.
+fn starts_image(on: &Constructs, rest: &str) -> bool
+    ensures { result ≡ starts_image on.now (content_codes rest.now) }
+{
+    on.label_start_image && begins(rest, "![") && !starts_marked_call(on, rest)
+}
+
+/// Whether a link starts, by `[` (CommonMark 6.3), or a call.
+fn starts_link(on: &Constructs, rest: &str) -> bool
+    ensures { result ≡ starts_link on.now (content_codes rest.now) }
+{
+    (on.label_start_link && begins(rest, "[")) || starts_call(on, rest)
+}
+
+/// Whether a call of a footnote starts.
+fn starts_call(on: &Constructs, rest: &str) -> bool
+    ensures { result ≡ starts_call on.now (content_codes rest.now) }
+{
+    on.gfm_label_start_footnote && begins(rest, "[^")
+}
+
+/// Whether a call of a footnote starts after `!`.
+fn starts_marked_call(on: &Constructs, rest: &str) -> bool
+    ensures { result ≡ starts_marked_call on.now (content_codes rest.now) }
+{
+    on.gfm_label_start_footnote && begins(rest, "![^")
+}
+
+/// Whether a content begins with this text, in which there is no CR.
+fn begins(rest: &str, front: &str) -> bool
+    requires { has_no_return front.now ≡ true }
+    ensures { result ≡ begins_with front.now (content_codes rest.now) }
+{
+    rest.starts_with(front)
 }

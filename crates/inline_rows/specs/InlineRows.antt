@@ -1,6 +1,6 @@
 -- The rows of inline structure: what the inline parser hands to the printer.
 use Rattle.std.specs.Prelude.{List, [], ◌∷◌, ◌++◌}
-use Rattle.definition_inline.specs.Inline.{Target, Linked, Inline, Data, Escape, Character, Code, Math, Autolink, Literal, Html, EscapedBreak, TrailingBreak, LineEnd, Emphasis, Strong, Strikethrough, Link, Image, Inlines, Nil, Cons}
+use Rattle.definition_inline.specs.Inline.{Target, Linked, Inline, Data, Escape, Character, Code, Math, Autolink, Literal, Html, EscapedBreak, TrailingBreak, LineEnd, Emphasis, Strong, Strikethrough, Link, Image, Call, Inlines, Nil, Cons}
 use Rattle.definition_inline.specs.Spans.{Span, IsEmphasis, IsStrong, IsStrikethrough}
 
 -- a part that holds no other; the start of a span, of a link and of an image; the end of the innermost one
@@ -31,6 +31,7 @@ module _ (leads : Target → Linked) where
     part_rows (Strikethrough kids) = EnterSpan IsStrikethrough ∷ (inline_rows kids ++ Leave ∷ [])
     part_rows (Link target kids) = EnterLink (leads target) ∷ (inline_rows kids ++ Leave ∷ [])
     part_rows (Image target kids) = EnterImage (leads target) ∷ (inline_rows kids ++ Leave ∷ [])
+    part_rows (Call label) = Part (Call label) ∷ []
 
     pub inline_rows : Inlines → List InlineRow
     inline_rows Nil = []

@@ -12,7 +12,7 @@ use Rattle.inline_rows.specs.declared.row.Linked.{Linked}
 use Rattle.inline_rows.specs.declared.row.LinkTarget.{LinkTarget}
 use Rattle.inline_rows.specs.declared.row.LinkTarget.TheVariants.{Resource, Definition}
 use Rattle.inline_rows.specs.declared.row.InlineRow.{InlineRow}
-use Rattle.inline_rows.specs.declared.row.InlineRow.TheVariants.{Text, Leaf, EnterSpan, EnterLink, EnterImage, Exit}
+use Rattle.inline_rows.specs.declared.row.InlineRow.TheVariants.{Text, Leaf, EnterSpan, EnterLink, EnterImage, Call, Exit}
 
 -- where a link leads, by codes
 abbrev pub linked_view : Linked → inline.Linked
@@ -34,6 +34,7 @@ row_view at (Leaf part) = map rows.Part (parts_of part)
 row_view at (EnterSpan span) = rows.EnterSpan (span_view span) ∷ []
 row_view at (EnterLink target) = rows.EnterLink (target_linked at target) ∷ []
 row_view at (EnterImage target) = rows.EnterImage (target_linked at target) ∷ []
+row_view at (Call label) = rows.Part (inline.Call (content_codes label.now)) ∷ []
 row_view at Exit = rows.Leave ∷ []
 
 abbrev pub rows_view : (ℕ → inline.Linked) → List InlineRow → List rows.InlineRow

@@ -33,6 +33,9 @@ pub enum InlineRow<'a> {
     EnterLink(LinkTarget<'a>),
     /// The start of an image, whose description comes next (CommonMark 6.4).
     EnterImage(LinkTarget<'a>),
+    /// A call of a footnote: the label between its brackets, as it is written. It is the label of a
+    /// footnote definition of the document once both are folded.
+    Call(&'a str),
     /// The end of the innermost of those.
     Exit,
 }

@@ -16,7 +16,7 @@ use Rattle.inline_runs.specs.declared.pair.Span.TheVariants.{Emphasis, Strong, S
 use Rattle.inline_runs.specs.declared.spans.RunSpans.{RunSpans}
 use Rattle.inline_rows.specs.View.{row_view, rows_view, data_rows}
 use Rattle.inline_rows.specs.declared.row.InlineRow.{InlineRow}
-use Rattle.inline_rows.specs.declared.row.InlineRow.TheVariants.{Text, Leaf, EnterSpan, EnterLink, EnterImage, Exit}
+use Rattle.inline_rows.specs.declared.row.InlineRow.TheVariants.{Text, Leaf, EnterSpan, EnterLink, EnterImage, Call, Exit}
 use Rattle.inline_spans.specs.Container.{text_of, AreBytes}
 use Rattle.inline_spans.specs.Told.{start_row, span_row_rows, told_rows, rows_needed}
 
@@ -112,6 +112,7 @@ module _ (leads : Target → Linked) (at : ℕ → Linked) where
   byte_view (EnterSpan span) marker is = absurd (cons_nil marker [] (sym is))
   byte_view (EnterLink target) marker is = absurd (cons_nil marker [] (sym is))
   byte_view (EnterImage target) marker is = absurd (cons_nil marker [] (sym is))
+  byte_view (Call label) marker is = absurd (cons_nil marker [] (sym is))
   byte_view Exit marker is = absurd (cons_nil marker [] (sym is))
 
   bytes_view : (kept : List InlineRow) (marker n : ℕ) → map text_of kept ≡ replicate n (marker ∷ []) → rows_view at kept ≡ told_rows leads (replicate n (Holds (Data marker)))

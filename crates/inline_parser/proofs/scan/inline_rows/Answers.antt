@@ -1,65 +1,22 @@
-use Rattle.std.proofs.Common.{◌≡◌, ℕ, true, false, eqb, List, [], ◌∷◌, refl, sym, ap, ◌∙◌, length, arith, subst, IfOk}
-use Rattle.std.specs.List.{All}
-use Rattle.std.proofs.lemmas.Bool.{eqb-true}
+use Rattle.std.proofs.Common.{◌≡◌, [], IfOk, subst, sym}
+use Rattle.std.proofs.lemmas.Bool.{cond-true}
+use Rattle.definition_inline.specs.GfmAutolinkLiteral.{with_literals}
+use Rattle.definition_inline.specs.Scan.{spans_from}
 use Rattle.definition_page.specs.InlinePieces.{leads_to}
-use Rattle.inline_rows.specs.InlineRows.{inline_rows}
-use Rattle.definition_inline.specs.Scan as scan
-use Rattle.definition_inline.specs.Scan.{whole_text}
-use Rattle.definition_inline.specs.Spans.{emphasized}
 use Rattle.definition_page.specs.Targets.{linked_at, linked_by}
+use Rattle.inline_content.specs.View.{view_at}
+use Rattle.inline_rows.specs.InlineRows.{inline_rows}
 use Rattle.inline_rows.specs.View.{rows_view}
-use Rattle.inline_links.specs.Codes.{IsRest}
 use Rattle.inline_parser.specs.Scanned.{context_by}
-use Rattle.inline_parser.specs.declared.label.OpenLabel.{OpenLabel}
-use Rattle.inline_parser.proofs.Whole as whole
 use Rattle.inline_parser.proofs.scan.inline_rows.Goals as goal
 
-pub loop-source-init : goal.loop-source-init
-loop-source-init g c =
-    let content = c.args.content in
-    let p = g.T.Tables.punctuation_of c.args.tables.now in
-    let names = g.T.Tables.reference_of c.args.tables.now in
-    record {
-      placed = record {
-        searched = c.new.ensures ∙ c.text.ensures;
-        place = c.requires;
-        labels = subst (All (λ (o : OpenLabel). IsRest o.from.now c.args.start.now)) (sym c.in_ok-new.ensures.none) (λ k d lt. absurd (omega (arith, lt)));
-        sound = c.in_ok-new.ensures.sound;
-      };
-      follows = λ ds has. record {
-        now = scan.reading (scan.text [] false) [];
-        shows = c.in_ok-new.ensures.nothing (leads_to (linked_by ds)) (linked_at ds);
-        same = refl;
-      };
-    }
-
-pub step-requires-clause-placed : goal.step-requires-clause-placed
-step-requires-clause-placed g c = c.loop-source.invariant.placed
-
-pub loop-source-smaller : goal.loop-source-smaller
-loop-source-smaller g c = c.in_ok-step.ensures.shorter
-
-pub loop-source-preserved : goal.loop-source-preserved
-loop-source-preserved g c = record {
-  placed = c.in_ok-step.ensures.placed;
-  follows = λ ds has. c.in_ok-step.ensures.read ds _ has (c.loop-source.invariant.follows ds has);
-}
-
-pub finish-requires : goal.finish-requires
-finish-requires g c = record { sound = c.loop-source.invariant.placed.sound }
-
-no_bytes : (xs : List ℕ) → eqb (length xs) 0 ≡ true → xs ≡ []
-no_bytes [] e = refl
-no_bytes (x ∷ xs) e = absurd (omega (arith, eqb-true (length (x ∷ xs)) 0 e))
-
-pub returns : goal.returns
-returns g c ds has =
-    let content = c.args.content in
-    let p = g.T.Tables.punctuation_of c.args.tables.now in
-    let names = g.T.Tables.reference_of c.args.tables.now in
-    let leads = leads_to (linked_by ds) in
-    let f = c.loop-source.invariant.follows ds has in
-    let none = no_bytes c.loop-source.scanner.rest.now (sym c.loop-source-test.ensures) in
-    let end = ap (scan.scan (context_by c.args.options.now names ds) 0 f.now) (sym (whole.last_view p content c.loop-source.scanner.rest.now none)) ∙ f.same in
-    subst (λ r. IfOk c.finish.result (λ rows. rows_view (linked_at ds) rows.items ≡ inline_rows leads (emphasized (whole_text r).tokens))) end
-    (c.finish.ensures.read leads (linked_at ds) f.now f.shows)
+pub returns-then-options : goal.returns-then-options
+returns-then-options g c ds has =
+    let options = c.args.options.now in
+    let tables = c.args.tables.now in
+    let leads = leads_to (linked_by ds.definitions) in
+    let at = linked_at ds.definitions in
+    let kids = spans_from (context_by options (g.T.Tables.reference_of tables) ds) (view_at (g.T.Tables.punctuation_of tables) c.args.content c.args.start.now) in
+    subst (λ k. IfOk c.linked.result (λ rows. rows_view at rows.items ≡ inline_rows leads k))
+    (sym (cond-true options.constructs.gfm_autolink_literal (with_literals [] kids) kids c.if-options.true))
+    (c.linked.ensures leads at kids (c.in_ok-rows.ensures ds has))

@@ -1,9 +1,10 @@
-use Rattle.std.proofs.Common.{◌≡◌, ◌+◌, ◌-◌, [], ◌∷◌, ◌++◌, sym, ap, ◌∙◌, length, subst, reverse, take, drop, set}
+use Rattle.std.proofs.Common.{◌≡◌, ◌+◌, ◌-◌, arith, [], ◌∷◌, ◌++◌, sym, ap, ◌∙◌, length, subst, reverse, take, drop, set}
 use Rattle.std.specs.Prelude.{vec_len}
 use Rattle.std.proofs.lemmas.List.{append-nil, length-append, length-set}
 use Rattle.inline_rows.specs.declared.row.InlineRow.TheVariants.{Exit}
 use Rattle.inline_spans.specs.Container.{IsContainer, AreWithin}
 use Rattle.inline_parser.specs.Shows.{ShowsBy, AreOutside, start_view}
+use Rattle.definition_inline.specs.LabelEnd.{Leads}
 use Rattle.definition_inline.specs.Scan.{makes_link}
 use Rattle.inline_parser.proofs.Sound as sound
 use Rattle.inline_parser.proofs.Formed as forming
@@ -11,12 +12,12 @@ use Rattle.inline_parser.proofs.Changes as changes
 use Rattle.inline_parser.proofs.reading.Reading.form.Goals as goal
 
 pub returns-in_default-clause-read : goal.returns-in_default-clause-read
-returns-in_default-clause-read g c leads at r t e h =
+returns-in_default-clause-read g c leads at r e there h =
     let s = c.args.self.now in
     let none = changes.nothing_there s.labels.items (vec_len s.labels) s.labels.ok.0 c.in_default.ensures.variant.1 in
     let rest : c.pop.new.self.items ≡ [] = sym (append-nil c.pop.new.self.items) ∙ sym c.in_default.ensures.items ∙ none in
     let shown =
-    changes.none_formed leads at s.rows.items s.runs.items s.slots.items s.labels.items c.pop.new.self.items r.open_labels r.now t s.holds_link
+    changes.none_formed leads at s.rows.items s.runs.items s.slots.items s.labels.items c.pop.new.self.items r.open_labels r.now (Leads e) s.holds_link
     none rest h.holds_link h.by in
     record { by = shown.by; holds_link = shown.holds_link_is }
 
@@ -36,18 +37,19 @@ returns-clause-sound g c =
     let size : length c.push.new.self.items ≡ length s.rows.items + 1 =
     ap length pushed ∙ length-append (set c.tell_inner.new.rows.items o.row c.entered.result) (Exit ∷ [])
     ∙ ap (λ n. n + 1) (length-set c.tell_inner.new.rows.items o.row c.entered.result ∙ c.in_ok-tell_inner.ensures.length) in
-    let kept =
-    changes.sound_formed s.rows.items c.push.new.self.items s.runs.items s.slots.items o (reverse c.pop.new.self.items) size c.requires.sound.within
-    (changes.sound_popped s.rows.items s.runs.items s.labels.items c.pop.new.self.items o c.in-Some.ensures.items c.requires.sound.outside) in
+    let out = changes.sound_popped s.rows.items s.runs.items s.slots.items s.labels.items c.pop.new.self.items o c.in-Some.ensures.items c.requires.sound.outside in
+    let kept = changes.sound_formed s.rows.items c.push.new.self.items s.runs.items s.slots.items o (reverse c.pop.new.self.items) (omega (arith, size, out.0)) out in
     record {
       within =
           subst (λ x. AreWithin x c.truncate-2.new.self.items (length c.push.new.self.items)) (sym c.truncate.ensures.items)
           (subst (λ x. AreWithin (take o.runs s.runs.items) x (length c.push.new.self.items)) (sym c.truncate-2.ensures.items) kept.within);
-      outside = subst (λ x. AreOutside (reverse c.pop.new.self.items) (length c.push.new.self.items) (length x)) (sym c.truncate.ensures.items) kept.outside;
+      outside =
+          subst (λ x. AreOutside (reverse c.pop.new.self.items) (length c.push.new.self.items) x c.truncate-2.new.self.items) (sym c.truncate.ensures.items)
+          (subst (AreOutside (reverse c.pop.new.self.items) (length c.push.new.self.items) (take o.runs s.runs.items)) (sym c.truncate-2.ensures.items) kept.outside);
     }
 
 pub returns-clause-read : goal.returns-clause-read
-returns-clause-read g c leads at r t e h =
+returns-clause-read g c leads at r e there h =
     let s = c.args.self.now in
     let o = c.in-Some.label in
     let inner = forming.is_inner leads at s.rows.items s.runs.items s.slots.items o (reverse c.pop.new.self.items) r.open_labels r.now.tokens
@@ -60,6 +62,6 @@ returns-clause-read g c leads at r t e h =
     let pushed : c.push.new.self.items ≡ set c.tell_inner.new.rows.items o.row c.entered.result ++ Exit ∷ [] = c.in_ok-push.ensures.items in
     let shown =
     changes.last_formed leads at s.rows.items c.tell_inner.new.rows.items c.push.new.self.items s.runs.items c.truncate.new.self.items s.slots.items c.truncate-2.new.self.items o (reverse c.pop.new.self.items)
-    r.open_labels r.now c.args.target t c.around_holds_link-self.result c.entered.result c.makes_link.result inner e told pushed c.entered.ensures c.truncate.ensures.items c.truncate-2.ensures.items
+    r.open_labels r.now c.args.target e c.around_holds_link-self.result c.entered.result c.makes_link.result inner there told pushed c.entered.ensures c.truncate.ensures.items c.truncate-2.ensures.items
     c.around_holds_link-self.ensures (c.makes_link.ensures ∙ ap (makes_link (start_view o.start)) h.holds_link) in
     record { by = shown.by; holds_link = shown.holds_link_is }

@@ -4,6 +4,14 @@ use Rattle.inline_parser.specs.Shows.{start_view}
 use Rattle.inline_parser.proofs.Changes as changes
 use Rattle.inline_parser.proofs.reading.Reading.start.Goals as goal
 
+pub returns-clause-sound : goal.returns-clause-sound
+returns-clause-sound g c =
+    let s = c.args.self.now in
+    let kept =
+    changes.sound_started s.rows.items c.push-2.new.self.items _ s.runs.items s.slots.items s.labels.items c.push.new.self.items _ c.in_ok-push-2.ensures.items c.in_ok-push.ensures.items
+    (c.len.ensures ∙ s.rows.ok.0) (c.len-2.ensures ∙ s.runs.ok.0) c.requires.sound.within c.requires.sound.outside in
+    record { within = kept.within; outside = kept.outside }
+
 pub returns-clause-read : goal.returns-clause-read
 returns-clause-read g c leads at r h =
     let s = c.args.self.now in

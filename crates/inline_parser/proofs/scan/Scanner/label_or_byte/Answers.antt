@@ -24,8 +24,8 @@ returns-in-Some-clause-read g c ds final has f =
     let p = g.T.Tables.punctuation_of source.tables.now in
     let rest = c.args.self.now.rest.now in
     let place = c.requires.placed.place in
-    let leads = leads_to (linked_by ds) in
-    let at = linked_at ds in
+    let leads = leads_to (linked_by ds.definitions) in
+    let at = linked_at ds.definitions in
     let s = c.in-Some.start in
     let n = length (start_bytes (start_view s)) in
     on_ok c.start.result c.start.ensures.rest (c.start.ensures.read leads at f.now f.shows)
@@ -46,8 +46,8 @@ returns-else-is_label_end-clause-read g c ds final has f =
     let p = g.T.Tables.punctuation_of source.tables.now in
     let rest = c.args.self.now.rest.now in
     let place = c.requires.placed.place in
-    let leads = leads_to (linked_by ds) in
-    let at = linked_at ds in
+    let leads = leads_to (linked_by ds.definitions) in
+    let at = linked_at ds.definitions in
     let none : scan.label_start_at options.constructs (content_codes rest) ≡ None = sym c.in_default.ensures.read in
     on_ok c.text.result c.text.ensures.rest (c.text.ensures.read leads at f.now f.shows)
     (λ left shows.

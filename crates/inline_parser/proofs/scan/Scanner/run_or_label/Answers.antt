@@ -27,8 +27,8 @@ returns-in-Some-clause-read g c ds final has f =
     let p = g.T.Tables.punctuation_of source.tables.now in
     let rest = c.args.self.now.rest.now in
     let place = c.requires.placed.place in
-    let leads = leads_to (linked_by ds) in
-    let at = linked_at ds in
+    let leads = leads_to (linked_by ds.definitions) in
+    let at = linked_at ds.definitions in
     let run = c.in-Some.run' in
     on_ok c.run.result c.run.ensures.rest (c.run.ensures.read leads at f.now f.shows)
     (λ left shows.

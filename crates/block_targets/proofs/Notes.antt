@@ -1,0 +1,70 @@
+-- The labels of a document's footnote definitions are those of its rows.
+use Rattle.std.proofs.Common.{◌≡◌, ℕ, zero, suc, Bool, true, false, not, eqb, List, [], ◌∷◌, ◌++◌, None, Some, refl, sym, ap, ◌∙◌, append_assoc, inl, inr}
+use Rattle.std.specs.Prelude.{replicate}
+use Rattle.std.specs.List.{fold, list_any}
+use Rattle.std.proofs.lemmas.Bool.{cases_Bool, cond-false, eqb-true, false≢true, true≢false, or_parts}
+use Rattle.std.proofs.lemmas.List.{append-nil}
+use Rattle.std.proofs.lemmas.List.Sums.{fold-append}
+use Rattle.definition_text.specs.Columns.{tab_column}
+use Rattle.definition_text.specs.Content.{is_space, content_codes}
+use Rattle.definition_block.specs.Container.{Quote, Item, Footnote}
+use Rattle.definition_block.specs.Blocks.{Block, Paragraph, Heading, Break, IndentedCode, FencedCode, Html, Table, Definition, Holds, Items, Ending, Blank, Blocks, Nil, Cons}
+use Rattle.definition_block.specs.Definitions.{block_footnotes, footnotes}
+use Rattle.block_rows.specs.Rows.{Exit, block_rows, rows_of}
+use Rattle.block_targets.specs.GfmFootnoteDefinition.{Noted, noted, note_row}
+
+nothing_more : (ended : List (List ℕ)) (containers : _) → noted ended containers ≡ noted (ended ++ []) containers
+nothing_more ended containers = ap (λ x. noted x containers) (sym (append-nil ended))
+
+mutual
+  notes_in : (b : Block) (ended : List (List ℕ)) (containers : _) → fold note_row (noted ended containers) (block_rows b) ≡ noted (ended ++ block_footnotes b) containers
+  notes_in (Paragraph ls) ended containers = nothing_more ended containers
+  notes_in (Heading rank ls) ended containers = nothing_more ended containers
+  notes_in Break ended containers = nothing_more ended containers
+  notes_in (IndentedCode ls) ended containers = nothing_more ended containers
+  notes_in (FencedCode info closed ls) ended containers = nothing_more ended containers
+  notes_in (Html ls) ended containers = nothing_more ended containers
+  notes_in (Table ls) ended containers = nothing_more ended containers
+  notes_in (Definition label destination title) ended containers = nothing_more ended containers
+  notes_in (Holds Quote kids) ended containers =
+      fold-append note_row (noted ended (None ∷ containers)) (rows_of kids) (Exit ∷ [])
+      ∙ ap (λ (n : Noted). note_row n Exit) (notes_of kids ended (None ∷ containers))
+      ∙ ap (λ x. noted (ended ++ x) containers) (sym (append-nil (footnotes kids)))
+  notes_in (Holds (Item item) kids) ended containers =
+      fold-append note_row (noted ended (None ∷ containers)) (rows_of kids) (Exit ∷ [])
+      ∙ ap (λ (n : Noted). note_row n Exit) (notes_of kids ended (None ∷ containers))
+      ∙ ap (λ x. noted (ended ++ x) containers) (sym (append-nil (footnotes kids)))
+  notes_in (Holds (Footnote label) kids) ended containers =
+      fold-append note_row (noted ended (Some label ∷ containers)) (rows_of kids) (Exit ∷ [])
+      ∙ ap (λ (n : Noted). note_row n Exit) (notes_of kids ended (Some label ∷ containers))
+      ∙ ap (λ x. noted x containers) (append_assoc ended (footnotes kids) (label ∷ []))
+  notes_in (Items items) ended containers = notes_of items ended containers
+  notes_in (Ending ending) ended containers = nothing_more ended containers
+  notes_in (Blank ending) ended containers = nothing_more ended containers
+
+  pub notes_of : (bs : Blocks) (ended : List (List ℕ)) (containers : _) → fold note_row (noted ended containers) (rows_of bs) ≡ noted (ended ++ footnotes bs) containers
+  notes_of Nil ended containers = nothing_more ended containers
+  notes_of (Cons b bs) ended containers =
+      fold-append note_row (noted ended containers) (block_rows b) (rows_of bs)
+      ∙ ap (λ (n : Noted). fold note_row n (rows_of bs)) (notes_in b ended containers)
+      ∙ notes_of bs (ended ++ block_footnotes b) containers
+      ∙ ap (λ x. noted x containers) (append_assoc ended (block_footnotes b) (footnotes bs))
+
+-- ---- a label without white space has the codes of its bytes
+
+text_codes : (bs : List ℕ) → list_any is_space bs ≡ false → content_codes bs ≡ bs
+text_codes [] h = refl
+text_codes (b ∷ bs) h =
+    let parts = or_parts (is_space b) (list_any is_space bs) h in
+    elim (cases_Bool (eqb b 13)) [
+      | inl e ↦ absurd (true≢false (sym (ap is_space (eqb-true b 13 e)) ∙ parts.0))
+      | inr other ↦ cond-false (eqb b 13) _ _ other ∙ ap (λ x. b ∷ x) (text_codes bs parts.1)
+    ]
+
+not_true : (a : Bool) → not a ≡ true → a ≡ false
+not_true true e = sym e
+not_true false e = refl
+
+pub bare_codes : (owed : ℕ) (text : List ℕ) → not (list_any is_space (replicate owed tab_column ++ text)) ≡ true → content_codes text ≡ replicate owed tab_column ++ text
+bare_codes zero text h = text_codes text (not_true (list_any is_space text) h)
+bare_codes (suc owed) text h = absurd (false≢true h)

@@ -1,0 +1,99 @@
+//! The labels of a document's footnote definitions (in neither standard).
+ghost use Rattle.std.specs.Prelude.{◌≡◌, ◌≤◌, ◌++◌, ◌∷◌, [], ℕ, List, true, length, IfOk, OnOk};
+ghost use Rattle.std.specs.Option.{option_map};
+ghost use Rattle.definition_text.specs.Content.{content_codes};
+ghost use Rattle.definition_block.specs.Blocks.{Blocks};
+ghost use Rattle.definition_block.specs.Definitions.{footnotes};
+ghost use Rattle.block_rows.specs.Rows.{rows_size, row_size, piece_lines, row_value, rows_of, rows_value};
+ghost use Rattle.block_targets.specs.GfmFootnoteDefinition.{HasEnded, HasNoted, Noted, are_bare_rows, is_bare_row, note_exit, note_row, noted, nothing_noted};
+
+use block_rows::{Piece, Row};
+use inline_labels::LabelTable;
+use std::alloc::{AllocError, Allocator};
+
+/// The footnote definitions of a document, in the order in which they end: one ends after those
+/// that stand in it.
+#[derive(Drop)]
+pub struct Footnotes<'a, A: Allocator + Clone> {
+    /// The place of the first that ends for each label.
+    pub labels: LabelTable<A>,
+    /// Their labels, as they are written.
+    pub names: Vec<&'a str, A>,
+    /// For each container that is open its label, if it is one, the innermost last.
+    containers: Vec<Option<&'a str>, A>,
+}
+
+/// The footnote definitions among the rows of a block tree, whose blocks take their lines from
+/// `pieces`: of equal labels the first to end counts.
+pub fn document_footnotes<'a, A: Allocator + Clone>(
+    alloc: A,
+    rows: &[Row],
+    pieces: &[Piece<'a>],
+) -> Result<Footnotes<'a, A>, AllocError>
+    requires enough { rows_size rows.now ≤ length pieces.now }
+    ensures { (bs : Blocks) → (rows_value rows.now (piece_lines pieces.now)).rows ≡ rows_of bs → are_bare_rows (rows_of bs) ≡ true →
+        IfOk result (λ found. HasNoted found (noted (footnotes bs) [])) }
+{
+    let mut found = Footnotes::new(alloc)?;
+    let mut at = 0;
+    for row in rows {
+        found.row(*row, &pieces[at..])?;
+        at += row.size();
+    }
+    Ok(found)
+}
+
+impl<'a, A: Allocator + Clone> Footnotes<'a, A> {
+    fn new(alloc: A) -> Result<Footnotes<'a, A>, AllocError>
+        ensures { IfOk result (λ found. HasNoted found nothing_noted) }
+    {
+        Ok(Footnotes {
+            labels: LabelTable::new(alloc.clone()?)?,
+            names: Vec::new(alloc.clone()?),
+            containers: Vec::new(alloc),
+        })
+    }
+
+    /// Reads a row. The start of a footnote definition takes its label from the front of these.
+    fn row(&mut self, row: Row, lines: &[Piece<'a>]) -> Result<(), AllocError>
+        requires enough { row_size row ≤ length lines.now }
+        ensures read { (n : Noted) → HasNoted self.old n → is_bare_row (row_value row (piece_lines lines.now)) ≡ true →
+            OnOk result (HasNoted self.new (note_row n (row_value row (piece_lines lines.now)))) }
+    {
+        match row {
+            Row::EnterQuote => self.enter(None),
+            Row::EnterItem { .. } => self.enter(None),
+            Row::EnterFootnote => self.enter(Some(lines[0].text)),
+            Row::Exit => self.exit(),
+            _ => Ok(()),
+        }
+    }
+
+    /// A container starts, with its label if it is a footnote definition.
+    fn enter(&mut self, label: Option<&'a str>) -> Result<(), AllocError>
+        ensures read { (n : Noted) → HasNoted self.old n → OnOk result (HasNoted self.new (noted n.ended (option_map (λ text. content_codes text.now) label.entry ∷ n.containers))) }
+    {
+        self.containers.push(label)?;
+        Ok(())
+    }
+
+    /// The innermost container ends.
+    fn exit(&mut self) -> Result<(), AllocError>
+        ensures read { (n : Noted) → HasNoted self.old n → OnOk result (HasNoted self.new (note_exit n.ended n.containers)) }
+    {
+        match self.containers.pop() {
+            Some(Some(label)) => self.end(label),
+            _ => Ok(()),
+        }
+    }
+
+    /// The footnote definition of a label ends.
+    fn end(&mut self, label: &'a str) -> Result<(), AllocError>
+        ensures containers { self.new.containers ≡ self.old.containers }
+        ensures read { (ended : List (List ℕ)) → HasEnded self.old ended → OnOk result (HasEnded self.new (ended ++ content_codes label.now ∷ [])) }
+    {
+        self.labels.insert(label.as_bytes(), self.names.len())?;
+        self.names.push(label)?;
+        Ok(())
+    }
+}

@@ -1,0 +1,123 @@
+-- Rows in which nothing is linked.
+use Rattle.std.proofs.Common.{◌≡◌, ℕ, zero, suc, Bool, true, false, ◌||◌, eqb, List, [], ◌∷◌, ◌++◌, Option, None, Some, refl, sym, ap, ◌∙◌, map, append_assoc}
+use Rattle.std.specs.List.{flat_map, list_any}
+use Rattle.std.proofs.lemmas.Bool.{cond-false}
+use Rattle.std.proofs.lemmas.List.{append-nil, map-append}
+use Rattle.definition_inline.specs.GfmAutolinkLiteral.{parts_from, with_literals}
+use Rattle.definition_inline.specs.Inline as inline
+use Rattle.definition_inline.specs.Inline.{Target, Linked, Inlines, Data}
+use Rattle.inline_leaves.specs.declared.leaf.LeafPart.TheVariants as part
+use Rattle.inline_rows.specs.InlineRows.{Part, inline_rows}
+use Rattle.inline_rows.specs.View.{data_rows, row_view, rows_view}
+use Rattle.inline_rows.specs.declared.row.InlineRow.{InlineRow}
+use Rattle.inline_rows.specs.declared.row.InlineRow.TheVariants as row
+use Rattle.inline_addresses.specs.Addresses.{has_at_sign, has_link, literal_text, no_bytes, parts_rows, row_depth, row_linked, row_may_link, row_text, run_parts, linked_rows}
+use Rattle.inline_addresses.proofs.Rows.{rows_linked, text_parts}
+use Rattle.inline_addresses.proofs.Walks.{after, data_parts, outside_rows, row_after, row_in_link, text_or}
+
+-- ---- texts without an `@`
+
+-- of two tests that both fail
+neither : (a b : Bool) → (a || b) ≡ false → (a ≡ false) × (b ≡ false)
+neither false b e = (refl, e)
+neither true b e = absurd (let wrong : true ≡ false = e in cc)
+
+abbrev HasNone : List ℕ → Type 0
+HasNone text = list_any (λ b. eqb b 64) text ≡ false
+
+-- two texts without an `@` make one
+none_joined : (xs ys : List ℕ) → HasNone xs → HasNone ys → HasNone (xs ++ ys)
+none_joined [] ys first second = second
+none_joined (x ∷ xs) ys first second =
+    let both = neither (eqb x 64) (list_any (λ b. eqb b 64) xs) first in
+    ap (λ a. a || list_any (λ b. eqb b 64) (xs ++ ys)) both.0 ∙ none_joined xs ys both.1 second
+
+-- text without an `@` has no address
+no_address : (before text : List ℕ) → HasNone text → parts_from 0 before text ≡ map Data (before ++ text)
+no_address before [] none = ap (map Data) (sym (append-nil before))
+no_address before (b ∷ bs) none =
+    let both = neither (eqb b 64) (list_any (λ c. eqb c 64) bs) none in
+    cond-false (eqb b 64) _ _ both.0 ∙ no_address (before ++ b ∷ []) bs both.1 ∙ ap (map Data) (append_assoc before (b ∷ []) bs)
+
+-- neither a literal nor a text with an `@`
+no_link : (literal text : Option (List ℕ)) → has_link literal text ≡ false → (literal ≡ None) × (has_at_sign text ≡ false)
+no_link None text e = (refl, e)
+no_link (Some literal) text e = absurd (let wrong : true ≡ false = e in cc)
+
+module _ (leads : Target → Linked) (at : ℕ → Linked) where
+  -- a run without an `@` is text
+  run_is_text : (n : ℕ) (run : List ℕ) → HasNone run → parts_rows leads (run_parts n run) ≡ data_rows run
+  run_is_text zero run none = ap (parts_rows leads) (no_address [] run none) ∙ text_parts leads run
+  run_is_text (suc n) run none = text_parts leads run
+
+  -- ---- a row
+
+  -- an escape of nothing is text
+  escape_is_text : (bytes : List ℕ) → map Part (map inline.Escape bytes) ≡ text_or leads at (map Part (map inline.Escape bytes)) (no_bytes bytes)
+  escape_is_text [] = refl
+  escape_is_text (b ∷ bs) = refl
+
+  -- a row that stands for text alone is that text
+  row_is_text : (r : InlineRow) → row_view at r ≡ text_or leads at (row_view at r) (row_text r)
+  row_is_text (row.Text text) = refl
+  row_is_text (row.Leaf (part.Escape text)) = escape_is_text text.now
+  row_is_text (row.Leaf (part.Unclosed text)) = data_parts text.now
+  row_is_text (row.Leaf (part.Literal kind text)) = refl
+  row_is_text (row.Leaf part.Spaces) = refl
+  row_is_text (row.Leaf (part.Character text)) = refl
+  row_is_text (row.Leaf (part.Number radix digits)) = refl
+  row_is_text (row.Leaf (part.Code text)) = refl
+  row_is_text (row.Leaf (part.Math text)) = refl
+  row_is_text (row.Leaf (part.Autolink email text)) = refl
+  row_is_text (row.Leaf (part.Html text)) = refl
+  row_is_text (row.Leaf part.EscapedBreak) = refl
+  row_is_text (row.Leaf part.TrailingBreak) = refl
+  row_is_text (row.Leaf (part.LineEnd ending)) = refl
+  row_is_text (row.EnterSpan span) = refl
+  row_is_text (row.EnterLink to) = refl
+  row_is_text (row.EnterImage to) = refl
+  row_is_text (row.Call label) = refl
+  row_is_text row.Exit = refl
+
+  -- a row that is no literal stays as it is, in a link too
+  row_unlinked : (n : ℕ) (r : InlineRow) → literal_text r ≡ None → flat_map (row_linked n) (row_view at r) ≡ row_view at r
+  row_unlinked zero r none = outside_rows leads at (row_view at r)
+  row_unlinked (suc n) r none = row_in_link leads at n r ∙ ap (text_or leads at (row_view at r)) none
+
+  -- a row before others that are as they were
+  first_unlinked : (r : InlineRow) (rs : List InlineRow) (n : ℕ) (run : List ℕ) (text : Option (List ℕ)) → HasNone run
+      → literal_text r ≡ None → row_text r ≡ text → has_at_sign text ≡ false
+      → ((m : ℕ) (longer : List ℕ) → HasNone longer → linked_rows leads m longer (rows_view at rs) ≡ data_rows longer ++ rows_view at rs)
+      → linked_rows leads n run (row_view at r ++ rows_view at rs) ≡ data_rows run ++ (row_view at r ++ rows_view at rs)
+  first_unlinked r rs n run (Some text) none no_literal is no_at others =
+      let later = rows_view at rs in
+      row_after leads at n run r later
+      ∙ ap (after leads at n run (row_view at r) (row_depth n r) later) is
+      ∙ others n (run ++ text) (none_joined run text none no_at)
+      ∙ ap (λ l. l ++ later) (map-append (λ b. Part (Data b)) run text)
+      ∙ append_assoc (data_rows run) (data_rows text) later
+      ∙ ap (λ l. data_rows run ++ (l ++ later)) (sym (row_is_text r ∙ ap (text_or leads at (row_view at r)) is))
+  first_unlinked r rs n run None none no_literal is no_at others =
+      let later = rows_view at rs in
+      let view = row_view at r in
+      row_after leads at n run r later
+      ∙ ap (after leads at n run view (row_depth n r) later) is
+      ∙ ap (λ l. l ++ (flat_map (row_linked n) view ++ linked_rows leads (row_depth n r) [] later)) (run_is_text n run none)
+      ∙ ap (λ l. data_rows run ++ (l ++ linked_rows leads (row_depth n r) [] later)) (row_unlinked n r no_literal)
+      ∙ ap (λ l. data_rows run ++ (view ++ l)) (others (row_depth n r) [] refl)
+
+  -- ---- rows
+
+  -- rows in which nothing is linked stay as they are, after a run without an `@`
+  unlinked : (rs : List InlineRow) (n : ℕ) (run : List ℕ) → HasNone run → list_any row_may_link rs ≡ false
+      → linked_rows leads n run (rows_view at rs) ≡ data_rows run ++ rows_view at rs
+  unlinked [] n run none no_link_in = run_is_text n run none ∙ sym (append-nil (data_rows run))
+  unlinked (r ∷ rs) n run none no_link_in =
+      let both = neither (row_may_link r) (list_any row_may_link rs) no_link_in in
+      let first = no_link (literal_text r) (row_text r) both.0 in
+      first_unlinked r rs n run (row_text r) none first.0 refl first.1 (λ m longer h. unlinked rs m longer h both.1)
+
+  -- such rows stand for what the definition makes of their structure
+  pub nothing_linked : (rs : List InlineRow) (kids : Inlines) → list_any row_may_link rs ≡ false
+      → rows_view at rs ≡ inline_rows leads kids → rows_view at rs ≡ inline_rows leads (with_literals [] kids)
+  nothing_linked rs kids none same = sym (unlinked rs zero [] refl none) ∙ ap (linked_rows leads zero []) same ∙ rows_linked leads kids

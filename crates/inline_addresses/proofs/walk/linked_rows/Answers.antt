@@ -1,0 +1,39 @@
+use Rattle.std.proofs.Common.{◌≡◌, ◌+◌, ◌∙◌, [], ap, arith, drop, sym}
+use Rattle.std.proofs.lemmas.List.{drop_all}
+use Rattle.inline_rows.specs.View.{rows_view}
+use Rattle.inline_addresses.specs.Addresses.{linked_rows, walk_rows}
+use Rattle.inline_addresses.proofs.Rows.{rows_linked}
+use Rattle.inline_addresses.proofs.Walks.{after_row, next_row, rows_left}
+use Rattle.inline_addresses.proofs.walk.linked_rows.Goals as goal
+
+pub step-requires-clause-next : goal.step-requires-clause-next
+step-requires-clause-next g c =
+    let walk = c.loop-row.walk in
+    next_row walk.text.now walk.size c.args.rows.now c.loop-row.row-index _ c.loop-row.invariant.within c.loop-row-test.true c.loop-row.invariant.text
+
+pub loop-row-preserved : goal.loop-row-preserved
+loop-row-preserved g c =
+    let walk = c.loop-row.walk in
+    let rows = c.args.rows.now in
+    let i = c.loop-row.row-index in
+    let next = c.in_ok-step.ensures in
+    record {
+      depth = omega (arith, next.depth, c.loop-row.invariant.depth);
+      within = next.within;
+      text = next.text ∙ after_row walk.text.now walk.size rows i _ c.loop-row-test.true c.loop-row.invariant.text;
+      rows = λ leads at.
+          next.rows leads at (rows_view at (drop (i + 1) rows))
+          ∙ ap (walk_rows leads at walk) (rows_left leads at rows i _ c.loop-row-test.true)
+          ∙ c.loop-row.invariant.rows leads at;
+    }
+
+pub returns : goal.returns
+returns g c leads at kids same =
+    let rows = c.args.rows.now in
+    let i = c.loop-row.row-index in
+    let ended : drop i rows ≡ [] = drop_all i rows (omega (arith, c.loop-row-test.false)) in
+    c.in_ok-end_run.ensures.rows leads at
+    ∙ ap (λ l. walk_rows leads at c.loop-row.walk (rows_view at l)) (sym ended)
+    ∙ c.loop-row.invariant.rows leads at
+    ∙ ap (linked_rows leads 0 []) same
+    ∙ rows_linked leads kids

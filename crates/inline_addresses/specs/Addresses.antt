@@ -1,0 +1,112 @@
+-- Literals among the rows of a content.
+use Rattle.std.specs.Prelude.{◌≡◌, ◌==◌, ◌+◌, ◌≤◌, Bool, false, true, ℕ, zero, suc, List, [], ◌∷◌, ◌++◌, Option, None, Some, length, drop, map, take}
+use Rattle.std.specs.List.{flat_map, list_any}
+use Rattle.definition_inline.specs.GfmAutolinkLiteral.{with_addresses}
+use Rattle.definition_inline.specs.Inline as inline
+use Rattle.definition_inline.specs.Inline.{Target, Linked, Inline, Data}
+use Rattle.inline_rows.specs.InlineRows as rows
+use Rattle.inline_rows.specs.InlineRows.{Part, EnterLink, Leave, part_rows}
+use Rattle.inline_leaves.specs.declared.leaf.LeafPart.{LeafPart}
+use Rattle.inline_leaves.specs.declared.leaf.LeafPart.TheVariants.{Escape, Literal, Unclosed, Spaces}
+use Rattle.inline_rows.specs.View.{rows_view}
+use Rattle.inline_rows.specs.declared.row.InlineRow.{InlineRow}
+use Rattle.inline_rows.specs.declared.row.InlineRow.TheVariants as row
+use Rattle.inline_addresses.specs.declared.walk.Walk.{Walk}
+
+-- ---- rows of the definition
+
+-- the rows of parts
+abbrev pub parts_rows : (Target → Linked) → List Inline → List rows.InlineRow
+parts_rows leads parts = flat_map (part_rows leads) parts
+
+-- how many parts are open after a row, counted from the link on in which it stands; none is where it stands in no link
+abbrev pub depth_after : ℕ → rows.InlineRow → ℕ
+depth_after zero (EnterLink to) = 1
+depth_after zero r = 0
+depth_after (suc n) (Part i) = suc n
+depth_after (suc n) Leave = n
+depth_after (suc n) r = suc (suc n)
+
+-- a run of text: in a link it holds no address
+abbrev pub run_parts : ℕ → List ℕ → List Inline
+run_parts zero run = with_addresses run
+run_parts (suc n) run = map Data run
+
+-- a row that is no text: in a link a literal is text
+abbrev pub row_linked : ℕ → rows.InlineRow → List rows.InlineRow
+row_linked (suc n) (Part (inline.Literal kind text)) = map (λ b. Part (Data b)) text
+row_linked n r = r ∷ []
+
+-- rows with email addresses, and links without literals, where a run of text stands before
+abbrev pub linked_rows : (Target → Linked) → ℕ → List ℕ → List rows.InlineRow → List rows.InlineRow
+linked_rows leads n run [] = parts_rows leads (run_parts n run)
+linked_rows leads n run (Part (Data b) ∷ rs) = linked_rows leads n (run ++ b ∷ []) rs
+linked_rows leads n run (r ∷ rs) = parts_rows leads (run_parts n run) ++ (row_linked n r ++ linked_rows leads (depth_after n r) [] rs)
+
+-- ---- rows of the parser
+
+-- an empty text is text, whatever it is said to be
+abbrev pub no_bytes : List ℕ → Option (List ℕ)
+no_bytes [] = Some []
+no_bytes (b ∷ bs) = None
+
+-- the text that a construct stands for which holds no other, if that is all
+abbrev pub part_text : LeafPart → Option (List ℕ)
+part_text (Unclosed text) = Some text.now
+part_text Spaces = Some []
+part_text (Escape text) = no_bytes text.now
+part_text part = None
+
+-- the text that a row stands for, if that is all
+abbrev pub row_text : InlineRow → Option (List ℕ)
+row_text (row.Text text) = Some text.now
+row_text (row.Leaf part) = part_text part
+row_text r = None
+
+-- the text of a literal, if a row is one
+abbrev pub literal_text : InlineRow → Option (List ℕ)
+literal_text (row.Leaf (Literal kind text)) = Some text.now
+literal_text r = None
+
+-- the bytes of a text, or a line feed for a row that is something else
+abbrev pub text_or_end : Option (List ℕ) → List ℕ
+text_or_end None = 10 ∷ []
+text_or_end (Some text) = text
+
+abbrev pub rows_text : List InlineRow → List ℕ
+rows_text rs = flat_map (λ r. text_or_end (row_text r)) rs
+
+-- an `@` stands in a text, if there is one
+abbrev pub has_at_sign : Option (List ℕ) → Bool
+has_at_sign None = false
+has_at_sign (Some text) = list_any (λ b. b == 64) text
+
+-- there is a literal, or else a text with an `@`
+abbrev pub has_link : Option (List ℕ) → Option (List ℕ) → Bool
+has_link None text = has_at_sign text
+has_link (Some literal) text = true
+
+-- a row is a literal, or text with an `@`
+abbrev pub row_may_link : InlineRow → Bool
+row_may_link r = has_link (literal_text r) (row_text r)
+
+-- how many parts are open after a row that is no text
+abbrev pub row_depth : ℕ → InlineRow → ℕ
+row_depth zero (row.EnterLink to) = 1
+row_depth zero r = 0
+row_depth (suc n) (row.EnterSpan span) = suc (suc n)
+row_depth (suc n) (row.EnterLink to) = suc (suc n)
+row_depth (suc n) (row.EnterImage to) = suc (suc n)
+row_depth (suc n) row.Exit = n
+row_depth (suc n) r = suc n
+
+-- ---- a walk over them
+
+-- what a walk makes of the rows of the definition that are left
+abbrev pub walk_rows : {A : Type 0} → (Target → Linked) → (ℕ → Linked) → Walk A → List rows.InlineRow → List rows.InlineRow
+walk_rows leads at walk rest = rows_view at walk.rows.items ++ linked_rows leads walk.depth (take walk.size walk.text.now) rest
+
+-- a text comes next after the first bytes of another, so many
+pub record IsNext (text : List ℕ) (size : ℕ) (next : List ℕ) : Type 0 where
+  pub within : size + length next ≤ length text
+  pub same : take (length next) (drop size text) ≡ next

@@ -1,0 +1,45 @@
+//! Rows in which nothing is linked: no `@` stands in their text, and no literal is among them.
+ghost use Rattle.std.specs.Prelude.{◌≡◌, [], ℕ, false};
+ghost use Rattle.std.specs.Option.{option_map};
+ghost use Rattle.definition_inline.specs.GfmAutolinkLiteral.{with_literals};
+ghost use Rattle.definition_inline.specs.Inline.{Target, Linked, Inlines};
+ghost use Rattle.inline_rows.specs.InlineRows.{inline_rows};
+ghost use Rattle.inline_rows.specs.View.{rows_view};
+ghost use Rattle.inline_addresses.specs.Addresses.{has_at_sign, row_may_link};
+
+use crate::walk::{literal_of, text_of};
+use inline_rows::InlineRow;
+
+/// Whether an `@` stands in the text of rows, or a literal is among them: only then an address may
+/// be found in them, or a literal made text (GFM 6.9).
+pub fn may_link(rows: &[InlineRow<'_>]) -> bool
+    ensures { (leads : Target → Linked) (at : ℕ → Linked) (kids : Inlines) → result ≡ false → rows_view at rows.now ≡ inline_rows leads kids →
+        rows_view at rows.now ≡ inline_rows leads (with_literals [] kids) }
+{
+    for row in rows {
+        if row_may_link(*row) {
+            return true;
+        }
+    }
+    false
+}
+
+/// Whether a row is a literal, or text with an `@`.
+fn row_may_link(row: InlineRow<'_>) -> bool
+    ensures { result ≡ row_may_link row.entry }
+{
+    match literal_of(row) {
+        Some(_) => true,
+        None => has_at_sign(text_of(row)),
+    }
+}
+
+/// Whether an `@` stands in a text, if there is one.
+fn has_at_sign(text: Option<&str>) -> bool
+    ensures { result ≡ has_at_sign (option_map (λ text. text.now) text.entry) }
+{
+    match text {
+        Some(text) => text.as_bytes().contains(&b'@'),
+        None => false,
+    }
+}

@@ -1,0 +1,239 @@
+//! Rows from left to right: the text of rows that stand side by side is one run, in which email
+//! addresses are looked for where it stands in no link (GFM 6.9).
+ghost use Rattle.std.specs.Prelude.{◌≡◌, ◌+◌, ◌<◌, ◌≤◌, ◌++◌, ◌∷◌, [], ℕ, List, IfOk, OnOk, drop, length, map, slice_index, string_bytes, take};
+ghost use Rattle.std.specs.List.{flat_map};
+ghost use Rattle.std.specs.Option.{option_map};
+ghost use Rattle.std.specs.Str.{IsCharBoundary};
+ghost use Rattle.definition_inline.specs.GfmAutolinkLiteral.{with_addresses, with_literals};
+ghost use Rattle.definition_inline.specs.Inline.{Target, Linked, Inlines};
+ghost use Rattle.inline_rows.specs.InlineRows as seen;
+ghost use Rattle.inline_rows.specs.View.{row_view, rows_view};
+ghost use Rattle.inline_addresses.specs.Addresses.{literal_text, part_text, parts_rows, row_depth, row_linked};
+ghost use Rattle.inline_addresses.specs.Addresses.{row_text, rows_text, run_parts, text_or_end, walk_rows, IsNext};
+
+use inline_leaves::LeafPart;
+use inline_leaves::cut::{text_before, text_between};
+use inline_literals::first_address;
+use inline_rows::InlineRow;
+use std::alloc::{AllocError, Allocator};
+
+/// Where a walk over the rows of a content stands.
+#[derive(Drop)]
+pub struct Walk<'a, A: Allocator> {
+    /// What is left of the rows' text, from the run on that stands before the next row.
+    text: &'a str,
+    /// How many bytes this run has so far.
+    size: usize,
+    /// How many parts are open, counted from the link on in which the next row stands; none is where
+    /// it stands in no link.
+    depth: usize,
+    /// The rows so far.
+    rows: Vec<InlineRow<'a>, A>,
+}
+
+/// Writes the texts of rows, and a line feed for each row that is something else.
+pub fn push_texts<A: Allocator>(
+    text: &mut String<A>,
+    rows: &[InlineRow<'_>],
+) -> Result<(), AllocError>
+    ensures { OnOk result (string_bytes text.new ≡ string_bytes text.old ++ rows_text rows.now) }
+{
+    for row in rows {
+        push_text(text, *row)?;
+    }
+    Ok(())
+}
+
+/// Writes the text of a row, or a line feed.
+fn push_text<A: Allocator>(text: &mut String<A>, row: InlineRow<'_>) -> Result<(), AllocError>
+    ensures { OnOk result (string_bytes text.new ≡ string_bytes text.old ++ text_or_end (row_text row.entry)) }
+{
+    text.push_str(text_of(row).unwrap_or("\n"))?;
+    Ok(())
+}
+
+/// The text that a row stands for, if that is all.
+pub(crate) fn text_of<'a>(row: InlineRow<'a>) -> Option<&'a str>
+    ensures { option_map (λ text. text.now) result ≡ row_text row.entry }
+{
+    match row {
+        InlineRow::Text(text) => Some(text),
+        InlineRow::Leaf(part) => text_of_part(part),
+        InlineRow::EnterSpan(_)
+        | InlineRow::EnterLink(_)
+        | InlineRow::EnterImage(_)
+        | InlineRow::Call(_)
+        | InlineRow::Exit => None,
+    }
+}
+
+/// The text that a construct stands for which holds no other, if that is all.
+fn text_of_part<'a>(part: LeafPart<'a>) -> Option<&'a str>
+    ensures { option_map (λ text. text.now) result ≡ part_text part.entry }
+{
+    match part {
+        LeafPart::Unclosed(text) => Some(text),
+        LeafPart::Spaces => Some(""),
+        LeafPart::Escape(byte) if byte.is_empty() => Some(""),
+        _ => None,
+    }
+}
+
+/// The rows of a content with the email addresses in its text, and with the literals in the text of
+/// links as text, where these are the texts of its rows (GFM 6.9).
+pub fn linked_rows<'a, A: Allocator>(
+    alloc: A,
+    text: &'a str,
+    rows: &[InlineRow<'a>],
+) -> Result<Vec<InlineRow<'a>, A>, AllocError>
+    requires { text.now ≡ rows_text rows.now }
+    ensures { (leads : Target → Linked) (at : ℕ → Linked) (kids : Inlines) → rows_view at rows.now ≡ seen.inline_rows leads kids →
+        IfOk result (λ linked. rows_view at linked.items ≡ seen.inline_rows leads (with_literals [] kids)) }
+{
+    let mut walk = Walk {
+        text,
+        size: 0,
+        depth: 0,
+        rows: Vec::new(alloc),
+    };
+    for row in rows {
+        walk.step(*row)?;
+    }
+    walk.end_run()?;
+    Ok(walk.rows)
+}
+
+impl<'a, A: Allocator> Walk<'a, A> {
+    /// The next row, whose text comes after the run.
+    fn step(&mut self, row: InlineRow<'a>) -> Result<(), AllocError>
+        requires next { IsNext self.old.text.now self.old.size (text_or_end (row_text row)) }
+        requires depth { self.old.depth < 18446744073709551615 }
+        ensures depth { OnOk result (self.new.depth ≤ self.old.depth + 1) }
+        ensures within { OnOk result (self.new.size ≤ length self.new.text.now) }
+        ensures text { OnOk result (drop self.new.size self.new.text.now
+            ≡ drop (length (text_or_end (row_text row.entry))) (drop self.old.size self.old.text.now)) }
+        ensures rows { (leads : Target → Linked) (at : ℕ → Linked) (rest : List seen.InlineRow) →
+            OnOk result (walk_rows leads at self.new rest ≡ walk_rows leads at self.old (row_view at row.entry ++ rest)) }
+    {
+        match text_of(row) {
+            Some(text) => {
+                self.size += text.len();
+                Ok(())
+            }
+            None => self.other(row),
+        }
+    }
+
+    /// A row that is no text.
+    fn other(&mut self, row: InlineRow<'a>) -> Result<(), AllocError>
+        requires next { IsNext self.old.text.now self.old.size (10 ∷ []) }
+        requires none { row_text row ≡ None }
+        requires depth { self.old.depth < 18446744073709551615 }
+        ensures depth { OnOk result (self.new.depth ≤ self.old.depth + 1) }
+        ensures within { OnOk result (self.new.size ≤ length self.new.text.now) }
+        ensures text { OnOk result (drop self.new.size self.new.text.now ≡ drop 1 (drop self.old.size self.old.text.now)) }
+        ensures rows { (leads : Target → Linked) (at : ℕ → Linked) (rest : List seen.InlineRow) →
+            OnOk result (walk_rows leads at self.new rest ≡ walk_rows leads at self.old (row_view at row.entry ++ rest)) }
+    {
+        self.end_run()?;
+        self.rows.push(linked_row(self.depth, row))?;
+        self.text = text_after(self.text, self.size);
+        self.size = 0;
+        self.depth = depth_after(self.depth, row);
+        Ok(())
+    }
+
+    /// Writes the run of text: with its email addresses, where it stands in no link.
+    fn end_run(&mut self) -> Result<(), AllocError>
+        requires { IsCharBoundary self.old.text.now self.old.size }
+        ensures text { self.new.text.now ≡ self.old.text.now }
+        ensures size { self.new.size ≡ self.old.size }
+        ensures depth { self.new.depth ≡ self.old.depth }
+        ensures rows { (leads : Target → Linked) (at : ℕ → Linked) →
+            OnOk result (rows_view at self.new.rows.items
+            ≡ rows_view at self.old.rows.items ++ parts_rows leads (run_parts self.old.depth (take self.old.size self.old.text.now))) }
+    {
+        let run = text_before(self.text, self.size);
+        if self.depth == 0 {
+            push_addresses(&mut self.rows, run)
+        } else {
+            self.rows.push(InlineRow::Text(run))?;
+            Ok(())
+        }
+    }
+}
+
+/// Writes a run of text with the email addresses in it (GFM 6.9).
+fn push_addresses<'a, A: Allocator>(
+    rows: &mut Vec<InlineRow<'a>, A>,
+    run: &'a str,
+) -> Result<(), AllocError>
+    ensures { (leads : Target → Linked) (at : ℕ → Linked) →
+        OnOk result (rows_view at rows.new.items ≡ rows_view at rows.old.items ++ parts_rows leads (with_addresses run.now)) }
+{
+    let mut rest = run;
+    while let Some(found) = first_address(rest.as_bytes()) {
+        rows.push(InlineRow::Text(text_before(rest, found.start)))?;
+        rows.push(InlineRow::Leaf(LeafPart::Literal {
+            kind: found.kind,
+            text: text_between(rest, found.start, found.end),
+        }))?;
+        rest = rest_from(rest, found.end);
+    }
+    rows.push(InlineRow::Text(rest))?;
+    Ok(())
+}
+
+/// The text after an ASCII byte.
+fn text_after(text: &str, at: usize) -> &str
+    requires within { at < length text.now }
+    requires ascii { slice_index text.now at < 128 }
+    ensures { result.now ≡ drop (at + 1) text.now }
+{
+    &text[at + 1..]
+}
+
+/// The text from a place on that isn't inside a character.
+fn rest_from(text: &str, at: usize) -> &str
+    requires { IsCharBoundary text.now at }
+    ensures { result.now ≡ drop at text.now }
+{
+    &text[at..]
+}
+
+/// A row that is no text: in a link a literal is text (CommonMark 6.3).
+fn linked_row<'a>(depth: usize, row: InlineRow<'a>) -> InlineRow<'a>
+    ensures { (at : ℕ → Linked) → row_view at result ≡ flat_map (row_linked depth) (row_view at row.entry) }
+{
+    if depth == 0 {
+        return row;
+    }
+    match literal_of(row) {
+        Some(text) => InlineRow::Text(text),
+        None => row,
+    }
+}
+
+/// The text of a literal, if a row is one (GFM 6.9).
+pub(crate) fn literal_of<'a>(row: InlineRow<'a>) -> Option<&'a str>
+    ensures { option_map (λ text. text.now) result ≡ literal_text row.entry }
+{
+    match row {
+        InlineRow::Leaf(LeafPart::Literal { text, .. }) => Some(text),
+        _ => None,
+    }
+}
+
+/// How many parts are open after a row that is no text, counted from the link on in which it stands.
+fn depth_after(depth: usize, row: InlineRow<'_>) -> usize
+    requires { depth < 18446744073709551615 }
+    ensures depth { result ≡ row_depth depth row.entry }
+    ensures within { result ≤ depth + 1 }
+{
+    match row {
+        InlineRow::EnterLink(_) => depth + 1,
+        InlineRow::EnterSpan(_) | InlineRow::EnterImage(_) if depth > 0 => depth + 1,
+        InlineRow::Exit if depth > 0 => depth - 1,
+        _ => depth,
+    }
+}

@@ -1,0 +1,29 @@
+//! Email addresses in a content, and links without literals, once its spans are paired (GFM 6.9).
+ghost use Rattle.std.specs.Prelude.{◌≡◌, [], ℕ, IfOk};
+ghost use Rattle.definition_inline.specs.GfmAutolinkLiteral.{with_literals};
+ghost use Rattle.definition_inline.specs.Inline.{Target, Linked, Inlines};
+ghost use Rattle.inline_rows.specs.InlineRows as seen;
+ghost use Rattle.inline_rows.specs.View.{rows_view};
+
+use crate::room::Room;
+use inline_addresses::{linked_rows, may_link, push_texts};
+use inline_rows::InlineRow;
+use std::alloc::{AllocError, Allocator};
+
+/// These rows, in which addresses are text and links may hold literals, with the addresses, and
+/// without the literals in links (GFM 6.9).
+pub(crate) fn linked<'a, A: Allocator + Clone>(
+    room: &'a mut Room<A>,
+    rows: Vec<InlineRow<'a>, A>,
+) -> Result<Vec<InlineRow<'a>, A>, AllocError>
+    ensures { (leads : Target → Linked) (at : ℕ → Linked) (kids : Inlines) → rows_view at rows.entry.items ≡ seen.inline_rows leads kids →
+        IfOk result (λ linked. rows_view at linked.items ≡ seen.inline_rows leads (with_literals [] kids)) }
+{
+    if may_link(&rows) {
+        room.text.clear();
+        push_texts(&mut room.text, &rows)?;
+        linked_rows(room.alloc.clone()?, room.text.as_str(), &rows)
+    } else {
+        Ok(rows)
+    }
+}
