@@ -1,5 +1,9 @@
+pub mod SameLayout
+pub mod SamePrint
+pub mod SameCalls
 pub mod SameText
 pub mod SameTable
 pub mod SameFootnotes
 pub mod SameBlocks
 pub mod SamePage
+pub mod WithoutCalls

@@ -1,5 +1,5 @@
 -- Blocks printed as pieces are the blocks printed as bytes.
-use Rattle.std.proofs.Common.{◌≡◌, ℕ, ◌+◌, Bool, true, false, cond, ◌||◌, ◌&&◌, not, List, [], ◌∷◌, ◌++◌, Option, None, Some, refl, sym, ap, ◌∙◌, append_assoc, codes, map, eqb, drop}
+use Rattle.std.proofs.Common.{◌≡◌, ℕ, Bool, true, false, cond, ◌&&◌, not, List, [], ◌∷◌, ◌++◌, Option, None, Some, refl, sym, ap, ◌∙◌, append_assoc, codes, map, eqb, drop}
 use Rattle.std.specs.Fmt.{decimal}
 use Rattle.std.specs.List.{fold, flat_map}
 use Rattle.std.proofs.lemmas.List.{append-nil}
@@ -12,35 +12,35 @@ use Rattle.markdown_options.specs.declared.configuration.CompileOptions.{Compile
 use Rattle.markdown_options.specs.declared.configuration.Options.{Options}
 use Rattle.definition_text.specs.BlockLines.{BlockLine, own_lines}
 use Rattle.definition_text.specs.Columns.{code_byte, bytes_of}
-use Rattle.definition_text.specs.Encode.{encode, plain}
+use Rattle.definition_text.specs.Encode.{encode}
 use Rattle.definition_text.specs.Lines.{ending_text}
 use Rattle.definition_text.specs.InlineCode.{InlineCode, codes_of}
 use Rattle.definition_inline.specs.Inline.{Inlines}
 use Rattle.definition_inline.specs.GfmTaskListItem.{check_at, check_size}
 use Rattle.definition_inline.specs.Scan.{inlines_from, unindented}
-use Rattle.definition_inline.specs.Definition.{Definition}
-use Rattle.definition_block.specs.Container.{Container, Quote, Item, Footnote}
+use Rattle.definition_block.specs.Container.{Quote, Item, Footnote}
 use Rattle.definition_block.specs.declared.container.Item.{Item as ItemOf}
 use Rattle.definition_block.specs.Blocks as tree
 use Rattle.definition_block.specs.Lists.{is_loose}
-use Rattle.definition_block.specs.Tree.{is_ending}
-use Rattle.definition_page.specs.GfmTagfilter.{filtered}
-use Rattle.definition_page.specs.Targets.{is_label_of, linked_by}
+use Rattle.definition_page.specs.Targets.{Targets, linked_by}
 use Rattle.definition_page.specs.TextTables.{TextTables}
-use Rattle.definition_page.specs.Tags.{Said, Words, AsItIs, Number, said_bytes, Attribute, Tag, tag, bare_tag, attribute, start_tag, end_tag, void_tag, attribute_bytes}
-use Rattle.definition_page.specs.Pieces.{Piece, Open, Close, Void, Says, Eol, Fresh, print}
+use Rattle.definition_page.specs.Tags.{Words, Number, said_bytes, Attribute, Tag, tag, bare_tag, attribute, start_tag, end_tag, void_tag, attribute_bytes}
+use Rattle.definition_page.specs.Pieces.{Piece, Close, Void, Says, Eol, Fresh, NoteEnd}
+use Rattle.definition_page.specs.Layout.{Laid, laid, lay}
 use Rattle.definition_page.specs.InlinePieces.{Meaning, element, inline_pieces}
-use Rattle.definition_page.specs.InlinePieces as inline
 use Rattle.definition_page.specs.Page as page
-use Rattle.definition_page.specs.Read.{Reading, context_of, Standing, on_page, in_container, in_item, next_standing, text_content, read_text, checked_paragraph, read_paragraph, read_blocks, read_table, info_text, code_lines, without_ending, after_code, list_number}
-use Rattle.definition_page.specs.BlockPieces.{Place, says, checkable_attributes, done_attributes, check_tag, check_pieces, code_line, html_line, heading_name, info_attributes, start_attributes, list_tag, is_silent, last_shown, ends_plainly, fresh_unless, fenced_pieces, block_pieces, children_pieces}
+use Rattle.definition_page.specs.Read.{Reading, reading, context_of, Standing, on_page, in_container, in_item, next_standing, text_content, read_text, checked_paragraph, read_paragraph, read_blocks, read_table, info_text, code_lines, without_ending, after_code, list_number}
+use Rattle.definition_page.specs.BlockPieces.{Place, says, checkable_attributes, done_attributes, check_tag, code_line, html_line, heading_name, info_attributes, list_tag, is_silent, last_shown, ends_plainly, fresh_unless, fenced_pieces, block_pieces, children_pieces}
 use Rattle.html_bytes.specs.RawHtml.{raw_html}
-use Rattle.html_bytes.specs.Document.{Document, document, meaning_of, text_of, checked_text, paragraph_of, info_of}
-use Rattle.html_bytes.specs.InlineHtml.{inline_html, check_html}
+use Rattle.html_bytes.specs.Document.{Document, document, meaning_of, text_of, checked_text, info_of}
+use Rattle.html_bytes.specs.InlineHtml as bytes_inline
+use Rattle.html_bytes.specs.InlineHtml.{check_html}
+use Rattle.html_bytes.specs.Layout as bytes_layout
 use Rattle.html_bytes.specs.Pieces as bytes
 use Rattle.html_bytes.specs.Html as old
 use Rattle.html_bytes.proofs.SameTable.{table_same}
-use Rattle.html_bytes.proofs.SameText.{says_printed, element_printed, one_attribute, piece_meaning, raw_said, text_printed}
+use Rattle.html_bytes.proofs.SameLayout.{Same, Adds, add, fresh, add_nil, add_add, none_same, joined, after_fresh, after_added, element_same, element_with, says_added}
+use Rattle.html_bytes.proofs.SameText.{one_attribute, piece_meaning, raw_said, text_same}
 
 -- ---- lines
 
@@ -75,12 +75,12 @@ html_said options (l ∷ ls) =
     ∙ ap (λ x. x ++ flat_map said_bytes (flat_map (html_line options) ls)) (html_line_said options l)
     ∙ ap (λ x. old.html_line options l ++ x) (html_said options ls)
 
-code_printed : (default : List ℕ) (ls : List BlockLine) (out : List ℕ) → fold (print default) out (says (flat_map code_line ls)) ≡ out ++ old.code_of ls
-code_printed default ls out = says_printed default out (flat_map code_line ls) ∙ ap (λ x. out ++ x) (code_said ls)
+code_added : (options : CompileOptions) (default : List ℕ) (ls : List BlockLine) → Adds options default (says (flat_map code_line ls)) (old.code_of ls)
+code_added options default ls l = says_added options default (flat_map code_line ls) l ∙ ap (add l) (code_said ls)
 
-html_printed : (default : List ℕ) (options : CompileOptions) (ls : List BlockLine) (out : List ℕ)
-    → fold (print default) out (says (flat_map (html_line options) ls)) ≡ out ++ old.html_of options ls
-html_printed default options ls out = says_printed default out (flat_map (html_line options) ls) ∙ ap (λ x. out ++ x) (html_said options ls)
+html_added : (options : CompileOptions) (default : List ℕ) (ls : List BlockLine)
+    → Adds options default (says (flat_map (html_line options) ls)) (old.html_of options ls)
+html_added options default ls l = says_added options default (flat_map (html_line options) ls) l ∙ ap (add l) (html_said options ls)
 
 -- ---- tags
 
@@ -93,118 +93,104 @@ start_said number = one_attribute (codes " start=\"") (decimal number) (codes "\
 
 -- ---- elements
 
--- an element around pieces of any kind
-element_is : (default : List ℕ) (t : Tag) (inside : List Piece) (out : List ℕ)
-    → fold (print default) out (element t inside) ≡ fold (print default) (out ++ start_tag t) inside ++ end_tag t.name
-element_is default t inside out = fold-append (print default) (out ++ start_tag t) inside (Close t.name ∷ [])
+module _ (options : CompileOptions) (default : List ℕ) where
+  -- `pre` and `code` around lines
+  code_element : (t : Tag) (start : List ℕ) (inside : List Piece) (shown : List bytes.Piece) → t.name ≡ codes "code" → start_tag t ≡ start
+      → Same options default inside shown
+      → Same options default (element (bare_tag (codes "pre")) (element t inside))
+      (bytes.Bytes (codes "<pre>" ++ start) ∷ (shown ++ bytes.Bytes (codes "</code></pre>") ∷ []))
+  code_element t start inside shown name is same l =
+      let pre = add l (codes "<pre>") in
+      let after = fold (lay options default) (add pre (start_tag t)) inside in
+      fold-append (lay options default) pre (element t inside) (Close (codes "pre") ∷ [])
+      ∙ ap (λ x. add x (codes "</pre>")) (fold-append (lay options default) (add pre (start_tag t)) inside (Close t.name ∷ []))
+      ∙ add_add after (end_tag t.name) (codes "</pre>")
+      ∙ ap (λ n. add after (end_tag n ++ codes "</pre>")) name
+      ∙ ap (λ x. add (fold (lay options default) x inside) (codes "</code></pre>"))
+      (add_add l (codes "<pre>") (start_tag t) ∙ ap (λ x. add l (codes "<pre>" ++ x)) is)
+      ∙ ap (λ x. add x (codes "</code></pre>")) (same (add l (codes "<pre>" ++ start)))
+      ∙ sym (fold-append (bytes_layout.lay options default) (add l (codes "<pre>" ++ start)) shown (bytes.Bytes (codes "</code></pre>") ∷ []))
 
--- one around siblings and what is printed after them
-element_with : (default : List ℕ) (t : Tag) (kids last : List Piece) (bytes_kids : List bytes.Piece)
-    → ((out : List ℕ) → fold (print default) out kids ≡ fold (bytes.print default) out bytes_kids) → (out : List ℕ)
-    → fold (print default) out (element t (kids ++ last))
-    ≡ fold (print default) (fold (bytes.print default) (out ++ start_tag t) bytes_kids) last ++ end_tag t.name
-element_with default t kids last bytes_kids same out =
-    element_is default t (kids ++ last) out
-    ∙ ap (λ x. x ++ end_tag t.name)
-    (fold-append (print default) (out ++ start_tag t) kids last ∙ ap (λ x. fold (print default) x last) (same (out ++ start_tag t)))
+  fresh_last : Same options default (Fresh ∷ []) (bytes.Fresh ∷ [])
+  fresh_last l = refl
 
--- `pre` and `code` around lines
-code_element : (default : List ℕ) (t : Tag) (inside : List Piece) (start : List ℕ) → t.name ≡ codes "code" → start_tag t ≡ start → (out : List ℕ)
-    → fold (print default) out (element (bare_tag (codes "pre")) (element t inside))
-    ≡ fold (print default) (out ++ (codes "<pre>" ++ start)) inside ++ codes "</code></pre>"
-code_element default t inside start name is out =
-    let pre = out ++ codes "<pre>" in
-    let shown = fold (print default) (pre ++ start_tag t) inside in
-    element_is default (bare_tag (codes "pre")) (element t inside) out
-    ∙ ap (λ x. x ++ codes "</pre>") (element_is default t inside pre)
-    ∙ append_assoc shown (end_tag t.name) (codes "</pre>")
-    ∙ ap (λ n. shown ++ (end_tag n ++ codes "</pre>")) name
-    ∙ ap (λ x. fold (print default) x inside ++ codes "</code></pre>") (append_assoc out (codes "<pre>") (start_tag t) ∙ ap (λ x. out ++ (codes "<pre>" ++ x)) is)
+  -- ---- siblings
 
--- ---- siblings
+  fresh_same : (said : Bool) → Same options default (fresh_unless said) (old.fresh_unless said)
+  fresh_same true = none_same options default
+  fresh_same false = fresh_last
 
--- a block and the siblings after it
-siblings : (default : List ℕ) (m : Meaning) (place : Place) (before : Option page.Block) (b : page.Block) (others : page.Blocks) (one more : List bytes.Piece)
-    → ((out : List ℕ) → fold (print default) out (block_pieces m place before b) ≡ fold (bytes.print default) out one)
-    → ((out : List ℕ) → fold (print default) out (children_pieces m place (Some b) others) ≡ fold (bytes.print default) out more)
-    → (out : List ℕ) → fold (print default) out (children_pieces m place before (page.Cons b others)) ≡ fold (bytes.print default) out (one ++ more)
-siblings default m place before b others one more block rest out =
-    fold-append (print default) out (block_pieces m place before b) (children_pieces m place (Some b) others)
-    ∙ ap (λ x. fold (print default) x (children_pieces m place (Some b) others)) (block out)
-    ∙ rest (fold (bytes.print default) out one)
-    ∙ sym (fold-append (bytes.print default) out one more)
+  ending_same : (ending : LineEnding) (silent : Bool)
+      → Same options default (cond silent [] (Says (Words (ending_bytes ending)) ∷ [])) (cond silent [] (bytes.Bytes (ending_bytes ending) ∷ []))
+  ending_same ending true l = refl
+  ending_same ending false l = ap (add l) (ending_said ending)
 
-fresh_same : (default : List ℕ) (said : Bool) (out : List ℕ) → fold (print default) out (fresh_unless said) ≡ fold (bytes.print default) out (old.fresh_unless said)
-fresh_same default true out = refl
-fresh_same default false out = refl
+  -- an ending that isn't there
+  no_ending : (silent : Bool) (more : List bytes.Piece) (l : Laid)
+      → fold (bytes_layout.lay options default) l more ≡ fold (bytes_layout.lay options default) l (cond silent [] (bytes.Bytes [] ∷ []) ++ more)
+  no_ending true more l = refl
+  no_ending false more l = ap (λ x. fold (bytes_layout.lay options default) x more) (sym (add_nil l))
 
-ending_same : (default : List ℕ) (ending : LineEnding) (silent : Bool) (out : List ℕ)
-    → fold (print default) out (cond silent [] (Says (Words (ending_bytes ending)) ∷ []))
-    ≡ fold (bytes.print default) out (cond silent [] (bytes.Bytes (ending_bytes ending) ∷ []))
-ending_same default ending true out = refl
-ending_same default ending false out = ap (λ x. out ++ x) (ending_said ending)
+  -- ---- code
 
--- an ending that isn't there
-no_ending : (default : List ℕ) (silent : Bool) (more : List bytes.Piece) (out : List ℕ)
-    → fold (bytes.print default) out more ≡ fold (bytes.print default) out (cond silent [] (bytes.Bytes [] ∷ []) ++ more)
-no_ending default true more out = refl
-no_ending default false more out = ap (λ x. fold (bytes.print default) x more) (sym (append-nil out))
+  -- lines with all of their endings, and without the last
+  lines_same : (ls : List BlockLine) → Same options default (says (flat_map code_line ls) ++ Fresh ∷ []) (bytes.Bytes (old.code_of ls) ∷ bytes.Fresh ∷ [])
+  lines_same ls =
+      after_added options default (says (flat_map code_line ls)) (Fresh ∷ []) (old.code_of ls) (bytes.Fresh ∷ []) (code_added options default ls) fresh_last
 
--- ---- code
+  whole_same : (ls : List BlockLine) → Same options default (says (flat_map code_line ls) ++ [] ++ Fresh ∷ []) (bytes.Bytes (old.code_of ls) ∷ bytes.Fresh ∷ [])
+  whole_same ls l = ap (λ x. fold (lay options default) l (x ++ Fresh ∷ [])) (append-nil (says (flat_map code_line ls))) ∙ lines_same ls l
 
--- lines with all of their endings, and without the last
-whole_same : (default : List ℕ) (ls : List BlockLine) (out : List ℕ)
-    → fold (print default) out (says (flat_map code_line ls) ++ [] ++ Fresh ∷ []) ≡ bytes.print default (out ++ old.code_of ls) bytes.Fresh
-whole_same default ls out =
-    ap (λ x. fold (print default) out (x ++ Fresh ∷ [])) (append-nil (says (flat_map code_line ls)))
-    ∙ fold-append (print default) out (says (flat_map code_line ls)) (Fresh ∷ [])
-    ∙ ap (λ x. bytes.print default x bytes.Fresh) (code_printed default ls out)
+  cut_same : (ls : List BlockLine)
+      → Same options default (says (flat_map code_line ls) ++ Eol ∷ [] ++ Fresh ∷ []) (bytes.Bytes (old.code_of ls) ∷ bytes.Eol ∷ bytes.Fresh ∷ [])
+  cut_same ls =
+      joined options default (says (flat_map code_line ls) ++ Eol ∷ []) (Fresh ∷ []) (bytes.Bytes (old.code_of ls) ∷ bytes.Eol ∷ []) (bytes.Fresh ∷ [])
+      (after_added options default (says (flat_map code_line ls)) (Eol ∷ []) (old.code_of ls) (bytes.Eol ∷ []) (code_added options default ls)
+      (λ l. refl)) fresh_last
 
-cut_same : (default : List ℕ) (ls : List BlockLine) (out : List ℕ)
-    → fold (print default) out (says (flat_map code_line ls) ++ Eol ∷ [] ++ Fresh ∷ []) ≡ bytes.print default (out ++ old.code_of ls ++ default) bytes.Fresh
-cut_same default ls out =
-    fold-append (print default) out (says (flat_map code_line ls) ++ Eol ∷ []) (Fresh ∷ [])
-    ∙ ap (λ x. bytes.print default x bytes.Fresh)
-    (fold-append (print default) out (says (flat_map code_line ls)) (Eol ∷ []) ∙ ap (λ x. x ++ default) (code_printed default ls out))
+  fenced_same : (top tight is_closed : Bool) (ls : List BlockLine)
+      → Same options default (fenced_pieces (record { top = top; tight = tight }) is_closed (code_lines top is_closed ls)) (old.fenced_content top is_closed ls)
+  fenced_same true tight is_closed [] = none_same options default
+  fenced_same false tight true [] = none_same options default
+  fenced_same false tight false [] = none_same options default
+  fenced_same true tight is_closed (l ∷ ls) = whole_same (l ∷ ls)
+  fenced_same false tight true (l ∷ ls) = whole_same (l ∷ ls)
+  fenced_same false tight false (l ∷ []) = cut_same (own_lines (l ∷ []))
+  fenced_same false tight false (l ∷ next ∷ ls) = cut_same (own_lines (l ∷ next ∷ ls))
 
-fenced_same : (default : List ℕ) (top tight is_closed : Bool) (ls : List BlockLine) (out : List ℕ)
-    → fold (print default) out (fenced_pieces (record { top = top; tight = tight }) is_closed (code_lines top is_closed ls))
-    ≡ fold (bytes.print default) out (old.fenced_content top is_closed ls)
-fenced_same default true tight is_closed [] out = refl
-fenced_same default false tight true [] out = refl
-fenced_same default false tight false [] out = refl
-fenced_same default true tight is_closed (l ∷ ls) out = whole_same default (l ∷ ls) out
-fenced_same default false tight true (l ∷ ls) out = whole_same default (l ∷ ls) out
-fenced_same default false tight false (l ∷ []) out = cut_same default (own_lines (l ∷ [])) out
-fenced_same default false tight false (l ∷ next ∷ ls) out = cut_same default (own_lines (l ∷ next ∷ ls)) out
+-- the place on a page of a block that stands here, of a tight item or not
+abbrev place_in : Standing → Bool → Place
+place_in s tight = record { top = s.top; tight = tight }
 
 -- ---- paragraphs, headings and code
 
-module _ (default : List ℕ) (options : Options) (tables : TextTables) (ds : List Definition) where
+module _ (default : List ℕ) (options : Options) (tables : TextTables) (ds : Targets) where
   abbrev pub d : Document
   d = document options tables ds
 
   abbrev pub r : Reading
-  r = record { options = options.parse; tables = tables; is_defined = is_label_of ds }
+  r = reading tables options.parse ds
 
   abbrev pub m : Meaning
-  m = piece_meaning options.parse.constructs options.compile tables.names (linked_by ds)
+  m = piece_meaning options.parse.constructs options.compile tables.names (linked_by ds.definitions) ds.footnotes
 
-  text_same : (ls : List BlockLine) (out : List ℕ) → fold (print default) out (inline_pieces m (read_text r ls)) ≡ out ++ text_of d ls
-  text_same ls out = text_printed options.parse.constructs options.compile tables.names (linked_by ds) default (read_text r ls) out
+  -- pieces that lay out the same
+  abbrev Alike : List Piece → List bytes.Piece → Type 0
+  Alike ps bs = Same options.compile default ps bs
+
+  structure_same : (is : Inlines) → Alike (inline_pieces m is) (bytes_inline.inline_pieces (meaning_of d) is)
+  structure_same is = text_same options.parse.constructs options.compile tables.names (linked_by ds.definitions) ds.footnotes default is
 
   -- a text between tags
-  text_element : (name : List ℕ) (ls : List BlockLine) (out : List ℕ)
-      → fold (print default) out (element (bare_tag name) (inline_pieces m (read_text r ls)))
-      ≡ out ++ start_tag (bare_tag name) ++ text_of d ls ++ end_tag name
-  text_element name ls out =
-      element_is default (bare_tag name) (inline_pieces m (read_text r ls)) out ∙ ap (λ x. x ++ end_tag name) (text_same ls (out ++ start_tag (bare_tag name)))
-
-  -- inline structure from a place of a content on
-  structure_same : (content : List InlineCode) (out : List ℕ)
-      → fold (print default) out (inline_pieces m (inlines_from (context_of r) content))
-      ≡ out ++ inline_html (meaning_of d) (inlines_from (context_of r) content)
-  structure_same content out = text_printed options.parse.constructs options.compile tables.names (linked_by ds) default (inlines_from (context_of r) content) out
+  heading_same : (rank : ℕ) (ls : List BlockLine)
+      → Alike (Fresh ∷ element (bare_tag (heading_name rank)) (inline_pieces m (read_text r ls)))
+      (bytes.Fresh ∷ bytes.Bytes (old.heading_tag rank) ∷ (text_of d ls ++ bytes.Bytes (old.heading_end rank) ∷ []))
+  heading_same rank ls =
+      after_fresh options.compile default (element (bare_tag (heading_name rank)) (inline_pieces m (read_text r ls)))
+      (bytes.Bytes (old.heading_tag rank) ∷ (text_of d ls ++ bytes.Bytes (old.heading_end rank) ∷ []))
+      (element_same options.compile default (bare_tag (heading_name rank)) (old.heading_tag rank) (old.heading_end rank) (inline_pieces m (read_text r ls))
+      (text_of d ls)
+      refl refl (structure_same (read_text r ls)))
 
   check_same : (done : Bool) → void_tag (check_tag options.compile done) ≡ check_html options.compile done
   check_same done = by_case options.compile.gfm_task_list_item_checkable done
@@ -217,13 +203,13 @@ module _ (default : List ℕ) (options : Options) (tables : TextTables) (ds : Li
       by_case false false = refl
 
   -- the text after a check
-  done_same : (content : List InlineCode) (done : Bool) (out : List ℕ)
-      → fold (print default) out (Void (check_tag options.compile done) ∷ inline_pieces m (inlines_from (context_of r) (drop check_size content)))
-      ≡ out ++ checked_text d content (Some done)
-  done_same content done out =
-      structure_same (drop check_size content) (out ++ void_tag (check_tag options.compile done))
-      ∙ ap (λ x. out ++ x ++ inline_html (meaning_of d) (inlines_from (context_of r) (drop check_size content))) (check_same done)
-      ∙ append_assoc out (check_html options.compile done) (inline_html (meaning_of d) (inlines_from (context_of r) (drop check_size content)))
+  done_same : (content : List InlineCode) (done : Bool)
+      → Alike (Void (check_tag options.compile done) ∷ inline_pieces m (inlines_from (context_of r) (drop check_size content)))
+      (checked_text d content (Some done))
+  done_same content done l =
+      let is = inlines_from (context_of r) (drop check_size content) in
+      ap (λ x. fold (lay options.compile default) (add l x) (inline_pieces m is)) (check_same done) ∙ structure_same is
+      (add l (check_html options.compile done))
 
   -- what holds of each paragraph holds of one with this check
   by_check : (P : page.Block → Type 0) → ((check : Option Bool) (is : Inlines) → P (page.Paragraph check is)) → (content : List InlineCode) (found : Option Bool)
@@ -236,68 +222,56 @@ module _ (default : List ℕ) (options : Options) (tables : TextTables) (ds : Li
   of_paragraph P each first ls =
       let content = unindented (text_content r ls) in by_check P each content (check_at options.parse.constructs first (codes_of content))
 
-  -- a text between the tags of a paragraph
-  paragraph_element : (text : List Piece) (said : List ℕ) → ((out : List ℕ) → fold (print default) out text ≡ out ++ said) → (out : List ℕ)
-      → fold (print default) out (element (bare_tag (codes "p")) text) ≡ out ++ codes "<p>" ++ said ++ codes "</p>"
-  paragraph_element text said same out =
-      element_is default (bare_tag (codes "p")) text out ∙ ap (λ x. x ++ codes "</p>") (same (out ++ codes "<p>"))
-
   -- a text alone or between the tags of a paragraph
-  tight_same : (text : List Piece) (said : List ℕ) → ((out : List ℕ) → fold (print default) out text ≡ out ++ said) → (tight : Bool) (out : List ℕ)
-      → fold (print default) out (cond tight text (Fresh ∷ element (bare_tag (codes "p")) text))
-      ≡ fold (bytes.print default) out
-      (cond tight (bytes.Bytes said ∷ []) (bytes.Fresh ∷ bytes.Bytes (codes "<p>") ∷ bytes.Bytes said ∷ bytes.Bytes (codes "</p>") ∷ []))
-  tight_same text said same true out = same out
-  tight_same text said same false out = paragraph_element text said same (bytes.print default out bytes.Fresh)
+  tight_same : (text : List Piece) (shown : List bytes.Piece) → Alike text shown → (tight : Bool)
+      → Alike (cond tight text (Fresh ∷ element (bare_tag (codes "p")) text))
+      (cond tight shown (bytes.Fresh ∷ bytes.Bytes (codes "<p>") ∷ shown ++ bytes.Bytes (codes "</p>") ∷ []))
+  tight_same text shown same true l = same l
+  tight_same text shown same false l =
+      element_same options.compile default (bare_tag (codes "p")) (codes "<p>") (codes "</p>") text shown refl refl same (fresh default l)
 
-  checked_same : (place : Place) (before : Option page.Block) (content : List InlineCode) (found : Option Bool) (out : List ℕ)
-      → fold (print default) out (block_pieces m place before (checked_paragraph r content found))
-      ≡ fold (bytes.print default) out
-      (cond place.tight (bytes.Bytes (checked_text d content found) ∷ [])
-      (bytes.Fresh ∷ bytes.Bytes (codes "<p>") ∷ bytes.Bytes (checked_text d content found) ∷ bytes.Bytes (codes "</p>") ∷ []))
-  checked_same place before content None out =
-      tight_same (inline_pieces m (inlines_from (context_of r) content)) (checked_text d content None) (structure_same content) place.tight out
-  checked_same place before content (Some done) out =
+  checked_same : (place : Place) (before : Option page.Block) (content : List InlineCode) (found : Option Bool)
+      → Alike (block_pieces m place before (checked_paragraph r content found))
+      (cond place.tight (checked_text d content found)
+      (bytes.Fresh ∷ bytes.Bytes (codes "<p>") ∷ checked_text d content found ++ bytes.Bytes (codes "</p>") ∷ []))
+  checked_same place before content None =
+      tight_same (inline_pieces m (inlines_from (context_of r) content)) (checked_text d content None)
+      (structure_same (inlines_from (context_of r) content)) place.tight
+  checked_same place before content (Some done) =
       tight_same (Void (check_tag options.compile done) ∷ inline_pieces m (inlines_from (context_of r) (drop check_size content))) (checked_text d content (Some done))
-      (done_same content done) place.tight out
+      (done_same content done) place.tight
 
-  paragraph_same : (s : Standing) (tight silent : Bool) (before : Option page.Block) (ls : List BlockLine) (out : List ℕ)
-      → fold (print default) out (block_pieces m (record { top = s.top; tight = tight }) before (read_paragraph r s.first ls))
-      ≡ fold (bytes.print default) out (old.block_pieces d s tight silent (tree.Paragraph ls))
-  paragraph_same s tight silent before ls out =
+  paragraph_same : (s : Standing) (tight silent : Bool) (before : Option page.Block) (ls : List BlockLine)
+      → Alike (block_pieces m (place_in s tight) before (read_paragraph r s.first ls))
+      (old.block_pieces d s tight silent (tree.Paragraph ls))
+  paragraph_same s tight silent before ls =
       let content = unindented (text_content r ls) in
-      checked_same (record { top = s.top; tight = tight }) before content (check_at options.parse.constructs s.first (codes_of content)) out
+      checked_same (place_in s tight) before content (check_at options.parse.constructs s.first (codes_of content))
 
   class_same : (info : List ℕ) → start_tag (tag (codes "code") (info_attributes (info_text r info))) ≡ codes "<code" ++ old.class_of d info ++ codes ">"
   class_same [] = refl
   class_same (b ∷ bs) = ap (λ x. codes "<code" ++ x ++ codes ">") (one_attribute (codes " class=\"language-") (encode (info_of d (b ∷ bs))) (codes "\""))
 
-  indented_same : (place : Place) (s : Standing) (tight silent : Bool) (before : Option page.Block) (ls : List BlockLine) (out : List ℕ)
-      → fold (print default) out (block_pieces m place before (page.IndentedCode ls))
-      ≡ fold (bytes.print default) out (old.block_pieces d s tight silent (tree.IndentedCode ls))
-  indented_same place s tight silent before ls out =
-      let start = bytes.print default out bytes.Fresh in
-      code_element default (bare_tag (codes "code")) (says (flat_map code_line ls) ++ Fresh ∷ []) (codes "<code>") refl refl start
-      ∙ ap (λ x. x ++ codes "</code></pre>")
-      (fold-append (print default) (start ++ codes "<pre><code>") (says (flat_map code_line ls)) (Fresh ∷ [])
-      ∙ ap (λ x. bytes.print default x bytes.Fresh) (code_printed default ls (start ++ codes "<pre><code>")))
+  indented_same : (place : Place) (s : Standing) (tight silent : Bool) (before : Option page.Block) (ls : List BlockLine)
+      → Alike (block_pieces m place before (page.IndentedCode ls)) (old.block_pieces d s tight silent (tree.IndentedCode ls))
+  indented_same place s tight silent before ls l =
+      code_element options.compile default (bare_tag (codes "code")) (codes "<code>") (says (flat_map code_line ls) ++ Fresh ∷ [])
+      (bytes.Bytes (old.code_of ls) ∷ bytes.Fresh ∷ []) refl refl (lines_same options.compile default ls) (fresh default l)
 
-  fence_same : (s : Standing) (tight silent : Bool) (before : Option page.Block) (info : List ℕ) (is_closed : Bool) (ls : List BlockLine) (out : List ℕ)
-      → fold (print default) out
-      (block_pieces m (record { top = s.top; tight = tight }) before (page.FencedCode (info_text r info) is_closed (code_lines s.top is_closed ls)))
-      ≡ fold (bytes.print default) out (old.block_pieces d s tight silent (tree.FencedCode info is_closed ls))
-  fence_same s tight silent before info is_closed ls out =
-      let start = bytes.print default out bytes.Fresh in
+  fence_same : (s : Standing) (tight silent : Bool) (before : Option page.Block) (info : List ℕ) (is_closed : Bool) (ls : List BlockLine)
+      → Alike (block_pieces m (place_in s tight) before (page.FencedCode (info_text r info) is_closed (code_lines s.top is_closed ls)))
+      (old.block_pieces d s tight silent (tree.FencedCode info is_closed ls))
+  fence_same s tight silent before info is_closed ls l =
       let code = tag (codes "code") (info_attributes (info_text r info)) in
-      let lines = fenced_pieces (record { top = s.top; tight = tight }) is_closed (code_lines s.top is_closed ls) in
+      let start = codes "<code" ++ old.class_of d info ++ codes ">" in
+      let lines = fenced_pieces (place_in s tight) is_closed (code_lines s.top is_closed ls) in
       let shown = old.fenced_content s.top is_closed ls in
-      let after = start ++ (codes "<pre><code" ++ old.class_of d info ++ codes ">") in
-      fold-append (print default) out (Fresh ∷ element (bare_tag (codes "pre")) (element code lines)) (fresh_unless is_closed)
-      ∙ ap (λ x. fold (print default) x (fresh_unless is_closed))
-      (code_element default code lines (codes "<code" ++ old.class_of d info ++ codes ">") refl (class_same info) start
-      ∙ ap (λ x. x ++ codes "</code></pre>") (fenced_same default s.top tight is_closed ls after))
-      ∙ fresh_same default is_closed (fold (bytes.print default) after shown ++ codes "</code></pre>")
-      ∙ sym (fold-append (bytes.print default) after shown (bytes.Bytes (codes "</code></pre>") ∷ old.fresh_unless is_closed))
+      let around = bytes.Bytes (codes "<pre>" ++ start) ∷ (shown ++ bytes.Bytes (codes "</code></pre>") ∷ []) in
+      joined options.compile default (element (bare_tag (codes "pre")) (element code lines)) (fresh_unless is_closed) around (old.fresh_unless is_closed)
+      (code_element options.compile default code start lines shown refl (class_same info) (fenced_same options.compile default s.top tight is_closed ls))
+      (fresh_same options.compile default is_closed) (fresh default l)
+      ∙ ap (λ x. fold (bytes_layout.lay options.compile default) (add (fresh default l) (codes "<pre>" ++ start)) x)
+      (append_assoc shown (bytes.Bytes (codes "</code></pre>") ∷ []) (old.fresh_unless is_closed))
 
   -- ---- lists
 
@@ -353,79 +327,92 @@ module _ (default : List ℕ) (options : Options) (tables : TextTables) (ds : Li
   -- ---- containers and lists
 
   quote_same : (s : Standing) (tight silent : Bool) (before : Option page.Block) (kids : tree.Blocks)
-      → ((out : List ℕ) → fold (print default) out (children_pieces m (record { top = false; tight = false }) None (read_blocks r in_container kids))
-      ≡ fold (bytes.print default) out (old.children_pieces d in_container false false kids)) → (out : List ℕ)
-      → fold (print default) out (block_pieces m (record { top = s.top; tight = tight }) before (page.Quote (read_blocks r in_container kids)))
-      ≡ fold (bytes.print default) out (old.block_pieces d s tight silent (tree.Holds Quote kids))
-  quote_same s tight silent before kids k out =
-      let start = bytes.print default out bytes.Fresh in
+      → Alike (children_pieces m (record { top = false; tight = false }) None (read_blocks r in_container kids))
+      (old.children_pieces d in_container false false kids)
+      → Alike (block_pieces m (place_in s tight) before (page.Quote (read_blocks r in_container kids)))
+      (old.block_pieces d s tight silent (tree.Holds Quote kids))
+  quote_same s tight silent before kids same l =
       let inside = children_pieces m (record { top = false; tight = false }) None (read_blocks r in_container kids) in
-      let shown = old.children_pieces d in_container false false kids in
-      element_with default (bare_tag (codes "blockquote")) inside (Fresh ∷ []) shown k start
-      ∙ sym (fold-append (bytes.print default) (start ++ codes "<blockquote>") shown (bytes.Fresh ∷ bytes.Bytes (codes "</blockquote>") ∷ []))
+      element_with options.compile default (bare_tag (codes "blockquote")) (codes "<blockquote>") (codes "</blockquote>") inside (Fresh ∷ [])
+      (old.children_pieces d in_container false false kids) (bytes.Fresh ∷ []) refl refl same (fresh_last options.compile default) (fresh default l)
+
+  -- what an item ends with
+  item_last : (tight : Bool) (kids : tree.Blocks)
+      → Alike (fresh_unless (ends_plainly tight (last_shown None (read_blocks r in_item kids)))) (old.fresh_unless (old.ends_tight tight true kids))
+  item_last tight kids l =
+      ap (λ t. fold (lay options.compile default) l (fresh_unless t)) (plain_same true tight None true kids refl)
+      ∙ fresh_same options.compile default (old.ends_tight tight true kids) l
 
   item_same : (s : Standing) (tight silent : Bool) (before : Option page.Block) (item : ItemOf) (kids : tree.Blocks)
-      → ((out : List ℕ) → fold (print default) out (children_pieces m (record { top = false; tight = tight }) None (read_blocks r in_item kids))
-      ≡ fold (bytes.print default) out (old.children_pieces d in_item tight false kids)) → (out : List ℕ)
-      → fold (print default) out (block_pieces m (record { top = s.top; tight = tight }) before (page.Item (read_blocks r in_item kids)))
-      ≡ fold (bytes.print default) out (old.block_pieces d s tight silent (tree.Holds (Item item) kids))
-  item_same s tight silent before item kids k out =
-      let start = bytes.print default out bytes.Fresh in
+      → Alike (children_pieces m (record { top = false; tight = tight }) None (read_blocks r in_item kids)) (old.children_pieces d in_item tight false kids)
+      → Alike (block_pieces m (place_in s tight) before (page.Item (read_blocks r in_item kids)))
+      (old.block_pieces d s tight silent (tree.Holds (Item item) kids))
+  item_same s tight silent before item kids same l =
       let inside = children_pieces m (record { top = false; tight = tight }) None (read_blocks r in_item kids) in
       let shown = old.children_pieces d in_item tight false kids in
-      let plain = old.ends_tight tight true kids in
-      let after = fold (bytes.print default) (start ++ codes "<li>") shown in
-      element_with default (bare_tag (codes "li")) inside (fresh_unless (ends_plainly tight (last_shown None (read_blocks r in_item kids)))) shown k start
-      ∙ ap (λ t. fold (print default) after (fresh_unless t) ++ codes "</li>") (plain_same true tight None true kids refl)
-      ∙ ap (λ x. x ++ codes "</li>") (fresh_same default plain after ∙ sym (fold-append (bytes.print default) (start ++ codes "<li>") shown (old.fresh_unless plain)))
-      ∙ sym (fold-append (bytes.print default) (start ++ codes "<li>") (shown ++ old.fresh_unless plain) (bytes.Bytes (codes "</li>") ∷ []))
+      let last = old.fresh_unless (old.ends_tight tight true kids) in
+      element_with options.compile default (bare_tag (codes "li")) (codes "<li>") (codes "</li>") inside
+      (fresh_unless (ends_plainly tight (last_shown None (read_blocks r in_item kids)))) shown last refl refl same (item_last tight kids) (fresh default l)
+      ∙ ap (λ x. fold (bytes_layout.lay options.compile default) (add (fresh default l) (codes "<li>")) x)
+      (sym (append_assoc shown last (bytes.Bytes (codes "</li>") ∷ [])))
 
   list_same : (s : Standing) (tight silent : Bool) (before : Option page.Block) (items : tree.Blocks)
-      → ((out : List ℕ) → fold (print default) out (children_pieces m (record { top = false; tight = not (is_loose items) }) None (read_blocks r in_container items))
-      ≡ fold (bytes.print default) out (old.children_pieces d in_container (not (is_loose items)) false items)) → (out : List ℕ)
-      → fold (print default) out
-      (block_pieces m (record { top = s.top; tight = tight }) before (page.ItemList (list_number items) (is_loose items) (read_blocks r in_container items)))
-      ≡ fold (bytes.print default) out (old.block_pieces d s tight silent (tree.Items items))
-  list_same s tight silent before items k out =
-      let start = bytes.print default out bytes.Fresh in
+      → Alike (children_pieces m (record { top = false; tight = not (is_loose items) }) None (read_blocks r in_container items))
+      (old.children_pieces d in_container (not (is_loose items)) false items)
+      → Alike (block_pieces m (place_in s tight) before
+      (page.ItemList (list_number items) (is_loose items) (read_blocks r in_container items)))
+      (old.block_pieces d s tight silent (tree.Items items))
+  list_same s tight silent before items same l =
       let number = list_number items in
       let inside = children_pieces m (record { top = false; tight = not (is_loose items) }) None (read_blocks r in_container items) in
-      let shown = old.children_pieces d in_container (not (is_loose items)) false items in
-      element_with default (list_tag number) inside (Eol ∷ []) shown k start
-      ∙ ap (λ x. fold (bytes.print default) (start ++ x) shown ++ default ++ end_tag (list_tag number).name) (start_same number)
-      ∙ ap (λ x. fold (bytes.print default) (start ++ old.number_tag number) shown ++ default ++ x) (end_same number)
-      ∙ sym (fold-append (bytes.print default) (start ++ old.number_tag number) shown (bytes.Eol ∷ bytes.Bytes (old.number_end number) ∷ []))
+      element_with options.compile default (list_tag number) (old.number_tag number) (old.number_end number) inside (Eol ∷ [])
+      (old.children_pieces d in_container (not (is_loose items)) false items) (bytes.Eol ∷ []) (start_same number) (end_same number) same (λ l. refl)
+      (fresh default l)
+
+  -- the definition of a footnote: its content is laid out by itself
+  footnote_same : (s : Standing) (tight silent : Bool) (before : Option page.Block) (label : List ℕ) (kids : tree.Blocks)
+      → Alike (children_pieces m (record { top = false; tight = false }) None (read_blocks r in_container kids))
+      (old.children_pieces d in_container false false kids)
+      → Alike (block_pieces m (place_in s tight) before (page.Footnote label (read_blocks r in_container kids)))
+      (old.block_pieces d s tight silent (tree.Holds (Footnote label) kids))
+  footnote_same s tight silent before label kids same l =
+      joined options.compile default (children_pieces m (record { top = false; tight = false }) None (read_blocks r in_container kids)) (NoteEnd ∷ [])
+      (old.children_pieces d in_container false false kids) (bytes.NoteEnd ∷ []) same (λ l. refl) (laid [] (l.text ∷ l.outer) l.notes l.called)
 
   -- ---- all blocks
 
+  -- a block and the siblings after it
+  siblings : (place : Place) (before : Option page.Block) (b : page.Block) (others : page.Blocks) (one more : List bytes.Piece)
+      → Alike (block_pieces m place before b) one → Alike (children_pieces m place (Some b) others) more
+      → Alike (children_pieces m place before (page.Cons b others)) (one ++ more)
+  siblings place before b others one more block rest =
+      joined options.compile default (block_pieces m place before b) (children_pieces m place (Some b) others) one more block rest
+
   -- siblings print the same, where an ending that comes first is as silent
   abbrev AreSame : Standing → Bool → tree.Blocks → Type 0
-  AreSame s tight bs = (silent : Bool) (before : Option page.Block) → is_silent (record { top = s.top; tight = tight }) before ≡ silent → (out : List ℕ)
-      → fold (print default) out (children_pieces m (record { top = s.top; tight = tight }) before (read_blocks r s bs))
-      ≡ fold (bytes.print default) out (old.children_pieces d s tight silent bs)
+  AreSame s tight bs = (silent : Bool) (before : Option page.Block) → is_silent (place_in s tight) before ≡ silent
+      → Alike (children_pieces m (place_in s tight) before (read_blocks r s bs)) (old.children_pieces d s tight silent bs)
 
   -- the same after fenced code at the top that isn't closed, the last ending of which is its own
   abbrev AreSameAfter : Standing → Bool → tree.Blocks → Type 0
-  AreSameAfter s tight bs = (before : Option page.Block) → is_silent (record { top = s.top; tight = tight }) before ≡ false → (out : List ℕ)
-      → fold (print default) out (children_pieces m (record { top = s.top; tight = tight }) before (without_ending (read_blocks r s bs)))
-      ≡ fold (bytes.print default) out (old.children_pieces d s tight true bs)
+  AreSameAfter s tight bs = (before : Option page.Block) → is_silent (place_in s tight) before ≡ false
+      → Alike (children_pieces m (place_in s tight) before (without_ending (read_blocks r s bs))) (old.children_pieces d s tight true bs)
 
   after_same : (first top tight is_closed : Bool) (bs : tree.Blocks) → AreSame (record { top = top; first = first }) tight bs
       → AreSameAfter (record { top = top; first = first }) tight bs
-      → (before : Option page.Block) → is_silent (record { top = top; tight = tight }) before ≡ false → (out : List ℕ)
-      → fold (print default) out
-      (children_pieces m (record { top = top; tight = tight }) before (after_code top is_closed (read_blocks r (record { top = top; first = first }) bs)))
-      ≡ fold (bytes.print default) out (old.children_pieces d (record { top = top; first = first }) tight (top && not is_closed) bs)
-  after_same first true tight true bs same after before h out = same false before h out
-  after_same first true tight false bs same after before h out = after before h out
-  after_same first false tight true bs same after before h out = same false before h out
-  after_same first false tight false bs same after before h out = same false before h out
+      → (before : Option page.Block) → is_silent (record { top = top; tight = tight }) before ≡ false
+      → Alike (children_pieces m (record { top = top; tight = tight }) before
+      (after_code top is_closed (read_blocks r (record { top = top; first = first }) bs)))
+      (old.children_pieces d (record { top = top; first = first }) tight (top && not is_closed) bs)
+  after_same first true tight true bs same after before h l = same false before h l
+  after_same first true tight false bs same after before h l = after before h l
+  after_same first false tight true bs same after before h l = same false before h l
+  after_same first false tight false bs same after before h l = same false before h l
 
   -- siblings that begin with a block, before which no ending is silent
   abbrev EachSame : Standing → Bool → tree.Blocks → Type 0
-  EachSame s tight bs = (silent : Bool) (before : Option page.Block) (out : List ℕ)
-      → fold (print default) out (children_pieces m (record { top = s.top; tight = tight }) before (read_blocks r s bs))
-      ≡ fold (bytes.print default) out (old.children_pieces d s tight silent bs)
+  EachSame s tight bs = (silent : Bool) (before : Option page.Block)
+      → Alike (children_pieces m (place_in s tight) before (read_blocks r s bs)) (old.children_pieces d s tight silent bs)
 
   -- both, by the same steps
   abbrev AreSameTwice : Standing → Bool → tree.Blocks → Type 0
@@ -433,120 +420,127 @@ module _ (default : List ℕ) (options : Options) (tables : TextTables) (ds : Li
 
   each_twice : (s : Standing) (tight : Bool) (b : tree.Block) (bs : tree.Blocks) → EachSame s tight (tree.Cons b bs)
       → AreSameAfter s tight (tree.Cons b bs) → AreSameTwice s tight (tree.Cons b bs)
-  each_twice s tight b bs each after = (λ silent before h out. each silent before out, after)
+  each_twice s tight b bs each after = (λ silent before h l. each silent before l, after)
 
   twice : (s : Standing) (tight : Bool) (bs : tree.Blocks) → AreSameTwice s tight bs
-  twice s tight tree.Nil = (λ silent before h out. refl, λ before h out. refl)
+  twice s tight tree.Nil = (λ silent before h l. refl, λ before h l. refl)
   twice s tight (tree.Cons (tree.Paragraph ls) bs) =
-      let each : EachSame s tight (tree.Cons (tree.Paragraph ls) bs) = λ silent before out.
-      siblings default m (record { top = s.top; tight = tight }) before (read_paragraph r s.first ls) (read_blocks r (next_standing s (tree.Paragraph ls)) bs)
+      let each : EachSame s tight (tree.Cons (tree.Paragraph ls) bs) = λ silent before l.
+      siblings (place_in s tight) before (read_paragraph r s.first ls) (read_blocks r (next_standing s (tree.Paragraph ls)) bs)
       (old.block_pieces d s tight silent (tree.Paragraph ls)) (old.children_pieces d (next_standing s (tree.Paragraph ls)) tight tight bs)
       (paragraph_same s tight silent before ls)
       ((twice (next_standing s (tree.Paragraph ls)) tight bs).0 tight (Some (read_paragraph r s.first ls))
-      (of_paragraph (λ b. is_silent (record { top = s.top; tight = tight }) (Some b) ≡ tight) (λ check is. refl) s.first ls)) out in
+      (of_paragraph (λ b. is_silent (place_in s tight) (Some b) ≡ tight) (λ check is. refl) s.first ls)) l in
       let others = read_blocks r (next_standing s (tree.Paragraph ls)) bs in
       let kept = of_paragraph (λ b. without_ending (page.Cons b others) ≡ page.Cons b others) (λ check is. refl) s.first ls in
       each_twice s tight (tree.Paragraph ls) bs each
-      (λ before h out. ap (λ all. fold (print default) out (children_pieces m (record { top = s.top; tight = tight }) before all)) kept ∙ each true before out)
+      (λ before h l. ap (λ all. fold (lay options.compile default) l (children_pieces m (place_in s tight) before all)) kept
+      ∙ each true before l)
   twice s tight (tree.Cons (tree.Heading rank ls) bs) =
-      let each : EachSame s tight (tree.Cons (tree.Heading rank ls) bs) = λ silent before out.
-      siblings default m (record { top = s.top; tight = tight }) before (page.Heading rank (read_text r ls)) (read_blocks r (next_standing s (tree.Heading rank ls)) bs)
+      let each : EachSame s tight (tree.Cons (tree.Heading rank ls) bs) = λ silent before l.
+      siblings (place_in s tight) before (page.Heading rank (read_text r ls)) (read_blocks r (next_standing s (tree.Heading rank ls)) bs)
       (old.block_pieces d s tight silent (tree.Heading rank ls)) (old.children_pieces d (next_standing s (tree.Heading rank ls)) tight false bs)
-      (λ o. text_element (heading_name rank) ls (bytes.print default o bytes.Fresh))
-      ((twice (next_standing s (tree.Heading rank ls)) tight bs).0 false (Some (page.Heading rank (read_text r ls))) refl) out in
-      each_twice s tight (tree.Heading rank ls) bs each (λ before h out. each true before out)
+      (heading_same rank ls)
+      ((twice (next_standing s (tree.Heading rank ls)) tight bs).0 false (Some (page.Heading rank (read_text r ls))) refl) l in
+      each_twice s tight (tree.Heading rank ls) bs each (λ before h l. each true before l)
   twice s tight (tree.Cons tree.Break bs) =
-      let each : EachSame s tight (tree.Cons tree.Break bs) = λ silent before out.
-      siblings default m (record { top = s.top; tight = tight }) before (page.Break) (read_blocks r (next_standing s tree.Break) bs)
+      let each : EachSame s tight (tree.Cons tree.Break bs) = λ silent before l.
+      siblings (place_in s tight) before (page.Break) (read_blocks r (next_standing s tree.Break) bs)
       (old.block_pieces d s tight silent tree.Break) (old.children_pieces d (next_standing s tree.Break) tight false bs)
       (λ o. refl)
-      ((twice (next_standing s tree.Break) tight bs).0 false (Some (page.Break)) refl) out in
-      each_twice s tight tree.Break bs each (λ before h out. each true before out)
+      ((twice (next_standing s tree.Break) tight bs).0 false (Some (page.Break)) refl) l in
+      each_twice s tight tree.Break bs each (λ before h l. each true before l)
   twice s tight (tree.Cons (tree.IndentedCode ls) bs) =
-      let each : EachSame s tight (tree.Cons (tree.IndentedCode ls) bs) = λ silent before out.
-      siblings default m (record { top = s.top; tight = tight }) before (page.IndentedCode ls) (read_blocks r (next_standing s (tree.IndentedCode ls)) bs)
+      let each : EachSame s tight (tree.Cons (tree.IndentedCode ls) bs) = λ silent before l.
+      siblings (place_in s tight) before (page.IndentedCode ls) (read_blocks r (next_standing s (tree.IndentedCode ls)) bs)
       (old.block_pieces d s tight silent (tree.IndentedCode ls)) (old.children_pieces d (next_standing s (tree.IndentedCode ls)) tight false bs)
-      (indented_same (record { top = s.top; tight = tight }) s tight silent before ls)
-      ((twice (next_standing s (tree.IndentedCode ls)) tight bs).0 false (Some (page.IndentedCode ls)) refl) out in
-      each_twice s tight (tree.IndentedCode ls) bs each (λ before h out. each true before out)
+      (indented_same (place_in s tight) s tight silent before ls)
+      ((twice (next_standing s (tree.IndentedCode ls)) tight bs).0 false (Some (page.IndentedCode ls)) refl) l in
+      each_twice s tight (tree.IndentedCode ls) bs each (λ before h l. each true before l)
   twice s tight (tree.Cons (tree.FencedCode info is_closed ls) bs) =
-      let each : EachSame s tight (tree.Cons (tree.FencedCode info is_closed ls) bs) = λ silent before out.
-      siblings default m (record { top = s.top; tight = tight }) before (page.FencedCode (info_text r info) is_closed (code_lines s.top is_closed ls)) (after_code s.top is_closed (read_blocks r (next_standing s (tree.FencedCode info is_closed ls)) bs))
+      let each : EachSame s tight (tree.Cons (tree.FencedCode info is_closed ls) bs) = λ silent before l.
+      siblings (place_in s tight) before (page.FencedCode (info_text r info) is_closed (code_lines s.top is_closed ls))
+      (after_code s.top is_closed (read_blocks r (next_standing s (tree.FencedCode info is_closed ls)) bs))
       (old.block_pieces d s tight silent (tree.FencedCode info is_closed ls)) (old.children_pieces d (next_standing s (tree.FencedCode info is_closed ls)) tight (s.top && not is_closed) bs)
       (fence_same s tight silent before info is_closed ls)
-      (after_same (s.first && false) s.top tight is_closed bs (twice (next_standing s (tree.FencedCode info is_closed ls)) tight bs).0 (twice (next_standing s (tree.FencedCode info is_closed ls)) tight bs).1 (Some (page.FencedCode (info_text r info) is_closed (code_lines s.top is_closed ls))) refl) out in
-      each_twice s tight (tree.FencedCode info is_closed ls) bs each (λ before h out. each true before out)
+      (after_same (s.first && false) s.top tight is_closed bs (twice (next_standing s (tree.FencedCode info is_closed ls)) tight bs).0
+      (twice (next_standing s (tree.FencedCode info is_closed ls)) tight bs).1
+      (Some (page.FencedCode (info_text r info) is_closed (code_lines s.top is_closed ls))) refl) l in
+      each_twice s tight (tree.FencedCode info is_closed ls) bs each (λ before h l. each true before l)
   twice s tight (tree.Cons (tree.Html ls) bs) =
-      let each : EachSame s tight (tree.Cons (tree.Html ls) bs) = λ silent before out.
-      siblings default m (record { top = s.top; tight = tight }) before (page.Html ls) (read_blocks r (next_standing s (tree.Html ls)) bs)
+      let each : EachSame s tight (tree.Cons (tree.Html ls) bs) = λ silent before l.
+      siblings (place_in s tight) before (page.Html ls) (read_blocks r (next_standing s (tree.Html ls)) bs)
       (old.block_pieces d s tight silent (tree.Html ls)) (old.children_pieces d (next_standing s (tree.Html ls)) tight false bs)
-      (λ o. html_printed default options.compile ls (bytes.print default o bytes.Fresh))
-      ((twice (next_standing s (tree.Html ls)) tight bs).0 false (Some (page.Html ls)) refl) out in
-      each_twice s tight (tree.Html ls) bs each (λ before h out. each true before out)
+      (λ l. html_added options.compile default ls (fresh default l))
+      ((twice (next_standing s (tree.Html ls)) tight bs).0 false (Some (page.Html ls)) refl) l in
+      each_twice s tight (tree.Html ls) bs each (λ before h l. each true before l)
   twice s tight (tree.Cons (tree.Table ls) bs) =
-      let each : EachSame s tight (tree.Cons (tree.Table ls) bs) = λ silent before out.
-      siblings default m (record { top = s.top; tight = tight }) before (page.Table (read_table r ls)) (read_blocks r (next_standing s (tree.Table ls)) bs)
+      let each : EachSame s tight (tree.Cons (tree.Table ls) bs) = λ silent before l.
+      siblings (place_in s tight) before (page.Table (read_table r ls)) (read_blocks r (next_standing s (tree.Table ls)) bs)
       (old.block_pieces d s tight silent (tree.Table ls)) (old.children_pieces d (next_standing s (tree.Table ls)) tight false bs)
       (table_same default options tables ds ls)
-      ((twice (next_standing s (tree.Table ls)) tight bs).0 false (Some (page.Table (read_table r ls))) refl) out in
-      each_twice s tight (tree.Table ls) bs each (λ before h out. each true before out)
+      ((twice (next_standing s (tree.Table ls)) tight bs).0 false (Some (page.Table (read_table r ls))) refl) l in
+      each_twice s tight (tree.Table ls) bs each (λ before h l. each true before l)
   twice s tight (tree.Cons (tree.Definition label destination title) bs) =
-      let each : EachSame s tight (tree.Cons (tree.Definition label destination title) bs) = λ silent before out.
-      siblings default m (record { top = s.top; tight = tight }) before (page.Definition) (read_blocks r (next_standing s (tree.Definition label destination title)) bs)
+      let each : EachSame s tight (tree.Cons (tree.Definition label destination title) bs) = λ silent before l.
+      siblings (place_in s tight) before (page.Definition) (read_blocks r (next_standing s (tree.Definition label destination title)) bs)
       (old.block_pieces d s tight silent (tree.Definition label destination title)) (old.children_pieces d (next_standing s (tree.Definition label destination title)) tight true bs)
       (λ o. refl)
-      ((twice (next_standing s (tree.Definition label destination title)) tight bs).0 true (Some (page.Definition)) refl) out in
-      each_twice s tight (tree.Definition label destination title) bs each (λ before h out. each true before out)
+      ((twice (next_standing s (tree.Definition label destination title)) tight bs).0 true (Some (page.Definition)) refl) l in
+      each_twice s tight (tree.Definition label destination title) bs each (λ before h l. each true before l)
   twice s tight (tree.Cons (tree.Holds Quote kids) bs) =
-      let each : EachSame s tight (tree.Cons (tree.Holds Quote kids) bs) = λ silent before out.
-      siblings default m (record { top = s.top; tight = tight }) before (page.Quote (read_blocks r in_container kids)) (read_blocks r (next_standing s (tree.Holds Quote kids)) bs)
+      let each : EachSame s tight (tree.Cons (tree.Holds Quote kids) bs) = λ silent before l.
+      siblings (place_in s tight) before (page.Quote (read_blocks r in_container kids)) (read_blocks r (next_standing s (tree.Holds Quote kids)) bs)
       (old.block_pieces d s tight silent (tree.Holds Quote kids)) (old.children_pieces d (next_standing s (tree.Holds Quote kids)) tight false bs)
       (quote_same s tight silent before kids ((twice in_container false kids).0 false None refl))
-      ((twice (next_standing s (tree.Holds Quote kids)) tight bs).0 false (Some (page.Quote (read_blocks r in_container kids))) refl) out in
-      each_twice s tight (tree.Holds Quote kids) bs each (λ before h out. each true before out)
+      ((twice (next_standing s (tree.Holds Quote kids)) tight bs).0 false (Some (page.Quote (read_blocks r in_container kids))) refl) l in
+      each_twice s tight (tree.Holds Quote kids) bs each (λ before h l. each true before l)
   twice s tight (tree.Cons (tree.Holds (Item item) kids) bs) =
-      let each : EachSame s tight (tree.Cons (tree.Holds (Item item) kids) bs) = λ silent before out.
-      siblings default m (record { top = s.top; tight = tight }) before (page.Item (read_blocks r in_item kids)) (read_blocks r (next_standing s (tree.Holds (Item item) kids)) bs)
+      let each : EachSame s tight (tree.Cons (tree.Holds (Item item) kids) bs) = λ silent before l.
+      siblings (place_in s tight) before (page.Item (read_blocks r in_item kids)) (read_blocks r (next_standing s (tree.Holds (Item item) kids)) bs)
       (old.block_pieces d s tight silent (tree.Holds (Item item) kids)) (old.children_pieces d (next_standing s (tree.Holds (Item item) kids)) tight false bs)
       (item_same s tight silent before item kids ((twice in_item tight kids).0 false None refl))
-      ((twice (next_standing s (tree.Holds (Item item) kids)) tight bs).0 false (Some (page.Item (read_blocks r in_item kids))) refl) out in
-      each_twice s tight (tree.Holds (Item item) kids) bs each (λ before h out. each true before out)
+      ((twice (next_standing s (tree.Holds (Item item) kids)) tight bs).0 false (Some (page.Item (read_blocks r in_item kids))) refl) l in
+      each_twice s tight (tree.Holds (Item item) kids) bs each (λ before h l. each true before l)
   twice s tight (tree.Cons (tree.Holds (Footnote label) kids) bs) =
       let b = tree.Holds (Footnote label) kids in
       let shown = page.Footnote label (read_blocks r in_container kids) in
-      let each : EachSame s tight (tree.Cons b bs) = λ silent before out.
-      siblings default m (record { top = s.top; tight = tight }) before shown (read_blocks r (next_standing s b) bs)
+      let each : EachSame s tight (tree.Cons b bs) = λ silent before l.
+      siblings (place_in s tight) before shown (read_blocks r (next_standing s b) bs)
       (old.block_pieces d s tight silent b) (old.children_pieces d (next_standing s b) tight true bs)
-      (λ o. refl)
-      ((twice (next_standing s b) tight bs).0 true (Some shown) refl) out in
-      each_twice s tight b bs each (λ before h out. each true before out)
+      (footnote_same s tight silent before label kids ((twice in_container false kids).0 false None refl))
+      ((twice (next_standing s b) tight bs).0 true (Some shown) refl) l in
+      each_twice s tight b bs each (λ before h l. each true before l)
   twice s tight (tree.Cons (tree.Items items) bs) =
-      let each : EachSame s tight (tree.Cons (tree.Items items) bs) = λ silent before out.
-      siblings default m (record { top = s.top; tight = tight }) before (page.ItemList (list_number items) (is_loose items) (read_blocks r in_container items)) (read_blocks r (next_standing s (tree.Items items)) bs)
+      let each : EachSame s tight (tree.Cons (tree.Items items) bs) = λ silent before l.
+      siblings (place_in s tight) before (page.ItemList (list_number items) (is_loose items) (read_blocks r in_container items))
+      (read_blocks r (next_standing s (tree.Items items)) bs)
       (old.block_pieces d s tight silent (tree.Items items)) (old.children_pieces d (next_standing s (tree.Items items)) tight false bs)
       (list_same s tight silent before items ((twice in_container (not (is_loose items)) items).0 false None refl))
-      ((twice (next_standing s (tree.Items items)) tight bs).0 false (Some (page.ItemList (list_number items) (is_loose items) (read_blocks r in_container items))) refl) out in
-      each_twice s tight (tree.Items items) bs each (λ before h out. each true before out)
+      ((twice (next_standing s (tree.Items items)) tight bs).0 false
+      (Some (page.ItemList (list_number items) (is_loose items) (read_blocks r in_container items))) refl) l in
+      each_twice s tight (tree.Items items) bs each (λ before h l. each true before l)
   twice s tight (tree.Cons (tree.Ending None) bs) = (
-    λ silent before h out. (twice (next_standing s (tree.Ending None)) tight bs).0 silent before h out ∙ no_ending default silent (old.children_pieces d (next_standing s (tree.Ending None)) tight silent bs) out,
+    λ silent before h l. (twice (next_standing s (tree.Ending None)) tight bs).0 silent before h l ∙ no_ending options.compile default silent
+        (old.children_pieces d (next_standing s (tree.Ending None)) tight silent bs) l,
     (twice (next_standing s (tree.Ending None)) tight bs).1,
   )
   twice s tight (tree.Cons (tree.Ending (Some ending)) bs) = (
-    λ silent before h out.
-        siblings default m (record { top = s.top; tight = tight }) before (page.Ending ending) (read_blocks r (next_standing s (tree.Ending (Some ending))) bs)
+    λ silent before h l.
+        siblings (place_in s tight) before (page.Ending ending) (read_blocks r (next_standing s (tree.Ending (Some ending))) bs)
         (old.block_pieces d s tight silent (tree.Ending (Some ending))) (old.children_pieces d (next_standing s (tree.Ending (Some ending))) tight false bs)
-        (λ o. ap (λ t. fold (print default) o (cond t [] (Says (Words (ending_bytes ending)) ∷ []))) h ∙ ending_same default ending silent o)
-        ((twice (next_standing s (tree.Ending (Some ending))) tight bs).0 false (Some (page.Ending ending)) refl) out,
+        (λ o. ap (λ t. fold (lay options.compile default) o (cond t [] (Says (Words (ending_bytes ending)) ∷ []))) h
+        ∙ ending_same options.compile default ending silent o)
+        ((twice (next_standing s (tree.Ending (Some ending))) tight bs).0 false (Some (page.Ending ending)) refl) l,
     (twice (next_standing s (tree.Ending (Some ending))) tight bs).0 false,
   )
   twice s tight (tree.Cons (tree.Blank None) bs) = twice (next_standing s (tree.Blank None)) tight bs
   twice s tight (tree.Cons (tree.Blank (Some ending)) bs) = (
-    λ silent before h out. (twice (next_standing s (tree.Blank (Some ending))) tight bs).0 false (Some (page.Blank ending)) refl out,
-    λ before h out. (twice (next_standing s (tree.Blank (Some ending))) tight bs).0 false (Some (page.Blank ending)) refl out,
+    λ silent before h l. (twice (next_standing s (tree.Blank (Some ending))) tight bs).0 false (Some (page.Blank ending)) refl l,
+    λ before h l. (twice (next_standing s (tree.Blank (Some ending))) tight bs).0 false (Some (page.Blank ending)) refl l,
   )
 
   -- the children of a document
-  pub document_same : (bs : tree.Blocks) (out : List ℕ)
-      → fold (print default) out (children_pieces m (record { top = true; tight = false }) None (read_blocks r on_page bs))
-      ≡ fold (bytes.print default) out (old.children_pieces d on_page false false bs)
-  document_same bs out = (twice on_page false bs).0 false None refl out
+  pub document_same : (bs : tree.Blocks)
+      → Alike (children_pieces m (record { top = true; tight = false }) None (read_blocks r on_page bs)) (old.children_pieces d on_page false false bs)
+  document_same bs = (twice on_page false bs).0 false None refl

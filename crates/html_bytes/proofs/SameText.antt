@@ -1,39 +1,28 @@
 -- Texts printed as pieces are the texts printed as bytes.
-use Rattle.std.proofs.Common.{◌≡◌, ℕ, Bool, true, false, cond, ◌||◌, List, [], ◌∷◌, ◌++◌, Option, None, Some, refl, sym, ap, ◌∙◌, append_assoc, codes, map}
+use Rattle.std.proofs.Common.{◌≡◌, ℕ, Bool, true, false, cond, ◌||◌, List, [], ◌∷◌, ◌++◌, Option, None, Some, refl, ap, ◌∙◌, append_assoc, codes, map}
 use Rattle.std.specs.List.{fold, flat_map}
 use Rattle.std.proofs.lemmas.List.{append-nil}
-use Rattle.std.proofs.lemmas.List.Sums.{fold-append}
 use Rattle.std.proofs.lemmas.List.Concat.{flat_map-append}
 use Rattle.markdown_options.specs.declared.configuration.Constructs.{Constructs}
 use Rattle.markdown_options.specs.declared.configuration.CompileOptions.{CompileOptions}
 use Rattle.definition_text.specs.Columns.{bytes_of, bare}
 use Rattle.definition_text.specs.Encode.{encode, encoded_byte, plain}
-use Rattle.definition_inline.specs.Inline.{Target, Linked, Inline, Data, Escape, Character, Code, Math, Autolink, Literal, Html, EscapedBreak, TrailingBreak, LineEnd, Emphasis, Strong, Strikethrough, Link, Image, Inlines, Nil, Cons}
+use Rattle.definition_inline.specs.Inline.{Linked, Inline, Data, Escape, Character, Code, Math, Autolink, Literal, Html, EscapedBreak, TrailingBreak, LineEnd, Emphasis, Strong, Strikethrough, Link, Image, Call, Inlines, Nil, Cons}
 use Rattle.definition_inline.specs.Strings.{string_text, eol_bytes}
 use Rattle.definition_page.specs.Urls.{percent, sanitized, permitted, href_protocols, src_protocols}
 use Rattle.definition_page.specs.GfmTagfilter.{filtered}
-use Rattle.definition_page.specs.Tags.{Said, Words, AsItIs, EndOfLine, said_bytes, Attribute, attribute, attribute_bytes, Tag, tag, bare_tag, start_tag, end_tag, void_tag}
-use Rattle.definition_page.specs.Pieces.{Piece, Open, Close, Void, Says, print}
+use Rattle.definition_page.specs.Tags.{Said, Words, AsItIs, EndOfLine, said_bytes, attribute, attribute_bytes, tag, bare_tag, start_tag, end_tag, void_tag}
+use Rattle.definition_inline.specs.LabelMatch.{first_match, normal_label}
+use Rattle.definition_page.specs.Layout.{laid, lay, once_more, latest_call}
+use Rattle.definition_page.specs.Pieces.{Says}
 use Rattle.definition_page.specs.InlinePieces as page
-use Rattle.definition_page.specs.InlinePieces.{Meaning, HtmlLine, html_lines, leads_to, address, literal_address, element, part_pieces, inline_pieces, part_says}
-use Rattle.html_bytes.specs.InlineHtml.{InlineMeaning, html_line_bytes, later_line_bytes, html_lines_bytes, html_text_bytes, title_attribute, titled, link_tag, image_tag, part_description, description, part_html, inline_html}
+use Rattle.definition_page.specs.InlinePieces.{Meaning, HtmlLine, html_lines, leads_to, address, literal_address, element, part_says}
+use Rattle.html_bytes.specs.InlineHtml.{html_line_bytes, later_line_bytes, html_lines_bytes, html_text_bytes, title_attribute, titled, link_tag, image_tag, part_description, description, InlineMeaning, call_at, count_at, part_counts, inline_counts, part_pieces, inline_pieces}
+use Rattle.html_bytes.specs.Pieces.{Bytes}
 use Rattle.html_bytes.specs.Meaning.{inline_meaning, link_url, image_url}
 use Rattle.html_bytes.specs.RawHtml.{raw_html}
-
--- ---- pieces that say something
-
-pub says_printed : (default out : List ℕ) (parts : List Said) → fold (print default) out (map Says parts) ≡ out ++ flat_map said_bytes parts
-says_printed default out [] = sym (append-nil out)
-says_printed default out (p ∷ ps) = says_printed default (out ++ said_bytes p) ps ∙ append_assoc out (said_bytes p) (flat_map said_bytes ps)
-
--- an element is its tags around what is printed inside
-pub element_printed : (default out : List ℕ) (t : Tag) (inside : List Piece) (shown : List ℕ)
-    → ((out : List ℕ) → fold (print default) out inside ≡ out ++ shown)
-    → fold (print default) out (element t inside) ≡ out ++ (start_tag t ++ shown ++ end_tag t.name)
-element_printed default out t inside shown h =
-    fold-append (print default) (out ++ start_tag t) inside (Close t.name ∷ [])
-    ∙ ap (λ x. x ++ end_tag t.name) (h (out ++ start_tag t) ∙ append_assoc out (start_tag t) shown)
-    ∙ append_assoc out (start_tag t ++ shown) (end_tag t.name)
+use Rattle.html_bytes.proofs.SameCalls.{call_printed}
+use Rattle.html_bytes.proofs.SameLayout.{Same, Adds, add, none_same, joined, element_same, element_added, says_added}
 
 -- ---- raw HTML
 
@@ -106,24 +95,28 @@ image_parts a s v q r d e t g = simp (append_assoc, append-nil)
 -- ---- the inline structure under the options of a document
 
 -- what is printed by, of pieces and of bytes
-abbrev pub piece_meaning : Constructs → CompileOptions → (List ℕ → Option (List ℕ)) → (List ℕ → Option Linked) → Meaning
-piece_meaning on options names definition = record { on = on; compile = options; names = names; definition = definition }
+abbrev pub piece_meaning : Constructs → CompileOptions → (List ℕ → Option (List ℕ)) → (List ℕ → Option Linked) → List (List ℕ) → Meaning
+piece_meaning on options names definition footnotes =
+    record { on = on; compile = options; names = names; definition = definition; footnotes = footnotes }
 
-title_said : (on : Constructs) (options : CompileOptions) (names : List ℕ → Option (List ℕ)) (definition : List ℕ → Option Linked) (title : Option (List ℕ))
-    → flat_map attribute_bytes (page.title_attribute (piece_meaning on options names definition) title)
-    ≡ title_attribute (inline_meaning on options names definition) title
-title_said on options names definition None = refl
-title_said on options names definition (Some title) = titled_said (string_text on names title)
+title_said : (on : Constructs) (options : CompileOptions) (names : List ℕ → Option (List ℕ)) (definition : List ℕ
+    → Option Linked) (footnotes : List (List ℕ)) (title : Option (List ℕ))
+    → flat_map attribute_bytes (page.title_attribute (piece_meaning on options names definition footnotes) title)
+    ≡ title_attribute (inline_meaning on options names definition footnotes) title
+title_said on options names definition footnotes None = refl
+title_said on options names definition footnotes (Some title) = titled_said (string_text on names title)
 
-link_said : (on : Constructs) (options : CompileOptions) (names : List ℕ → Option (List ℕ)) (definition : List ℕ → Option Linked) (target : Linked)
-    → start_tag (page.link_tag (piece_meaning on options names definition) target) ≡ link_tag (inline_meaning on options names definition) target
-link_said on options names definition target =
-    let m = piece_meaning on options names definition in
+link_said : (on : Constructs) (options : CompileOptions) (names : List ℕ → Option (List ℕ)) (definition : List ℕ
+    → Option Linked) (footnotes : List (List ℕ)) (target : Linked)
+    → start_tag (page.link_tag (piece_meaning on options names definition footnotes) target) ≡ link_tag
+    (inline_meaning on options names definition footnotes) target
+link_said on options names definition footnotes target =
+    let m = piece_meaning on options names definition footnotes in
     let url = page.url_of m target in
     let titles = flat_map attribute_bytes (page.title_attribute m target.title) in
     open_tag (codes "<a") (codes " href=\"") (encode (page.link_url options url)) (codes "\"") titles (codes ">")
     ∙ ap (λ x. codes "<a href=\"" ++ x ++ codes "\"" ++ titles ++ codes ">") (url_said options.allow_dangerous_protocol href_protocols url)
-    ∙ ap (λ x. codes "<a href=\"" ++ link_url options url ++ codes "\"" ++ x ++ codes ">") (title_said on options names definition target.title)
+    ∙ ap (λ x. codes "<a href=\"" ++ link_url options url ++ codes "\"" ++ x ++ codes ">") (title_said on options names definition footnotes target.title)
 
 autolink_said : (options : CompileOptions) (url : List ℕ)
     → codes "<a" ++ (codes " href=\"" ++ (encode (page.link_url options url) ++ []) ++ codes "\"" ++ []) ++ codes ">"
@@ -132,10 +125,12 @@ autolink_said options url =
     short_tag (codes "<a") (codes " href=\"") (encode (page.link_url options url)) (codes "\"") (codes ">")
     ∙ ap (λ x. codes "<a href=\"" ++ x ++ codes "\">") (url_said options.allow_dangerous_protocol href_protocols url)
 
-image_said : (on : Constructs) (options : CompileOptions) (names : List ℕ → Option (List ℕ)) (definition : List ℕ → Option Linked) (target : Linked) (text : List Said)
-    → void_tag (page.image_tag (piece_meaning on options names definition) target text) ≡ image_tag (inline_meaning on options names definition) target (flat_map said_bytes text)
-image_said on options names definition target text =
-    let m = piece_meaning on options names definition in
+image_said : (on : Constructs) (options : CompileOptions) (names : List ℕ → Option (List ℕ)) (definition : List ℕ
+    → Option Linked) (footnotes : List (List ℕ)) (target : Linked) (text : List Said)
+    → void_tag (page.image_tag (piece_meaning on options names definition footnotes) target text) ≡ image_tag
+    (inline_meaning on options names definition footnotes) target (flat_map said_bytes text)
+image_said on options names definition footnotes target text =
+    let m = piece_meaning on options names definition footnotes in
     let url = page.url_of m target in
     let said = flat_map said_bytes text in
     let titles = flat_map attribute_bytes (page.title_attribute m target.title) in
@@ -143,7 +138,7 @@ image_said on options names definition target text =
     ∙ ap (λ x. codes "<img src=\"" ++ x ++ codes "\" alt=\"" ++ said ++ codes "\"" ++ titles ++ codes " />")
     (url_said (options.allow_any_img_src || options.allow_dangerous_protocol) src_protocols url)
     ∙ ap (λ x. codes "<img src=\"" ++ image_url options url ++ codes "\" alt=\"" ++ said ++ codes "\"" ++ x ++ codes " />")
-    (title_said on options names definition target.title)
+    (title_said on options names definition footnotes target.title)
 
 -- ---- descriptions
 
@@ -165,6 +160,7 @@ mutual
   part_said options (Strikethrough kids) = described options kids
   part_said options (Link target kids) = described options kids
   part_said options (Image target kids) = described options kids
+  part_said options (Call label) = refl
 
   described : (options : CompileOptions) (is : Inlines) → flat_map said_bytes (page.description options is) ≡ description options is
   described options Nil = refl
@@ -175,59 +171,100 @@ mutual
 
 -- ---- pieces
 
-mutual
-  part_printed : (on : Constructs) (options : CompileOptions) (names : List ℕ → Option (List ℕ)) (definition : List ℕ → Option Linked) (default : List ℕ)
-      (i : Inline) (out : List ℕ)
-      → fold (print default) out (part_pieces (piece_meaning on options names definition) i) ≡ out ++ part_html (inline_meaning on options names definition) i
-  part_printed on options names definition default (Data b) out = ap (λ x. out ++ x) (append-nil (encoded_byte b))
-  part_printed on options names definition default (Escape b) out = ap (λ x. out ++ x) (append-nil (encoded_byte b))
-  part_printed on options names definition default (Character text) out = refl
-  part_printed on options names definition default (Code text) out =
-      element_printed default out (bare_tag (codes "code")) (Says (Words text) ∷ []) (encode text) (λ o. refl)
-  part_printed on options names definition default (Math text) out =
-      element_printed default out page.math_tag (Says (Words text) ∷ []) (encode text) (λ o. refl)
-  part_printed on options names definition default (Autolink is_email text) out =
-      let m = piece_meaning on options names definition in
-      let url = address is_email text in
-      element_printed default out (tag (codes "a") (attribute (codes "href") (page.link_url options url) ∷ [])) (Says (Words text) ∷ []) (encode text) (λ o. refl)
-      ∙ ap (λ x. out ++ (x ++ encode text ++ codes "</a>")) (autolink_said options url)
-  part_printed on options names definition default (Literal kind text) out =
-      let m = piece_meaning on options names definition in
-      let url = literal_address kind text in
-      element_printed default out (tag (codes "a") (attribute (codes "href") (page.link_url options url) ∷ [])) (Says (Words text) ∷ []) (encode text) (λ o. refl)
-      ∙ ap (λ x. out ++ (x ++ encode text ++ codes "</a>")) (autolink_said options url)
-  part_printed on options names definition default (Html html) out =
-      says_printed default out (page.html_says options html) ∙ ap (λ x. out ++ x) (html_said options html)
-  part_printed on options names definition default EscapedBreak out = refl
-  part_printed on options names definition default TrailingBreak out = refl
-  part_printed on options names definition default (LineEnd code) out = refl
-  part_printed on options names definition default (Emphasis kids) out =
-      element_printed default out (bare_tag (codes "em")) (inline_pieces (piece_meaning on options names definition) kids) (inline_html (inline_meaning on options names definition) kids)
-      (text_printed on options names definition default kids)
-  part_printed on options names definition default (Strong kids) out =
-      element_printed default out (bare_tag (codes "strong")) (inline_pieces (piece_meaning on options names definition) kids) (inline_html (inline_meaning on options names definition) kids)
-      (text_printed on options names definition default kids)
-  part_printed on options names definition default (Strikethrough kids) out =
-      element_printed default out (bare_tag (codes "del")) (inline_pieces (piece_meaning on options names definition) kids) (inline_html (inline_meaning on options names definition) kids)
-      (text_printed on options names definition default kids)
-  part_printed on options names definition default (Link target kids) out =
-      let m = piece_meaning on options names definition in
-      let shown = inline_html (inline_meaning on options names definition) kids in
-      element_printed default out (page.link_tag m (leads_to definition target)) (inline_pieces m kids) shown (text_printed on options names definition default kids)
-      ∙ ap (λ x. out ++ (x ++ shown ++ codes "</a>")) (link_said on options names definition (leads_to definition target))
-  part_printed on options names definition default (Image target kids) out =
-      ap (λ x. out ++ x)
-      (image_said on options names definition (leads_to definition target) (page.description options kids)
-      ∙ ap (image_tag (inline_meaning on options names definition) (leads_to definition target)) (described options kids))
+module _ (on : Constructs) (options : CompileOptions) (names : List ℕ → Option (List ℕ)) (definition : List ℕ → Option Linked) (footnotes : List (List ℕ))
+    (default : List ℕ) where
+  abbrev m : Meaning
+  m = piece_meaning on options names definition footnotes
 
-  pub text_printed : (on : Constructs) (options : CompileOptions) (names : List ℕ → Option (List ℕ)) (definition : List ℕ → Option Linked) (default : List ℕ)
-      (is : Inlines) (out : List ℕ)
-      → fold (print default) out (inline_pieces (piece_meaning on options names definition) is) ≡ out ++ inline_html (inline_meaning on options names definition) is
-  text_printed on options names definition default Nil out = sym (append-nil out)
-  text_printed on options names definition default (Cons i is) out =
-      let m = piece_meaning on options names definition in
-      let meaning = inline_meaning on options names definition in
-      fold-append (print default) out (part_pieces m i) (inline_pieces m is)
-      ∙ ap (λ x. fold (print default) x (inline_pieces m is)) (part_printed on options names definition default i out)
-      ∙ text_printed on options names definition default is (out ++ part_html meaning i)
-      ∙ append_assoc out (part_html meaning i) (inline_html meaning is)
+  abbrev meaning : InlineMeaning
+  meaning = inline_meaning on options names definition footnotes
+
+  -- a call that is found among the footnotes
+  call_same : (place : Option ℕ) (label : List ℕ) → Same options default (page.call_at place label) (call_at place label)
+  call_same None label l = refl
+  call_same (Some place) label l =
+      let called = once_more place label l.called in
+      ap (λ t. laid t l.outer l.notes called) (call_printed options (latest_call place 1 called) default l.text)
+
+  count_same : (place : Option ℕ) (label : List ℕ) → Same options default (page.count_at place label) (count_at place label)
+  count_same None label l = refl
+  count_same (Some place) label l = refl
+
+  -- a link of a text, by its address
+  linked_added : (url text : List ℕ)
+      → Adds options default (element (tag (codes "a") (attribute (codes "href") (page.link_url options url) ∷ [])) (Says (Words text) ∷ []))
+      (codes "<a href=\"" ++ link_url options url ++ codes "\">" ++ encode text ++ codes "</a>")
+  linked_added url text l =
+      element_added options default (tag (codes "a") (attribute (codes "href") (page.link_url options url) ∷ [])) (Says (Words text) ∷ []) (encode text)
+      (λ o. refl) l
+      ∙ ap (add l) (ap (λ x. x ++ encode text ++ codes "</a>") (autolink_said options url) ∙ address_moved (link_url options url) (encode text))
+    where
+      address_moved : (x t : List ℕ)
+          → (codes "<a href=\"" ++ x ++ codes "\">") ++ t ++ codes "</a>" ≡ codes "<a href=\"" ++ x ++ codes "\">" ++ t ++ codes "</a>"
+      address_moved x t = simp append_assoc
+
+  mutual
+    counts_same : (i : Inline) → Same options default (page.part_counts m i) (part_counts meaning i)
+    counts_same (Data b) = none_same options default
+    counts_same (Escape b) = none_same options default
+    counts_same (Character text) = none_same options default
+    counts_same (Code text) = none_same options default
+    counts_same (Math text) = none_same options default
+    counts_same (Autolink is_email text) = none_same options default
+    counts_same (Literal kind text) = none_same options default
+    counts_same (Html html) = none_same options default
+    counts_same EscapedBreak = none_same options default
+    counts_same TrailingBreak = none_same options default
+    counts_same (LineEnd code) = none_same options default
+    counts_same (Emphasis kids) = all_counts_same kids
+    counts_same (Strong kids) = all_counts_same kids
+    counts_same (Strikethrough kids) = all_counts_same kids
+    counts_same (Link target kids) = all_counts_same kids
+    counts_same (Image target kids) = all_counts_same kids
+    counts_same (Call label) = count_same (first_match label footnotes) (normal_label label)
+
+    pub all_counts_same : (is : Inlines) → Same options default (page.inline_counts m is) (inline_counts meaning is)
+    all_counts_same Nil = none_same options default
+    all_counts_same (Cons i is) =
+        joined options default (page.part_counts m i) (page.inline_counts m is) (part_counts meaning i) (inline_counts meaning is) (counts_same i)
+        (all_counts_same is)
+
+  -- emphasis and its like
+  span_same : (name : List ℕ) (kids : Inlines) → Same options default (page.inline_pieces m kids) (inline_pieces meaning kids)
+      → Same options default (element (bare_tag name) (page.inline_pieces m kids))
+      (Bytes (start_tag (bare_tag name)) ∷ inline_pieces meaning kids ++ Bytes (end_tag name) ∷ [])
+  span_same name kids h =
+      element_same options default (bare_tag name) (start_tag (bare_tag name)) (end_tag name) (page.inline_pieces m kids)
+      (inline_pieces meaning kids) refl refl h
+
+  mutual
+    part_same : (i : Inline) → Same options default (page.part_pieces m i) (part_pieces meaning i)
+    part_same (Data b) l = ap (add l) (append-nil (encoded_byte b))
+    part_same (Escape b) l = ap (add l) (append-nil (encoded_byte b))
+    part_same (Character text) l = refl
+    part_same (Code text) l = element_added options default (bare_tag (codes "code")) (Says (Words text) ∷ []) (encode text) (λ o. refl) l
+    part_same (Math text) l = element_added options default page.math_tag (Says (Words text) ∷ []) (encode text) (λ o. refl) l
+    part_same (Autolink is_email text) l = linked_added (address is_email text) text l
+    part_same (Literal kind text) l = linked_added (literal_address kind text) text l
+    part_same (Html html) l = says_added options default (page.html_says options html) l ∙ ap (add l) (html_said options html)
+    part_same EscapedBreak l = refl
+    part_same TrailingBreak l = refl
+    part_same (LineEnd code) l = refl
+    part_same (Emphasis kids) l = span_same (codes "em") kids (text_same kids) l
+    part_same (Strong kids) l = span_same (codes "strong") kids (text_same kids) l
+    part_same (Strikethrough kids) l = span_same (codes "del") kids (text_same kids) l
+    part_same (Link target kids) l =
+        element_same options default (page.link_tag m (leads_to definition target)) (link_tag meaning (leads_to definition target)) (codes "</a>")
+        (page.inline_pieces m kids) (inline_pieces meaning kids) (link_said on options names definition footnotes (leads_to definition target)) refl
+        (text_same kids) l
+    part_same (Image target kids) l =
+        ap (λ x. fold (lay options default) (add l x) (page.inline_counts m kids))
+        (image_said on options names definition footnotes (leads_to definition target) (page.description options kids)
+        ∙ ap (image_tag meaning (leads_to definition target)) (described options kids))
+        ∙ all_counts_same kids (add l (image_tag meaning (leads_to definition target) (description options kids)))
+    part_same (Call label) l = call_same (first_match label footnotes) (normal_label label) l
+
+    pub text_same : (is : Inlines) → Same options default (page.inline_pieces m is) (inline_pieces meaning is)
+    text_same Nil = none_same options default
+    text_same (Cons i is) =
+        joined options default (page.part_pieces m i) (page.inline_pieces m is) (part_pieces meaning i) (inline_pieces meaning is) (part_same i) (text_same is)

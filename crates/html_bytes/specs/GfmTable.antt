@@ -8,7 +8,7 @@ use Rattle.definition_block.specs.declared.align_kind.AlignKind.{AlignKind}
 use Rattle.definition_block.specs.declared.align_kind.AlignKind.TheVariants as align
 use Rattle.definition_block.specs.GfmTable.{Cell, line_cells}
 use Rattle.definition_page.specs.GfmTable.{head_line, delimiter_line, body_lines, line_aligns}
-use Rattle.html_bytes.specs.Document.{Document, cell_of}
+use Rattle.html_bytes.specs.Document.{Document, cell_of, cell_counts}
 use Rattle.html_bytes.specs.Pieces.{Piece, Bytes, Fresh}
 
 -- the attribute of a cell in a column that is aligned
@@ -27,14 +27,14 @@ cell_end name = codes "</" ++ name ++ codes ">"
 
 -- a cell, and one that is missing
 abbrev pub cell_pieces : Document → List ℕ → AlignKind → Cell → List Piece
-cell_pieces d name align c = Fresh ∷ Bytes (cell_tag name align) ∷ Bytes (cell_of d c) ∷ Bytes (cell_end name) ∷ []
+cell_pieces d name align c = Fresh ∷ Bytes (cell_tag name align) ∷ cell_of d c ++ Bytes (cell_end name) ∷ []
 
 abbrev pub missing_pieces : List ℕ → AlignKind → List Piece
 missing_pieces name align = Fresh ∷ Bytes (cell_tag name align) ∷ Bytes (cell_end name) ∷ []
 
--- the cells of a row, one for each column
+-- the cells of a row, one for each column: more aren't printed, but the calls of footnotes in them count
 abbrev pub cells_pieces : Document → List ℕ → List AlignKind → List Cell → List Piece
-cells_pieces d name [] cs = []
+cells_pieces d name [] cs = flat_map (cell_counts d) cs
 cells_pieces d name (align ∷ aligns) [] = missing_pieces name align ++ cells_pieces d name aligns []
 cells_pieces d name (align ∷ aligns) (c ∷ cs) = cell_pieces d name align c ++ cells_pieces d name aligns cs
 

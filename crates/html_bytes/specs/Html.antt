@@ -15,12 +15,13 @@ use Rattle.html_bytes.specs.RawHtml.{raw_html}
 use Rattle.definition_text.specs.BlockLines.{BlockLine, own_lines}
 use Rattle.definition_block.specs.Tree.{Block, Paragraph, Heading, Break, IndentedCode, FencedCode, Html, Table, Definition, Holds, Items, Ending, Blank, Blocks, Nil, Cons, is_ending, blocks}
 use Rattle.definition_block.specs.Lists.{grouped, is_loose}
-use Rattle.definition_page.specs.Targets.{document_definitions}
+use Rattle.definition_page.specs.Targets.{document_targets}
 use Rattle.definition_page.specs.TextTables.{TextTables}
 use Rattle.definition_page.specs.Read.{Standing, on_page, in_container, in_item, next_standing, list_number, ends_blank}
 use Rattle.html_bytes.specs.Document.{Document, document, text_of, paragraph_of, info_of}
 use Rattle.html_bytes.specs.GfmTable.{table_pieces}
-use Rattle.html_bytes.specs.Pieces.{Piece, Bytes, Eol, Fresh, layout}
+use Rattle.html_bytes.specs.Pieces.{Piece, Bytes, Eol, Fresh, NoteStart, NoteEnd}
+use Rattle.html_bytes.specs.Layout.{page_layout}
 
 -- ---- lines
 
@@ -100,9 +101,9 @@ abbrev mutual
   pub block_pieces : Document → Standing → Bool → Bool → Block → List Piece
   block_pieces d standing tight silent (Paragraph ls) =
       let text = paragraph_of d standing.first ls in
-      if tight then Bytes text ∷ [] else Fresh ∷ Bytes (codes "<p>") ∷ Bytes text ∷ Bytes (codes "</p>") ∷ []
+      if tight then text else Fresh ∷ Bytes (codes "<p>") ∷ text ++ Bytes (codes "</p>") ∷ []
   block_pieces d standing tight silent (Heading rank ls) =
-      Fresh ∷ Bytes (heading_tag rank) ∷ Bytes (text_of d ls) ∷ Bytes (heading_end rank) ∷ []
+      Fresh ∷ Bytes (heading_tag rank) ∷ text_of d ls ++ Bytes (heading_end rank) ∷ []
   block_pieces d standing tight silent Break = Fresh ∷ Bytes (codes "<hr />") ∷ []
   block_pieces d standing tight silent (IndentedCode ls) =
       Fresh ∷ Bytes (codes "<pre><code>") ∷ Bytes (code_of ls) ∷ Fresh ∷ Bytes (codes "</code></pre>") ∷ []
@@ -116,7 +117,7 @@ abbrev mutual
       Fresh ∷ Bytes (codes "<blockquote>") ∷ children_pieces d in_container false false kids ++ Fresh ∷ Bytes (codes "</blockquote>") ∷ []
   block_pieces d standing tight silent (Holds (Item item) kids) =
       Fresh ∷ Bytes (codes "<li>") ∷ children_pieces d in_item tight false kids ++ fresh_unless (ends_tight tight true kids) ++ Bytes (codes "</li>") ∷ []
-  block_pieces d standing tight silent (Holds (Footnote label) kids) = []
+  block_pieces d standing tight silent (Holds (Footnote label) kids) = NoteStart ∷ children_pieces d in_container false false kids ++ NoteEnd ∷ []
   block_pieces d standing tight silent (Items items) =
       Fresh ∷ Bytes (number_tag (list_number items)) ∷ children_pieces d in_container (not (is_loose items)) false items
       ++ Eol ∷ Bytes (number_end (list_number items)) ∷ []
@@ -142,7 +143,8 @@ default_ending options text = unwrap_or (first_line text).ending options.compile
 
 -- the HTML of blocks, by all definitions among them
 abbrev pub blocks_html : TextTables → Options → LineEnding → Blocks → List ℕ
-blocks_html tables options ending bs = layout (ending_bytes ending) (document_pieces (document options tables (document_definitions bs)) bs)
+blocks_html tables options ending bs =
+    page_layout options.compile (ending_bytes ending) (document_pieces (document options tables (document_targets bs)) bs)
 
 -- the HTML of a text without a byte order mark, after a character of this kind
 abbrev pub marked_html : TextTables → Kind → List ℕ → Options → List ℕ

@@ -7,15 +7,18 @@ use Rattle.definition_text.specs.Columns.{bytes_of, bare}
 use Rattle.definition_text.specs.Encode.{encode, encoded_byte, plain}
 use Rattle.definition_page.specs.InlinePieces.{HtmlLine, html_lines, leads_to, address, literal_address}
 use Rattle.html_bytes.specs.RawHtml.{raw_html}
-use Rattle.definition_inline.specs.Inline.{Linked, Inline, Data, Escape, Character, Code, Math, Autolink, Literal, Html, EscapedBreak, TrailingBreak, LineEnd, Emphasis, Strong, Strikethrough, Link, Image, Inlines, Nil, Cons}
+use Rattle.html_bytes.specs.Pieces.{Piece, Bytes, CallOf, CountOf}
+use Rattle.definition_inline.specs.LabelMatch.{first_match, normal_label}
+use Rattle.definition_inline.specs.Inline.{Linked, Inline, Data, Escape, Character, Code, Math, Autolink, Literal, Html, EscapedBreak, TrailingBreak, LineEnd, Emphasis, Strong, Strikethrough, Link, Image, Call, Inlines, Nil, Cons}
 use Rattle.definition_inline.specs.Strings.{string_text, eol_bytes}
 
--- what is printed is given by: the options, the texts of named characters, what the definition of a label leads to, and how the URL of a link and of an image is printed as a value of its attribute
+-- what is printed is given by: the options, the texts of named characters, what the definition of a label leads to, the labels of footnotes in the order in which these end, and how the URL of a link and of an image is printed as a value of its attribute
 pub record InlineMeaning : Type 0 where
   pub on : Constructs
   pub compile : CompileOptions
   pub names : List ℕ → Option (List ℕ)
   pub definition : List ℕ → Option Linked
+  pub footnotes : List (List ℕ)
   pub link_url : List ℕ → List ℕ
   pub image_url : List ℕ → List ℕ
 
@@ -70,12 +73,13 @@ abbrev mutual
   part_description options (Strikethrough kids) = description options kids
   part_description options (Link target kids) = description options kids
   part_description options (Image target kids) = description options kids
+  part_description options (Call label) = []
 
   pub description : CompileOptions → Inlines → List ℕ
   description options Nil = []
   description options (Cons i is) = part_description options i ++ description options is
 
--- ---- HTML
+-- ---- HTML without calls of footnotes, which print a number
 
 -- the start tag of a link (CommonMark 6.3)
 abbrev pub link_tag : InlineMeaning → Linked → List ℕ
@@ -109,11 +113,56 @@ abbrev mutual
   part_html meaning (Strikethrough kids) = codes "<del>" ++ inline_html meaning kids ++ codes "</del>"
   part_html meaning (Link target kids) = link_tag meaning (leads_to meaning.definition target) ++ inline_html meaning kids ++ codes "</a>"
   part_html meaning (Image target kids) = image_tag meaning (leads_to meaning.definition target) (description meaning.compile kids)
+  part_html meaning (Call label) = []
 
   -- the HTML of parts, one after another
   pub inline_html : InlineMeaning → Inlines → List ℕ
   inline_html meaning Nil = []
   inline_html meaning (Cons i is) = part_html meaning i ++ inline_html meaning is
+
+-- ---- pieces
+
+-- a call of the footnote at this place
+abbrev pub call_at : Option ℕ → List ℕ → List Piece
+call_at None label = []
+call_at (Some place) label = CallOf place label ∷ []
+
+abbrev pub count_at : Option ℕ → List ℕ → List Piece
+count_at None label = []
+count_at (Some place) label = CountOf place label ∷ []
+
+abbrev mutual
+  -- the calls in the description of an image: they count
+  pub part_counts : InlineMeaning → Inline → List Piece
+  part_counts meaning (Emphasis kids) = inline_counts meaning kids
+  part_counts meaning (Strong kids) = inline_counts meaning kids
+  part_counts meaning (Strikethrough kids) = inline_counts meaning kids
+  part_counts meaning (Link target kids) = inline_counts meaning kids
+  part_counts meaning (Image target kids) = inline_counts meaning kids
+  part_counts meaning (Call label) = count_at (first_match label meaning.footnotes) (normal_label label)
+  part_counts meaning i = []
+
+  pub inline_counts : InlineMeaning → Inlines → List Piece
+  inline_counts meaning Nil = []
+  inline_counts meaning (Cons i is) = part_counts meaning i ++ inline_counts meaning is
+
+abbrev mutual
+  -- what a part prints (CommonMark 6)
+  pub part_pieces : InlineMeaning → Inline → List Piece
+  part_pieces meaning (Emphasis kids) = Bytes (codes "<em>") ∷ inline_pieces meaning kids ++ Bytes (codes "</em>") ∷ []
+  part_pieces meaning (Strong kids) = Bytes (codes "<strong>") ∷ inline_pieces meaning kids ++ Bytes (codes "</strong>") ∷ []
+  part_pieces meaning (Strikethrough kids) = Bytes (codes "<del>") ∷ inline_pieces meaning kids ++ Bytes (codes "</del>") ∷ []
+  part_pieces meaning (Link target kids) =
+      Bytes (link_tag meaning (leads_to meaning.definition target)) ∷ inline_pieces meaning kids ++ Bytes (codes "</a>") ∷ []
+  part_pieces meaning (Image target kids) =
+      Bytes (image_tag meaning (leads_to meaning.definition target) (description meaning.compile kids)) ∷ inline_counts meaning kids
+  part_pieces meaning (Call label) = call_at (first_match label meaning.footnotes) (normal_label label)
+  part_pieces meaning i = Bytes (part_html meaning i) ∷ []
+
+  -- what parts print, one after another
+  pub inline_pieces : InlineMeaning → Inlines → List Piece
+  inline_pieces meaning Nil = []
+  inline_pieces meaning (Cons i is) = part_pieces meaning i ++ inline_pieces meaning is
 
 -- ---- check boxes
 

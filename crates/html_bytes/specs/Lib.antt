@@ -7,3 +7,4 @@ pub mod GfmTable
 pub mod Html
 pub mod GfmLabelStartFootnote
 pub mod GfmFootnoteDefinition
+pub mod Layout

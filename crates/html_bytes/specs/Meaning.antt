@@ -15,6 +15,14 @@ abbrev pub image_url : CompileOptions → List ℕ → List ℕ
 image_url options url =
     if options.allow_any_img_src || options.allow_dangerous_protocol then sanitized url else sanitized_with src_protocols url
 
-abbrev pub inline_meaning : Constructs → CompileOptions → (List ℕ → Option (List ℕ)) → (List ℕ → Option Linked) → InlineMeaning
-inline_meaning on options names definition =
-    record { on = on; compile = options; names = names; definition = definition; link_url = link_url options; image_url = image_url options }
+abbrev pub inline_meaning : Constructs → CompileOptions → (List ℕ → Option (List ℕ)) → (List ℕ → Option Linked) → List (List ℕ) → InlineMeaning
+inline_meaning on options names definition footnotes =
+    record {
+      on = on;
+      compile = options;
+      names = names;
+      definition = definition;
+      footnotes = footnotes;
+      link_url = link_url options;
+      image_url = image_url options;
+    }

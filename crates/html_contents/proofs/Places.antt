@@ -9,7 +9,7 @@ use Rattle.inline_rows.specs.declared.row.Linked.{Linked}
 use Rattle.inline_rows.specs.declared.row.LinkTarget.{LinkTarget}
 use Rattle.inline_rows.specs.declared.row.LinkTarget.TheVariants.{Resource, Definition as ByPlace}
 use Rattle.inline_rows.specs.declared.row.InlineRow.{InlineRow}
-use Rattle.inline_rows.specs.declared.row.InlineRow.TheVariants.{Text, Leaf, EnterSpan, EnterLink, EnterImage, Exit}
+use Rattle.inline_rows.specs.declared.row.InlineRow.TheVariants.{Text, Leaf, EnterSpan, EnterLink, EnterImage, Call, Exit}
 use Rattle.inline_rows.specs.View.{linked_view, target_linked, row_view, rows_view}
 use Rattle.inline_rows.specs.InlineRows as rows
 use Rattle.html_inline.specs.Opens.{nowhere, place_linked}
@@ -31,6 +31,7 @@ module _ (at beside : ℕ → inline.Linked) (same : (place : ℕ) → at place 
   same_row (EnterSpan span) = refl
   same_row (EnterLink target) = ap (λ l. rows.EnterLink l ∷ []) (same_target target)
   same_row (EnterImage target) = ap (λ l. rows.EnterImage l ∷ []) (same_target target)
+  same_row (Call label) = refl
   same_row Exit = refl
 
   pub same_rows : (rs : List InlineRow) → rows_view at rs ≡ rows_view beside rs

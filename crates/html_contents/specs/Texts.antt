@@ -1,22 +1,31 @@
 -- What the texts of a document are read by.
-use Rattle.std.specs.Prelude.{◌≡◌, List, map}
+use Rattle.std.specs.Prelude.{◌≡◌, ℕ, List, OnOk, Result, map}
+use Rattle.std.specs.List.{fold}
 use Rattle.definition_inline.specs.Inline as inline
 use Rattle.definition_inline.specs.Definition.{Definition}
-use Rattle.definition_page.specs.Targets.{labels_of}
-use Rattle.inline_labels.specs.declared.table.LabelTable.{LabelTable}
-use Rattle.inline_labels.specs.Table.{HasLabels}
+use Rattle.definition_page.specs.Targets.{Targets}
+use Rattle.inline_parser.specs.Scanned.{HasTargets}
 use Rattle.inline_rows.specs.declared.row.Linked.{Linked}
 use Rattle.inline_rows.specs.View.{linked_view}
 use Rattle.markdown_options.specs.declared.tables.Tables as tables
 use Rattle.definition_page.specs.TextTables.{text_tables}
 use Rattle.html_bytes.specs.Document.{Document, document}
+use Rattle.html_bytes.specs.Layout.{lay}
+use Rattle.html_bytes.specs.Pieces.{Piece}
+use Rattle.html_footnotes.specs.Output.{output_view}
+use Rattle.html_footnotes.specs.declared.output.Output.{Output}
 use Rattle.html_contents.specs.declared.texts.Texts.{Texts}
 
--- a table has the labels of a document's definitions, and these links lead where they do, in their order
-pub record HasDefinitions {A : Type 0} (labels : LabelTable A) (links : List Linked) (ds : List Definition) : Type 0 where
-  pub has_labels : HasLabels labels (labels_of ds)
-  pub leads : map linked_view links ≡ map (λ (d : Definition). inline.linked d.destination d.title) ds
+-- texts are read by tables with the labels of these targets, and by links that lead where the definitions among them do, in their order
+pub record KnowsTargets {T A : Type 0} (texts : Texts T A) (ds : Targets) : Type 0 where
+  pub has_labels : HasTargets texts.labels.now texts.footnotes.now ds
+  pub leads : map linked_view texts.links.now ≡ map (λ (d : Definition). inline.linked d.destination d.title) ds.definitions
 
--- the document whose texts are read by these, with its definitions
-abbrev pub document_by : {T A : Type 0} → tables.Ghosts T → Texts T A → List Definition → Document
+-- the document whose texts are read by these, with what its labels lead to
+abbrev pub document_by : {T A : Type 0} → tables.Ghosts T → Texts T A → Targets → Document
 document_by g texts ds = document texts.options.now (text_tables (g.reference_of texts.tables.now) (g.punctuation_of texts.tables.now)) ds
+
+-- these pieces and no others of a document are laid out, whatever the default ending, unless memory ran out
+abbrev pub LaysOut : {A B C : Type 0} → Document → Result B C → Output A → Output A → List Piece → Type 0
+LaysOut d result old new pieces =
+    (default : List ℕ) → OnOk result (output_view new ≡ fold (lay d.options.compile default) (output_view old) pieces)

@@ -1,7 +1,6 @@
 //! The cells of tables (GFM 4.10).
-ghost use Rattle.std.specs.Prelude.{◌≡◌, ◌++◌, OnOk, string_bytes};
-ghost use Rattle.html_bytes.specs.Document.{cell_of};
-ghost use Rattle.definition_inline.specs.Definition.{Definition};
+ghost use Rattle.html_bytes.specs.Document.{cell_counts, cell_of};
+ghost use Rattle.definition_page.specs.Targets.{Targets};
 ghost use Rattle.block_rows.specs.ParagraphLines.{HaveNoEnding};
 ghost use Rattle.block_rows.specs.Rows.{piece_line};
 ghost use Rattle.block_cells.specs.GfmTable.{cell_view};
@@ -9,26 +8,43 @@ ghost use Rattle.block_cells.specs.GfmTable.{cell_view};
 use crate::buffers::TextBuffers;
 use crate::texts::Texts;
 use block_cells::Cell;
+use html_footnotes::Output;
 use markdown_options::Tables;
 use std::alloc::{AllocError, Allocator};
 
 impl<'a, T: Tables, A: Allocator + Clone> Texts<'a, T, A> {
     ghost use Rattle.std.specs.Prelude.{List};
-    ghost use Rattle.html_contents.specs.Texts.{HasDefinitions, document_by};
+    ghost use Rattle.html_contents.specs.Texts.{KnowsTargets, LaysOut, document_by};
 
     /// Prints the text of a cell (GFM 4.10).
     pub fn push_cell(
         &self,
-        out: &mut String<A>,
+        out: &mut Output<A>,
         buffers: &mut TextBuffers<A>,
         cell: &Cell<'_>,
     ) -> Result<(), AllocError>
-        ensures { (ds : List Definition) → HasDefinitions self.now.labels.now self.now.links.now ds → HaveNoEnding (piece_line cell.now.line).codes →
-            OnOk result (string_bytes out.new ≡ string_bytes out.old ++ cell_of (document_by T.Tables self.now ds) (cell_view cell.now)) }
+        ensures { (ds : Targets) → KnowsTargets self.now ds → HaveNoEnding (piece_line cell.now.line).codes →
+            let d = document_by T.Tables self.now ds in LaysOut d result out.old out.new (cell_of d (cell_view cell.now)) }
     {
         let lines = [cell.line];
         buffers.content.join(&lines)?;
         let content = buffers.content.content(cell.after);
         self.push_content(out, &mut buffers.scratch, &mut buffers.room, true, content)
+    }
+    /// Counts the calls of footnotes in a cell that isn't printed, since it stands beyond the columns
+    /// of its table (GFM 4.10).
+    pub fn count_cell(
+        &self,
+        out: &mut Output<A>,
+        buffers: &mut TextBuffers<A>,
+        cell: &Cell<'_>,
+    ) -> Result<(), AllocError>
+        ensures { (ds : Targets) → KnowsTargets self.now ds → HaveNoEnding (piece_line cell.now.line).codes →
+            let d = document_by T.Tables self.now ds in LaysOut d result out.old out.new (cell_counts d (cell_view cell.now)) }
+    {
+        let lines = [cell.line];
+        buffers.content.join(&lines)?;
+        let content = buffers.content.content(cell.after);
+        self.count_content(out, &mut buffers.scratch, &mut buffers.room, content)
     }
 }

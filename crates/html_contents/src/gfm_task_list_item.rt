@@ -1,6 +1,6 @@
 //! Paragraphs that may begin with a check (GFM 5.3).
-ghost use Rattle.std.specs.Prelude.{◌≡◌, ◌++◌, List, OnOk, string_bytes};
-ghost use Rattle.definition_inline.specs.Definition.{Definition};
+ghost use Rattle.std.specs.Prelude.{List};
+ghost use Rattle.definition_page.specs.Targets.{Targets};
 ghost use Rattle.definition_inline.specs.GfmTaskListItem.{check_at};
 ghost use Rattle.definition_inline.specs.Scan.{unindented};
 ghost use Rattle.definition_text.specs.InlineCode.{codes_of};
@@ -8,6 +8,7 @@ ghost use Rattle.html_bytes.specs.Document.{checked_text};
 ghost use Rattle.inline_content.specs.View.{content_view};
 
 use crate::texts::Texts;
+use html_footnotes::Output;
 use html_inline::{Scratch, push_check};
 use inline_content::Content;
 use inline_leaves::gfm_task_list_item::check_at;
@@ -16,29 +17,29 @@ use markdown_options::Tables;
 use std::alloc::{AllocError, Allocator};
 
 impl<'a, T: Tables, A: Allocator + Clone> Texts<'a, T, A> {
-    ghost use Rattle.html_contents.specs.Texts.{HasDefinitions, document_by};
+    ghost use Rattle.html_contents.specs.Texts.{KnowsTargets, LaysOut, document_by};
 
     /// Prints the content of a paragraph, which has a check where it is the first block of an item
     /// and begins with one (GFM 5.3).
     pub(crate) fn push_checked(
         &self,
-        out: &mut String<A>,
+        out: &mut Output<A>,
         scratch: &mut Scratch<A>,
         room: &mut Room<A>,
         first: bool,
         content: Content<'_>,
     ) -> Result<(), AllocError>
-        ensures { (ds : List Definition) → HasDefinitions self.now.labels.now self.now.links.now ds →
+        ensures { (ds : Targets) → KnowsTargets self.now ds →
             let d = document_by T.Tables self.now ds in
             let codes = unindented (content_view (T.punctuation_of self.now.tables.now) content.entry) in
             let text = checked_text d codes (check_at self.now.options.now.parse.constructs first (codes_of codes)) in
-            OnOk result (string_bytes out.new ≡ string_bytes out.old ++ text) }
+            LaysOut d result out.old out.new text }
     {
         let start = content_start(content);
         match check_at(&self.options.parse.constructs, first, start) {
             None => self.push_from(out, scratch, room, false, content, start),
             Some(check) => {
-                push_check(out, &self.options.compile, check.done)?;
+                push_check(&mut out.html, &self.options.compile, check.done)?;
                 self.push_from(out, scratch, room, false, content, check.after)
             }
         }

@@ -1,9 +1,9 @@
 //! The texts of paragraphs, headings and info strings (CommonMark 4.2, 4.3, 4.5 and 4.8).
-ghost use Rattle.std.specs.Prelude.{◌≡◌, ◌++◌, ◌∷◌, [], List, OnOk, string_bytes};
+ghost use Rattle.std.specs.Prelude.{◌≡◌, ◌++◌, ◌∷◌, [], List, OnOk, string_bytes, true};
 ghost use Rattle.html_bytes.specs.Document.{context_of, meaning_of, text_of, paragraph_of, info_of};
 ghost use Rattle.definition_text.specs.Encode.{encode};
-ghost use Rattle.html_bytes.specs.InlineHtml.{inline_html};
-ghost use Rattle.definition_inline.specs.Definition.{Definition};
+ghost use Rattle.html_bytes.specs.InlineHtml.{inline_counts, inline_pieces};
+ghost use Rattle.definition_page.specs.Targets.{Targets};
 ghost use Rattle.block_rows.specs.ParagraphLines.{HaveNoEnding, AreLines};
 ghost use Rattle.block_rows.specs.Rows.{piece_line, piece_lines, whole_lines};
 ghost use Rattle.definition_inline.specs.Scan.{inlines, inlines_from};
@@ -15,7 +15,8 @@ ghost use Rattle.html_inline.specs.GfmTable.{shown};
 use crate::buffers::TextBuffers;
 use block_rows::Piece;
 use definition_text::Kind;
-use html_inline::{Printing, Scratch, push_encoded_string, push_rows};
+use html_footnotes::Output;
+use html_inline::{Printing, Scratch, count_rows, push_encoded_string, push_rows};
 use inline_content::{Content, whole_content};
 use inline_labels::LabelTable;
 use inline_parser::{Room, content_start, inline_rows};
@@ -30,22 +31,24 @@ pub struct Texts<'a, T, A: Allocator + Clone> {
     pub tables: &'a T,
     /// The labels of the document's link reference definitions.
     pub labels: &'a LabelTable<A>,
-    /// Where those lead, in the order of the text.
+    /// The labels of its footnote definitions.
+    pub footnotes: &'a LabelTable<A>,
+    /// Where the link reference definitions lead, in the order of the text.
     pub links: &'a [Linked<'a>],
 }
 
 impl<'a, T: Tables, A: Allocator + Clone> Texts<'a, T, A> {
-    ghost use Rattle.html_contents.specs.Texts.{HasDefinitions, document_by};
+    ghost use Rattle.html_contents.specs.Texts.{KnowsTargets, LaysOut, document_by};
 
     /// Prints the text of a heading's lines, without the last ending (CommonMark 4.3).
     pub fn push_text(
         &self,
-        out: &mut String<A>,
+        out: &mut Output<A>,
         buffers: &mut TextBuffers<A>,
         lines: &[Piece<'_>],
     ) -> Result<(), AllocError>
-        ensures { (ds : List Definition) → HasDefinitions self.now.labels.now self.now.links.now ds → AreLines (piece_lines lines.now) →
-            OnOk result (string_bytes out.new ≡ string_bytes out.old ++ text_of (document_by T.Tables self.now ds) (own_lines (piece_lines lines.now))) }
+        ensures { (ds : Targets) → KnowsTargets self.now ds → AreLines (piece_lines lines.now) →
+            let d = document_by T.Tables self.now ds in LaysOut d result out.old out.new (text_of d (own_lines (piece_lines lines.now))) }
     {
         buffers.content.join(lines)?;
         let content = buffers.content.content(Kind::Whitespace);
@@ -56,14 +59,14 @@ impl<'a, T: Tables, A: Allocator + Clone> Texts<'a, T, A> {
     /// the first block of an item and begins with one (CommonMark 4.8 and GFM 5.3).
     pub fn push_paragraph(
         &self,
-        out: &mut String<A>,
+        out: &mut Output<A>,
         buffers: &mut TextBuffers<A>,
         first: bool,
         lines: &[Piece<'_>],
     ) -> Result<(), AllocError>
-        ensures { (ds : List Definition) → HasDefinitions self.now.labels.now self.now.links.now ds → AreLines (piece_lines lines.now) →
-            let text = paragraph_of (document_by T.Tables self.now ds) first (own_lines (piece_lines lines.now)) in
-            OnOk result (string_bytes out.new ≡ string_bytes out.old ++ text) }
+        ensures { (ds : Targets) → KnowsTargets self.now ds → AreLines (piece_lines lines.now) →
+            let d = document_by T.Tables self.now ds in
+            LaysOut d result out.old out.new (paragraph_of d first (own_lines (piece_lines lines.now))) }
     {
         buffers.content.join(lines)?;
         let content = buffers.content.content(Kind::Whitespace);
@@ -73,12 +76,12 @@ impl<'a, T: Tables, A: Allocator + Clone> Texts<'a, T, A> {
     /// Prints the text of one line, which may be empty, without its ending (CommonMark 4.2).
     pub fn push_line(
         &self,
-        out: &mut String<A>,
+        out: &mut Output<A>,
         buffers: &mut TextBuffers<A>,
         line: &Piece<'_>,
     ) -> Result<(), AllocError>
-        ensures { (ds : List Definition) → HasDefinitions self.now.labels.now self.now.links.now ds → HaveNoEnding (piece_line line.now).codes →
-            OnOk result (string_bytes out.new ≡ string_bytes out.old ++ text_of (document_by T.Tables self.now ds) (own_lines (piece_line line.now ∷ []))) }
+        ensures { (ds : Targets) → KnowsTargets self.now ds → HaveNoEnding (piece_line line.now).codes →
+            let d = document_by T.Tables self.now ds in LaysOut d result out.old out.new (text_of d (own_lines (piece_line line.now ∷ []))) }
     {
         let lines = [*line];
         buffers.content.join(&lines)?;
@@ -90,15 +93,15 @@ impl<'a, T: Tables, A: Allocator + Clone> Texts<'a, T, A> {
     /// 4.8 and GFM 5.3).
     pub fn push_whole(
         &self,
-        out: &mut String<A>,
+        out: &mut Output<A>,
         buffers: &mut TextBuffers<A>,
         first: bool,
         count: usize,
         text: &str,
     ) -> Result<(), AllocError>
-        ensures { (ds : List Definition) → HasDefinitions self.now.labels.now self.now.links.now ds →
-            let said = paragraph_of (document_by T.Tables self.now ds) first (own_lines (whole_lines count text.now)) in
-            OnOk result (string_bytes out.new ≡ string_bytes out.old ++ said) }
+        ensures { (ds : Targets) → KnowsTargets self.now ds →
+            let d = document_by T.Tables self.now ds in
+            LaysOut d result out.old out.new (paragraph_of d first (own_lines (whole_lines count text.now))) }
     {
         let content = whole_content(count, text);
         self.push_checked(out, &mut buffers.scratch, &mut buffers.room, first, content)
@@ -106,7 +109,7 @@ impl<'a, T: Tables, A: Allocator + Clone> Texts<'a, T, A> {
 
     /// Prints what an info string, which has no line ending, stands for (CommonMark 4.5).
     pub fn push_info(&self, out: &mut String<A>, info: &str) -> Result<(), AllocError>
-        ensures { (ds : List Definition) → HaveNoEnding info.now →
+        ensures { (ds : Targets) → HaveNoEnding info.now →
             OnOk result (string_bytes out.new ≡ string_bytes out.old ++ encode (info_of (document_by T.Tables self.now ds) info.now)) }
     {
         push_encoded_string(out, &self.options.parse.constructs, self.tables, info)
@@ -115,16 +118,16 @@ impl<'a, T: Tables, A: Allocator + Clone> Texts<'a, T, A> {
     /// Prints the inline structure of a content, in a cell of a table or not (CommonMark 6).
     pub(crate) fn push_content(
         &self,
-        out: &mut String<A>,
+        out: &mut Output<A>,
         scratch: &mut Scratch<A>,
         room: &mut Room<A>,
         cell: bool,
         content: Content<'_>,
     ) -> Result<(), AllocError>
-        ensures { (ds : List Definition) → HasDefinitions self.now.labels.now self.now.links.now ds →
+        ensures { (ds : Targets) → KnowsTargets self.now ds →
             let d = document_by T.Tables self.now ds in
             let structure = inlines (context_of d) (content_view (T.punctuation_of self.now.tables.now) content.entry) in
-            OnOk result (string_bytes out.new ≡ string_bytes out.old ++ inline_html (meaning_of d) (shown cell structure)) }
+            LaysOut d result out.old out.new (inline_pieces (meaning_of d) (shown cell structure)) }
     {
         self.push_from(out, scratch, room, cell, content, content_start(content))
     }
@@ -132,7 +135,7 @@ impl<'a, T: Tables, A: Allocator + Clone> Texts<'a, T, A> {
     /// Prints the inline structure of a content from a place on.
     pub(crate) fn push_from<'c>(
         &self,
-        out: &mut String<A>,
+        out: &mut Output<A>,
         scratch: &mut Scratch<A>,
         room: &mut Room<A>,
         cell: bool,
@@ -140,20 +143,63 @@ impl<'a, T: Tables, A: Allocator + Clone> Texts<'a, T, A> {
         start: &'c str,
     ) -> Result<(), AllocError>
         requires { IsPlace content.text.now start.now }
-        ensures { (ds : List Definition) → HasDefinitions self.now.labels.now self.now.links.now ds →
+        ensures { (ds : Targets) → KnowsTargets self.now ds →
             let d = document_by T.Tables self.now ds in
             let structure = inlines_from (context_of d) (view_at (T.punctuation_of self.now.tables.now) content.entry start.now) in
-            OnOk result (string_bytes out.new ≡ string_bytes out.old ++ inline_html (meaning_of d) (shown cell structure)) }
+            LaysOut d result out.old out.new (inline_pieces (meaning_of d) (shown cell structure)) }
     {
         let parse = &self.options.parse;
-        let rows = inline_rows(room, parse, self.tables, self.labels, content, start)?;
+        let rows = inline_rows(
+            room,
+            parse,
+            self.tables,
+            self.labels,
+            self.footnotes,
+            content,
+            start,
+        )?;
         let printing = Printing {
             on: &parse.constructs,
             compile: &self.options.compile,
             tables: self.tables,
             definitions: self.links,
+            footnotes: self.footnotes,
             cell,
         };
         push_rows(out, scratch, &printing, rows.as_slice())
+    }
+    /// Counts the calls of footnotes in a content of a cell that isn't printed (GFM 4.10).
+    pub(crate) fn count_content(
+        &self,
+        out: &mut Output<A>,
+        scratch: &mut Scratch<A>,
+        room: &mut Room<A>,
+        content: Content<'_>,
+    ) -> Result<(), AllocError>
+        ensures { (ds : Targets) → KnowsTargets self.now ds →
+            let d = document_by T.Tables self.now ds in
+            let structure = inlines (context_of d) (content_view (T.punctuation_of self.now.tables.now) content.entry) in
+            LaysOut d result out.old out.new (inline_counts (meaning_of d) (shown true structure)) }
+    {
+        let parse = &self.options.parse;
+        let definitions = self.links;
+        let rows = inline_rows(
+            room,
+            parse,
+            self.tables,
+            self.labels,
+            self.footnotes,
+            content,
+            content_start(content),
+        )?;
+        let printing = Printing {
+            on: &parse.constructs,
+            compile: &self.options.compile,
+            tables: self.tables,
+            definitions,
+            footnotes: self.footnotes,
+            cell: true,
+        };
+        count_rows(out, scratch, &printing, rows.as_slice())
     }
 }

@@ -1,9 +1,11 @@
 -- What is printed of footnotes.
 use Rattle.std.specs.Prelude.{◌≡◌, ℕ, List, OnOk, Result, String, string_bytes}
 use Rattle.std.specs.List.{fold}
+use Rattle.markdown_options.specs.declared.configuration.CompileOptions.{CompileOptions}
 use Rattle.definition_page.specs.GfmLabelStartFootnote as call
 use Rattle.definition_page.specs.GfmFootnoteDefinition as footnote
 use Rattle.html_bytes.specs.Pieces.{Piece, print}
+use Rattle.html_bytes.specs.GfmFootnoteDefinition.{backs_html, content_pieces}
 use Rattle.html_footnotes.specs.declared.gfm_label_start_footnote.Call.{Call}
 use Rattle.html_footnotes.specs.declared.gfm_footnote_definition.Footnote.{Footnote}
 
@@ -16,3 +18,7 @@ call_view c = record { label = c.label.now; number = c.number; count = c.count }
 
 abbrev pub note_view : Footnote → footnote.Footnote
 note_view n = record { label = n.label.now; calls = n.calls; html = n.html.now }
+
+-- the content of a footnote, with the ways back to its calls
+abbrev pub with_ways_back : CompileOptions → footnote.Footnote → List Piece
+with_ways_back options note = content_pieces note.html (backs_html options note.label note.calls)

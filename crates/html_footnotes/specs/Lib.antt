@@ -1,1 +1,3 @@
+pub mod Calls
 pub mod Footnotes
+pub mod Output

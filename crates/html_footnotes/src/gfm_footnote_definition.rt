@@ -8,10 +8,10 @@ ghost use Rattle.std.specs.Str.{IsCharBoundary};
 ghost use Rattle.markdown_options.specs.LineEndings.{ending_bytes};
 ghost use Rattle.definition_page.specs.GfmFootnoteDefinition.{ended_size, ends_line, heading_name, paragraph_end};
 ghost use Rattle.definition_page.specs.Pieces.{is_fresh};
-ghost use Rattle.html_bytes.specs.GfmFootnoteDefinition.{back_html, back_tag, backs_html, content_pieces, count_html, footnote_pieces, footnotes_pieces, heading_html, heading_tag, listed_pieces, section_pieces, space_after};
+ghost use Rattle.html_bytes.specs.GfmFootnoteDefinition.{back_html, back_tag, backs_html, count_html, footnote_pieces, footnotes_pieces, heading_html, heading_tag, listed_pieces, section_pieces, space_after};
 ghost use Rattle.html_bytes.specs.Pieces.{Fresh, print};
 ghost use Rattle.html_escape.specs.Prints.{Prints};
-ghost use Rattle.html_footnotes.specs.Footnotes.{LaysOut, note_view};
+ghost use Rattle.html_footnotes.specs.Footnotes.{LaysOut, note_view, with_ways_back};
 
 use crate::ids::{push_call_id, push_footnote_id, text_or};
 use html_escape::{push_encoded, push_raw};
@@ -148,7 +148,7 @@ fn push_content<A: Allocator>(
     ending: LineEnding,
     note: Footnote<'_>,
 ) -> Result<(), AllocError>
-    ensures { LaysOut (ending_bytes ending) result out.old out.new (content_pieces note.entry.html.now (backs_html compile.now note.entry.label.now note.entry.calls)) }
+    ensures { LaysOut (ending_bytes ending) result out.old out.new (with_ways_back compile.now (note_view note.entry)) }
 {
     match paragraph_end(note.html) {
         Some(end) => {

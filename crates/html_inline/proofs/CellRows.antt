@@ -3,7 +3,7 @@ use Rattle.std.proofs.Common.{◌≡◌, Bool, true, false, List, [], ◌∷◌,
 use Rattle.std.specs.Prelude.{map}
 use Rattle.std.specs.List.{fold}
 use Rattle.std.proofs.lemmas.List.{map-append}
-use Rattle.definition_inline.specs.Inline.{Target, Linked, Inline, Data, Escape, Character, Code, Math, Autolink, Literal, Html, EscapedBreak, TrailingBreak, LineEnd, Emphasis, Strong, Strikethrough, Link, Image, Inlines, Nil, Cons}
+use Rattle.definition_inline.specs.Inline.{Target, Linked, Inline, Data, Escape, Character, Code, Math, Autolink, Literal, Html, EscapedBreak, TrailingBreak, LineEnd, Emphasis, Strong, Strikethrough, Link, Image, Call, Inlines, Nil, Cons}
 use Rattle.definition_page.specs.GfmTable.{part_in_cell, in_cell}
 use Rattle.html_bytes.specs.InlineHtml.{InlineMeaning}
 use Rattle.inline_rows.specs.InlineRows.{InlineRow, Part, EnterSpan, EnterLink, EnterImage, Leave, part_rows, inline_rows}
@@ -27,6 +27,7 @@ part_unshown (Strong kids) = refl
 part_unshown (Strikethrough kids) = refl
 part_unshown (Link target kids) = refl
 part_unshown (Image target kids) = refl
+part_unshown (Call label) = refl
 
 row_unshown : (r : InlineRow) → row_shown false r ≡ r
 row_unshown (Part i) = ap Part (part_unshown i)
@@ -63,6 +64,7 @@ module _ (leads : Target → Linked) where
     part_cell_rows (Strikethrough kids) = around _ kids (cell_rows kids)
     part_cell_rows (Link target kids) = around _ kids (cell_rows kids)
     part_cell_rows (Image target kids) = around _ kids (cell_rows kids)
+    part_cell_rows (Call label) = refl
 
     cell_rows : (is : Inlines) → map (row_shown true) (inline_rows leads is) ≡ inline_rows leads (in_cell is)
     cell_rows Nil = refl

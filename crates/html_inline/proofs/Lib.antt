@@ -9,3 +9,5 @@ pub mod PartTexts
 pub mod RowsPrinted
 pub mod BarEscapes
 pub mod CellRows
+pub mod FootnoteCalls
+pub mod Counts

@@ -6,66 +6,117 @@ use Rattle.std.proofs.lemmas.Bool.{cond-true, cond-false}
 use Rattle.std.proofs.lemmas.List.{append-nil, reverse-append, take_more}
 use Rattle.std.proofs.lemmas.List.Concat.{flat_map-append}
 use Rattle.std.proofs.lemmas.List.Sums.{fold-append}
+use Rattle.definition_text.specs.Content.{content_codes, line_ending_code}
 use Rattle.definition_text.specs.Encode.{encode, encoded_byte}
+use Rattle.definition_inline.specs.CharacterReference.{number_of, numbered_text}
+use Rattle.definition_inline.specs.CodeText.{code_text}
 use Rattle.definition_inline.specs.Inline as inline
+use Rattle.definition_page.specs.Layout.{Laid}
 use Rattle.html_bytes.specs.InlineHtml.{InlineMeaning}
+use Rattle.html_bytes.specs.Layout.{with_text}
+use Rattle.inline_leaves.specs.Leaves.{kind_view, parts_of}
+use Rattle.inline_leaves.specs.declared.leaf.LeafPart.{LeafPart}
+use Rattle.inline_leaves.specs.declared.leaf.LeafPart.TheVariants as leaf
 use Rattle.inline_rows.specs.InlineRows as rows_of
 use Rattle.inline_rows.specs.declared.row.InlineRow.{InlineRow}
 use Rattle.inline_rows.specs.View.{data_rows, row_view, rows_view}
 use Rattle.html_inline.specs.declared.stack.OpenPart.{OpenPart}
 use Rattle.html_inline.specs.declared.stack.OpenPart.TheVariants.{Silent}
 use Rattle.html_inline.specs.GfmTable.{part_shown, row_printed_in}
-use Rattle.html_inline.specs.Printed.{Opened, opened, Printed, printed_at, is_described, part_printed, parts_printed, enter, leave}
+use Rattle.html_inline.specs.Printed.{Opened, opened, Printed, printed_at, is_described, part_printed, parts_printed, enter, leave, with_more}
 
 -- one more stands on the stack
 pub stack_more : (view : OpenPart → Opened) (items : List OpenPart) (part : OpenPart) → map view (reverse (items ++ part ∷ [])) ≡ view part ∷ map view (reverse items)
 stack_more view items part = ap (map view) (reverse-append items (part ∷ []))
 
-pub entered_silent : (view : OpenPart → Opened) (start : List ℕ) (o : Opened) (out : List ℕ) (items after : List OpenPart) → view Silent ≡ opened true []
+pub entered_silent : (view : OpenPart → Opened) (start : List ℕ) (o : Opened) (l : Laid) (items after : List OpenPart) → view Silent ≡ opened true []
     → after ≡ items ++ Silent ∷ [] → is_described (map view (reverse items)) ≡ true
-    → printed_at out (map view (reverse after)) ≡ enter start o (printed_at out (map view (reverse items)))
-entered_silent view start o out items after silent pushed h =
-    ap (λ s. printed_at out (map view (reverse s))) pushed
-    ∙ ap (printed_at out) (stack_more view items Silent ∙ ap (λ s. s ∷ map view (reverse items)) silent)
+    → printed_at l (map view (reverse after)) ≡ enter start o (printed_at l (map view (reverse items)))
+entered_silent view start o l items after silent pushed h =
+    ap (λ s. printed_at l (map view (reverse s))) pushed
+    ∙ ap (printed_at l) (stack_more view items Silent ∙ ap (λ s. s ∷ map view (reverse items)) silent)
     ∙ sym (cond-true (is_described (map view (reverse items))) _ _ h)
 
-pub entered : (view : OpenPart → Opened) (start : List ℕ) (o : Opened) (out printed : List ℕ) (items after : List OpenPart) (part : OpenPart) → view part ≡ o
-    → after ≡ items ++ part ∷ [] → is_described (map view (reverse items)) ≡ false → printed ≡ out ++ start
-    → printed_at printed (map view (reverse after)) ≡ enter start o (printed_at out (map view (reverse items)))
-entered view start o out printed items after part is pushed h e =
-    ap (λ s. printed_at printed (map view (reverse s))) pushed
-    ∙ ap (printed_at printed) (stack_more view items part ∙ ap (λ s. s ∷ map view (reverse items)) is)
-    ∙ ap (λ x. printed_at x (o ∷ map view (reverse items))) e
+pub entered : (view : OpenPart → Opened) (start : List ℕ) (o : Opened) (l : Laid) (text : List ℕ) (items after : List OpenPart) (part : OpenPart) → view part ≡ o
+    → after ≡ items ++ part ∷ [] → is_described (map view (reverse items)) ≡ false → text ≡ l.text ++ start
+    → printed_at (with_text l text) (map view (reverse after)) ≡ enter start o (printed_at l (map view (reverse items)))
+entered view start o l text items after part is pushed h e =
+    ap (λ s. printed_at (with_text l text) (map view (reverse s))) pushed
+    ∙ ap (printed_at (with_text l text)) (stack_more view items part ∙ ap (λ s. s ∷ map view (reverse items)) is)
+    ∙ ap (λ x. printed_at (with_text l x) (o ∷ map view (reverse items))) e
     ∙ sym (cond-false (is_described (map view (reverse items))) _ _ h)
 
-pub left : (view : OpenPart → Opened) (out printed : List ℕ) (items after : List OpenPart) (part : OpenPart)
-    → items ≡ after ++ part ∷ [] → printed ≡ out ++ (view part).ending
-    → printed_at printed (map view (reverse after)) ≡ leave out (map view (reverse items))
-left view out printed items after part popped e =
-    ap (λ x. printed_at x (map view (reverse after))) e
-    ∙ sym (ap (leave out) (ap (λ s. map view (reverse s)) popped ∙ stack_more view after part))
+pub left : (view : OpenPart → Opened) (l : Laid) (text : List ℕ) (items after : List OpenPart) (part : OpenPart)
+    → items ≡ after ++ part ∷ [] → text ≡ l.text ++ (view part).ending
+    → printed_at (with_text l text) (map view (reverse after)) ≡ leave l (map view (reverse items))
+left view l text items after part popped e =
+    ap (λ x. printed_at (with_text l x) (map view (reverse after))) e
+    ∙ sym (ap (leave l) (ap (λ s. map view (reverse s)) popped ∙ stack_more view after part))
 
 -- ---- rows
 
-data_either : (meaning : InlineMeaning) (described : Bool) (b : ℕ) → part_printed meaning described (inline.Data b) ≡ encoded_byte b
-data_either meaning true b = refl
-data_either meaning false b = refl
+-- a text that grew by nothing, and one that grew twice
+pub no_more : (l : Laid) → l ≡ with_more l []
+no_more l = ap (with_text l) (sym (append-nil l.text))
 
-pub text_printed : (cell : Bool) (meaning : InlineMeaning) (out : List ℕ) (stack : List Opened) (text : List ℕ)
-    → fold (row_printed_in cell meaning) (printed_at out stack) (data_rows text) ≡ printed_at (out ++ encode text) stack
-text_printed cell meaning out stack [] = ap (λ x. printed_at x stack) (sym (append-nil out))
-text_printed cell meaning out stack (b ∷ bs) =
-    ap (λ s. fold (row_printed_in cell meaning) (printed_at (out ++ s) stack) (data_rows bs)) (data_either meaning (is_described stack) b)
-    ∙ text_printed cell meaning (out ++ encoded_byte b) stack bs
-    ∙ ap (λ x. printed_at x stack) (append_assoc out (encoded_byte b) (encode bs))
+pub more_after : (l : Laid) (a b : List ℕ) → with_more (with_more l a) b ≡ with_more l (a ++ b)
+more_after l a b = ap (with_text l) (append_assoc l.text a b)
 
-pub leaf_printed : (cell : Bool) (meaning : InlineMeaning) (out : List ℕ) (stack : List Opened) (parts : List inline.Inline)
-    → fold (row_printed_in cell meaning) (printed_at out stack) (map rows_of.Part parts) ≡ printed_at (out ++ parts_printed meaning (is_described stack) (map (part_shown cell) parts)) stack
-leaf_printed cell meaning out stack [] = ap (λ x. printed_at x stack) (sym (append-nil out))
-leaf_printed cell meaning out stack (i ∷ is) =
-    let first = part_printed meaning (is_described stack) (part_shown cell i) in
-    leaf_printed cell meaning (out ++ first) stack is
-    ∙ ap (λ x. printed_at x stack) (append_assoc out first (parts_printed meaning (is_described stack) (map (part_shown cell) is)))
+module _ (cell : Bool) (meaning : InlineMeaning) (stack : List Opened) where
+  data_either : (described : Bool) (b : ℕ) → part_printed meaning described (inline.Data b) ≡ encoded_byte b
+  data_either true b = refl
+  data_either false b = refl
+
+  pub text_printed : (l : Laid) (text : List ℕ) → fold (row_printed_in cell meaning) (printed_at l stack) (data_rows text) ≡ printed_at (with_more l (encode text)) stack
+  text_printed l [] = ap (λ x. printed_at x stack) (no_more l)
+  text_printed l (b ∷ bs) =
+      ap (λ s. fold (row_printed_in cell meaning) (printed_at (with_more l s) stack) (data_rows bs)) (data_either (is_described stack) b)
+      ∙ text_printed (with_more l (encoded_byte b)) bs
+      ∙ ap (λ x. printed_at x stack) (more_after l (encoded_byte b) (encode bs))
+
+  -- what parts print in a cell or elsewhere
+  abbrev shown_parts : List inline.Inline → List ℕ
+  shown_parts parts = parts_printed meaning (is_described stack) (map (part_shown cell) parts)
+
+  -- parts that are printed as they should be
+  abbrev ArePrinted : List inline.Inline → Type 0
+  ArePrinted parts = (l : Laid) → fold (row_printed_in cell meaning) (printed_at l stack) (map rows_of.Part parts) ≡ printed_at (with_more l (shown_parts parts)) stack
+
+  none_printed : ArePrinted []
+  none_printed l = ap (λ x. printed_at x stack) (no_more l)
+
+  more_parts : (i : inline.Inline) (is : List inline.Inline)
+      → ((l : Laid) → row_printed_in cell meaning (printed_at l stack) (rows_of.Part i) ≡ printed_at (with_more l (part_printed meaning (is_described stack) (part_shown cell i))) stack)
+      → ArePrinted is → ArePrinted (i ∷ is)
+  more_parts i is first are l =
+      let text = part_printed meaning (is_described stack) (part_shown cell i) in
+      ap (λ p. fold (row_printed_in cell meaning) p (map rows_of.Part is)) (first l)
+      ∙ are (with_more l text)
+      ∙ ap (λ x. printed_at x stack) (more_after l text (shown_parts is))
+
+  escapes_printed : (text : List ℕ) → ArePrinted (map inline.Escape text)
+  escapes_printed [] = none_printed
+  escapes_printed (b ∷ bs) = more_parts (inline.Escape b) (map inline.Escape bs) (λ l. refl) (escapes_printed bs)
+
+  bytes_printed : (text : List ℕ) → ArePrinted (map inline.Data text)
+  bytes_printed [] = none_printed
+  bytes_printed (b ∷ bs) = more_parts (inline.Data b) (map inline.Data bs) (λ l. refl) (bytes_printed bs)
+
+  pub leaf_printed : (part : LeafPart) (l : Laid)
+      → fold (row_printed_in cell meaning) (printed_at l stack) (map rows_of.Part (parts_of part)) ≡ printed_at (with_more l (parts_printed meaning (is_described stack) (map (part_shown cell) (parts_of part)))) stack
+  leaf_printed (leaf.Escape text) = escapes_printed text.now
+  leaf_printed (leaf.Character text) = more_parts (inline.Character text.now) [] (λ l. refl) none_printed
+  leaf_printed (leaf.Number radix digits) = more_parts (inline.Character (numbered_text (number_of radix digits.now))) [] (λ l. refl) none_printed
+  leaf_printed (leaf.Code text) = more_parts (inline.Code (code_text (content_codes text.now))) [] (λ l. refl) none_printed
+  leaf_printed (leaf.Math text) = more_parts (inline.Math (code_text (content_codes text.now))) [] (λ l. refl) none_printed
+  leaf_printed (leaf.Unclosed text) = bytes_printed text.now
+  leaf_printed (leaf.Autolink email text) = more_parts (inline.Autolink email text.now) [] (λ l. refl) none_printed
+  leaf_printed (leaf.Literal kind text) = more_parts (inline.Literal (kind_view kind) text.now) [] (λ l. refl) none_printed
+  leaf_printed (leaf.Html text) = more_parts (inline.Html (content_codes text.now)) [] (λ l. refl) none_printed
+  leaf_printed leaf.EscapedBreak = more_parts inline.EscapedBreak [] (λ l. refl) none_printed
+  leaf_printed leaf.TrailingBreak = more_parts inline.TrailingBreak [] (λ l. refl) none_printed
+  leaf_printed (leaf.LineEnd ending) = more_parts (inline.LineEnd (line_ending_code ending)) [] (λ l. refl) none_printed
+  leaf_printed leaf.Spaces = none_printed
 
 -- one more row
 pub rows_more : (cell : Bool) (meaning : InlineMeaning) (at : ℕ → inline.Linked) (start : Printed) (rows : List InlineRow) (i : ℕ) (d : InlineRow) → i < length rows

@@ -1,54 +1,18 @@
--- Inline structure printed row by row is its HTML, or what it says in a description.
-use Rattle.std.proofs.Common.{◌≡◌, ℕ, Bool, true, false, cond, List, [], ◌∷◌, ◌++◌, refl, sym, ap, ◌∙◌, append_assoc, codes}
+-- Inline structure laid out row by row is its pieces, or what it says in a description and the calls there.
+use Rattle.std.proofs.Common.{◌≡◌, ℕ, Bool, true, false, cond, List, [], ◌∷◌, ◌++◌, Option, None, Some, refl, sym, ap, ◌∙◌, append_assoc, codes}
 use Rattle.std.specs.List.{fold}
 use Rattle.std.proofs.lemmas.List.{append-nil}
 use Rattle.std.proofs.lemmas.List.Sums.{fold-append}
-use Rattle.definition_inline.specs.Inline.{Target, Linked, Inline, Data, Escape, Character, Code, Math, Autolink, Literal, Html, EscapedBreak, TrailingBreak, LineEnd, Emphasis, Strong, Strikethrough, Link, Image, Inlines, Nil, Cons}
+use Rattle.definition_inline.specs.LabelMatch.{first_match, normal_label}
+use Rattle.definition_inline.specs.Inline.{Linked, Inline, Data, Escape, Character, Code, Math, Autolink, Literal, Html, EscapedBreak, TrailingBreak, LineEnd, Emphasis, Strong, Strikethrough, Link, Image, Call, Inlines, Nil, Cons}
 use Rattle.definition_page.specs.InlinePieces.{leads_to}
-use Rattle.html_bytes.specs.InlineHtml.{InlineMeaning, title_attribute, link_tag, image_tag, description, inline_html, part_description, part_html}
+use Rattle.definition_page.specs.Layout.{Laid}
+use Rattle.html_bytes.specs.InlineHtml.{InlineMeaning, title_attribute, link_tag, image_tag, description, part_description, part_html, call_at, count_at, part_counts, inline_counts, part_pieces, inline_pieces}
+use Rattle.html_bytes.specs.Layout.{lay, with_text}
+use Rattle.html_bytes.specs.Pieces.{Piece, Bytes}
 use Rattle.inline_rows.specs.InlineRows.{InlineRow, Leave, part_rows, inline_rows}
-use Rattle.html_inline.specs.Printed.{Opened, opened, printed_at, is_described, image_start, image_end, part_printed, enter, row_printed}
-
-abbrev inlines_printed : InlineMeaning → Bool → Inlines → List ℕ
-inlines_printed meaning described is = cond described (description meaning.compile is) (inline_html meaning is)
-
--- parts that are printed as they should be, wherever they stand
-abbrev ArePrinted : InlineMeaning → Inlines → Type 0
-ArePrinted meaning is =
-    (out : List ℕ) (stack : List Opened) → fold (row_printed meaning) (printed_at out stack) (inline_rows (leads_to meaning.definition) is)
-    ≡ printed_at (out ++ inlines_printed meaning (is_described stack) is) stack
-
--- what a part prints that holds others
-nested : (meaning : InlineMeaning) (start : List ℕ) (o : Opened) (kids : Inlines) → ArePrinted meaning kids → (out : List ℕ) (stack : List Opened)
-    → fold (row_printed meaning) (enter start o (printed_at out stack)) (inline_rows (leads_to meaning.definition) kids ++ Leave ∷ [])
-    ≡ printed_at (out ++ cond (is_described stack) (description meaning.compile kids) (start ++ (inlines_printed meaning o.described kids ++ o.ending))) stack
-nested meaning start o kids are out stack = by_case (is_described stack)
-  where
-    kid_rows : List InlineRow
-    kid_rows = inline_rows (leads_to meaning.definition) kids
-
-    by_case : (t : Bool)
-        → fold (row_printed meaning) (cond t (printed_at out (opened true [] ∷ stack)) (printed_at (out ++ start) (o ∷ stack))) (kid_rows ++ Leave ∷ [])
-        ≡ printed_at (out ++ cond t (description meaning.compile kids) (start ++ (inlines_printed meaning o.described kids ++ o.ending))) stack
-    by_case true =
-        fold-append (row_printed meaning) (printed_at out (opened true [] ∷ stack)) kid_rows (Leave ∷ [])
-        ∙ ap (λ p. row_printed meaning p Leave) (are out (opened true [] ∷ stack))
-        ∙ ap (λ x. printed_at x stack) (append-nil (out ++ description meaning.compile kids))
-    by_case false =
-        fold-append (row_printed meaning) (printed_at (out ++ start) (o ∷ stack)) kid_rows (Leave ∷ [])
-        ∙ ap (λ p. row_printed meaning p Leave) (are (out ++ start) (o ∷ stack))
-        ∙ ap (λ x. printed_at x stack)
-        (append_assoc (out ++ start) (inlines_printed meaning o.described kids) o.ending ∙ append_assoc out start (inlines_printed meaning o.described kids ++ o.ending))
-
--- a span, a link and an image
-span_printed : (meaning : InlineMeaning) (i : Inline) (start ending : List ℕ) (kids : Inlines) → ArePrinted meaning kids
-    → part_description meaning.compile i ≡ description meaning.compile kids → part_html meaning i ≡ start ++ (inline_html meaning kids ++ ending)
-    → (out : List ℕ) (stack : List Opened) → fold (row_printed meaning) (enter start (opened false ending) (printed_at out stack)) (inline_rows (leads_to meaning.definition) kids ++ Leave ∷ [])
-    ≡ printed_at (out ++ part_printed meaning (is_described stack) i) stack
-span_printed meaning i start ending kids are says html out stack =
-    nested meaning start (opened false ending) kids are out stack
-    ∙ ap (λ x. printed_at (out ++ cond (is_described stack) x (start ++ (inline_html meaning kids ++ ending))) stack) (sym says)
-    ∙ ap (λ x. printed_at (out ++ cond (is_described stack) (part_description meaning.compile i) x) stack) (sym html)
+use Rattle.html_inline.specs.Printed.{Opened, opened, printed_at, is_described, image_start, image_end, with_more, call_row, laid_out, enter, row_printed}
+use Rattle.html_inline.proofs.OpenStack.{no_more}
 
 -- what the description of an image stands between
 image_parts : (meaning : InlineMeaning) (target : Linked) (text : List ℕ) → image_tag meaning target text ≡ image_start meaning target ++ (text ++ image_end meaning target)
@@ -59,62 +23,177 @@ image_parts meaning target text =
     ∙ append_assoc (start ++ text) (codes "\"") (title ++ codes " />")
     ∙ append_assoc start text (codes "\"" ++ (title ++ codes " />"))
 
-image_printed : (meaning : InlineMeaning) (target : Target) (kids : Inlines) → ArePrinted meaning kids
-    → (out : List ℕ) (stack : List Opened)
-    → fold (row_printed meaning)
-    (enter (image_start meaning (leads_to meaning.definition target)) (opened true (image_end meaning (leads_to meaning.definition target))) (printed_at out stack))
-    (inline_rows (leads_to meaning.definition) kids ++ Leave ∷ [])
-    ≡ printed_at (out ++ part_printed meaning (is_described stack) (Image target kids)) stack
-image_printed meaning target kids are out stack =
-    let l = leads_to meaning.definition target in
-    nested meaning (image_start meaning l) (opened true (image_end meaning l)) kids are out stack
-    ∙ ap (λ x. printed_at (out ++ cond (is_described stack) (description meaning.compile kids) x) stack) (sym (image_parts meaning l (description meaning.compile kids)))
+module _ (meaning : InlineMeaning) (default : List ℕ) where
+  -- pieces laid out
+  abbrev laid_by : Laid → List Piece → Laid
+  laid_by l pieces = fold (lay meaning.compile default) l pieces
 
-more_printed : (meaning : InlineMeaning) (described : Bool) (i : Inline) (is : Inlines)
-    → part_printed meaning described i ++ inlines_printed meaning described is ≡ inlines_printed meaning described (Cons i is)
-more_printed meaning true i is = refl
-more_printed meaning false i is = refl
+  abbrev rows_of : Inlines → List InlineRow
+  rows_of is = inline_rows (leads_to meaning.definition) is
 
-nothing_printed : (meaning : InlineMeaning) (described : Bool) → inlines_printed meaning described Nil ≡ []
-nothing_printed meaning true = refl
-nothing_printed meaning false = refl
+  -- what is laid out after a part, and after parts: in a description what they say, and the calls there
+  abbrev part_after : Bool → Inline → Laid → Laid
+  part_after described i l =
+      cond described (with_text (laid_by l (part_counts meaning i)) (l.text ++ part_description meaning.compile i)) (laid_by l (part_pieces meaning i))
 
-mutual
-  part_rows_printed : (meaning : InlineMeaning) (i : Inline) (out : List ℕ) (stack : List Opened)
-      → fold (row_printed meaning) (printed_at out stack) (part_rows (leads_to meaning.definition) i)
-      ≡ printed_at (out ++ part_printed meaning (is_described stack) i) stack
-  part_rows_printed meaning (Data b) out stack = refl
-  part_rows_printed meaning (Escape b) out stack = refl
-  part_rows_printed meaning (Character bytes) out stack = refl
-  part_rows_printed meaning (Code bytes) out stack = refl
-  part_rows_printed meaning (Math bytes) out stack = refl
-  part_rows_printed meaning (Autolink is_email bytes) out stack = refl
-  part_rows_printed meaning (Literal kind bytes) out stack = refl
-  part_rows_printed meaning (Html text) out stack = refl
-  part_rows_printed meaning EscapedBreak out stack = refl
-  part_rows_printed meaning TrailingBreak out stack = refl
-  part_rows_printed meaning (LineEnd code) out stack = refl
-  part_rows_printed meaning (Emphasis kids) out stack = span_printed meaning (Emphasis kids) (codes "<em>") (codes "</em>") kids (rows_printed meaning kids) refl refl out stack
-  part_rows_printed meaning (Strong kids) out stack = span_printed meaning (Strong kids) (codes "<strong>") (codes "</strong>") kids (rows_printed meaning kids) refl refl out stack
-  part_rows_printed meaning (Strikethrough kids) out stack = span_printed meaning (Strikethrough kids) (codes "<del>") (codes "</del>") kids (rows_printed meaning kids) refl refl out stack
-  part_rows_printed meaning (Link target kids) out stack =
-      span_printed meaning (Link target kids) (link_tag meaning (leads_to meaning.definition target)) (codes "</a>") kids (rows_printed meaning kids) refl
-      (append_assoc (link_tag meaning (leads_to meaning.definition target)) (inline_html meaning kids) (codes "</a>")) out stack
-  part_rows_printed meaning (Image target kids) out stack = image_printed meaning target kids (rows_printed meaning kids) out stack
+  abbrev all_after : Bool → Inlines → Laid → Laid
+  all_after described is l =
+      cond described (with_text (laid_by l (inline_counts meaning is)) (l.text ++ description meaning.compile is)) (laid_by l (inline_pieces meaning is))
 
-  rows_printed : (meaning : InlineMeaning) (is : Inlines) (out : List ℕ) (stack : List Opened)
-      → fold (row_printed meaning) (printed_at out stack) (inline_rows (leads_to meaning.definition) is)
-      ≡ printed_at (out ++ inlines_printed meaning (is_described stack) is) stack
-  rows_printed meaning Nil out stack =
-      ap (λ x. printed_at x stack) (sym (append-nil out)) ∙ ap (λ x. printed_at (out ++ x) stack) (sym (nothing_printed meaning (is_described stack)))
-  rows_printed meaning (Cons i is) out stack =
-      fold-append (row_printed meaning) (printed_at out stack) (part_rows (leads_to meaning.definition) i) (inline_rows (leads_to meaning.definition) is)
-      ∙ ap (λ p. fold (row_printed meaning) p (inline_rows (leads_to meaning.definition) is)) (part_rows_printed meaning i out stack)
-      ∙ rows_printed meaning is (out ++ part_printed meaning (is_described stack) i) stack
-      ∙ ap (λ x. printed_at x stack) (append_assoc out (part_printed meaning (is_described stack) i) (inlines_printed meaning (is_described stack) is))
-      ∙ ap (λ x. printed_at (out ++ x) stack) (more_printed meaning (is_described stack) i is)
+  -- parts that are printed as they should be, wherever they stand
+  abbrev ArePrinted : Inlines → Type 0
+  ArePrinted is = (l : Laid) (stack : List Opened) → fold (row_printed meaning) (printed_at l stack) (rows_of is) ≡ printed_at (all_after (is_described stack) is l) stack
 
--- a whole content
-pub content_printed : (meaning : InlineMeaning) (is : Inlines) (out : List ℕ)
-    → fold (row_printed meaning) (printed_at out []) (inline_rows (leads_to meaning.definition) is) ≡ printed_at (out ++ inline_html meaning is) []
-content_printed meaning is out = rows_printed meaning is out []
+  -- ---- calls that count don't see the text
+
+  count_beside : (label : List ℕ) (place : Option ℕ) (l : Laid) (text : List ℕ) → laid_by (with_text l text) (count_at place label) ≡ with_text (laid_by l (count_at place label)) text
+  count_beside label None l text = refl
+  count_beside label (Some place) l text = refl
+
+  mutual
+    part_counts_beside : (i : Inline) (l : Laid) (text : List ℕ) → laid_by (with_text l text) (part_counts meaning i) ≡ with_text (laid_by l (part_counts meaning i)) text
+    part_counts_beside (Data b) l text = refl
+    part_counts_beside (Escape b) l text = refl
+    part_counts_beside (Character bytes) l text = refl
+    part_counts_beside (Code bytes) l text = refl
+    part_counts_beside (Math bytes) l text = refl
+    part_counts_beside (Autolink is_email bytes) l text = refl
+    part_counts_beside (Literal kind bytes) l text = refl
+    part_counts_beside (Html html) l text = refl
+    part_counts_beside EscapedBreak l text = refl
+    part_counts_beside TrailingBreak l text = refl
+    part_counts_beside (LineEnd code) l text = refl
+    part_counts_beside (Emphasis kids) l text = counts_beside kids l text
+    part_counts_beside (Strong kids) l text = counts_beside kids l text
+    part_counts_beside (Strikethrough kids) l text = counts_beside kids l text
+    part_counts_beside (Link target kids) l text = counts_beside kids l text
+    part_counts_beside (Image target kids) l text = counts_beside kids l text
+    part_counts_beside (Call label) l text = count_beside (normal_label label) (first_match label meaning.footnotes) l text
+
+    counts_beside : (is : Inlines) (l : Laid) (text : List ℕ) → laid_by (with_text l text) (inline_counts meaning is) ≡ with_text (laid_by l (inline_counts meaning is)) text
+    counts_beside Nil l text = refl
+    counts_beside (Cons i is) l text =
+        fold-append (lay meaning.compile default) (with_text l text) (part_counts meaning i) (inline_counts meaning is)
+        ∙ ap (λ x. laid_by x (inline_counts meaning is)) (part_counts_beside i l text)
+        ∙ counts_beside is (laid_by l (part_counts meaning i)) text
+        ∙ ap (λ x. with_text x text) (sym (fold-append (lay meaning.compile default) l (part_counts meaning i) (inline_counts meaning is)))
+
+  -- ---- parts that hold others
+
+  -- rows between a start and an end
+  nested : (start : List ℕ) (o : Opened) (kids : Inlines) → ArePrinted kids → (l : Laid) (stack : List Opened)
+      → fold (row_printed meaning) (enter start o (printed_at l stack)) (rows_of kids ++ Leave ∷ [])
+      ≡ printed_at (cond (is_described stack) (all_after true kids l) (with_more (all_after o.described kids (with_more l start)) o.ending)) stack
+  nested start o kids are l stack = by_case (is_described stack)
+    where
+      by_case : (t : Bool) → fold (row_printed meaning) (cond t (printed_at l (opened true [] ∷ stack)) (printed_at (with_more l start) (o ∷ stack))) (rows_of kids ++ Leave ∷ [])
+          ≡ printed_at (cond t (all_after true kids l) (with_more (all_after o.described kids (with_more l start)) o.ending)) stack
+      by_case true =
+          fold-append (row_printed meaning) (printed_at l (opened true [] ∷ stack)) (rows_of kids) (Leave ∷ [])
+          ∙ ap (λ p. row_printed meaning p Leave) (are l (opened true [] ∷ stack))
+          ∙ ap (λ x. printed_at x stack) (sym (no_more (all_after true kids l)))
+      by_case false =
+          fold-append (row_printed meaning) (printed_at (with_more l start) (o ∷ stack)) (rows_of kids) (Leave ∷ [])
+          ∙ ap (λ p. row_printed meaning p Leave) (are (with_more l start) (o ∷ stack))
+
+  -- a span or a link, which prints its content between two tags
+  between : (start ending : List ℕ) (kids : Inlines) → ArePrinted kids → (l : Laid) (stack : List Opened)
+      → fold (row_printed meaning) (enter start (opened false ending) (printed_at l stack)) (rows_of kids ++ Leave ∷ [])
+      ≡ printed_at (cond (is_described stack) (all_after true kids l) (laid_by l (Bytes start ∷ inline_pieces meaning kids ++ Bytes ending ∷ []))) stack
+  between start ending kids are l stack =
+      nested start (opened false ending) kids are l stack
+      ∙ ap (λ x. printed_at (cond (is_described stack) (all_after true kids l) x) stack)
+      (sym (fold-append (lay meaning.compile default) (with_more l start) (inline_pieces meaning kids) (Bytes ending ∷ [])))
+
+  -- an image, which prints its description inside its tag and counts the calls there
+  described_between : (target : Linked) (kids : Inlines) (l : Laid)
+      → with_more (all_after true kids (with_more l (image_start meaning target))) (image_end meaning target)
+      ≡ laid_by (with_more l (image_tag meaning target (description meaning.compile kids))) (inline_counts meaning kids)
+  described_between target kids l =
+      let start = image_start meaning target in
+      let ending = image_end meaning target in
+      let says = description meaning.compile kids in
+      ap (λ x. with_text x (((l.text ++ start) ++ says) ++ ending)) (counts_beside kids l (l.text ++ start))
+      ∙ ap (with_text (laid_by l (inline_counts meaning kids)))
+      (append_assoc (l.text ++ start) says ending ∙ append_assoc l.text start (says ++ ending) ∙ ap (λ s. l.text ++ s) (sym (image_parts meaning target says)))
+      ∙ sym (counts_beside kids l (l.text ++ image_tag meaning target says))
+
+  image_printed : (target : Linked) (kids : Inlines) → ArePrinted kids → (l : Laid) (stack : List Opened)
+      → fold (row_printed meaning) (enter (image_start meaning target) (opened true (image_end meaning target)) (printed_at l stack)) (rows_of kids ++ Leave ∷ [])
+      ≡ printed_at (cond (is_described stack) (all_after true kids l) (laid_by (with_more l (image_tag meaning target (description meaning.compile kids))) (inline_counts meaning kids))) stack
+  image_printed target kids are l stack =
+      nested (image_start meaning target) (opened true (image_end meaning target)) kids are l stack
+      ∙ ap (λ x. printed_at (cond (is_described stack) (all_after true kids l) x) stack) (described_between target kids l)
+
+  -- ---- all parts
+
+  -- text that is printed, or said
+  either : (described : Bool) (l : Laid) (says html : List ℕ) → with_more l (cond described says html) ≡ cond described (with_more l says) (with_more l html)
+  either true l says html = refl
+  either false l says html = refl
+
+  counted_either : (label : List ℕ) (place : Option ℕ) (l : Laid) → laid_out meaning l (count_at place label) ≡ with_text (laid_by l (count_at place label)) (l.text ++ [])
+  counted_either label None l = no_more l
+  counted_either label (Some place) l = ap (with_text (laid_by l (count_at (Some place) label))) (sym (append-nil l.text))
+
+  called_either : (label : List ℕ) (place : Option ℕ) (l : Laid) → laid_out meaning l (call_at place label) ≡ laid_by l (call_at place label)
+  called_either label None l = refl
+  called_either label (Some place) l = refl
+
+  call_either : (label : List ℕ) (described : Bool) (l : Laid) → laid_out meaning l (call_row meaning described label) ≡ part_after described (Call label) l
+  call_either label true l = counted_either (normal_label label) (first_match label meaning.footnotes) l
+  call_either label false l = called_either (normal_label label) (first_match label meaning.footnotes) l
+
+  -- a part, and parts after it
+  more_printed : (described : Bool) (i : Inline) (is : Inlines) (l : Laid) → all_after described is (part_after described i l) ≡ all_after described (Cons i is) l
+  more_printed true i is l =
+      let says = part_description meaning.compile i in
+      let others = description meaning.compile is in
+      ap (λ x. with_text x ((l.text ++ says) ++ others)) (counts_beside is (laid_by l (part_counts meaning i)) (l.text ++ says))
+      ∙ ap (λ x. with_text x ((l.text ++ says) ++ others)) (sym (fold-append (lay meaning.compile default) l (part_counts meaning i) (inline_counts meaning is)))
+      ∙ ap (with_text (laid_by l (part_counts meaning i ++ inline_counts meaning is))) (append_assoc l.text says others)
+  more_printed false i is l = sym (fold-append (lay meaning.compile default) l (part_pieces meaning i) (inline_pieces meaning is))
+
+  nothing_printed : (described : Bool) (l : Laid) → l ≡ all_after described Nil l
+  nothing_printed true l = no_more l
+  nothing_printed false l = refl
+
+  -- a part that holds no other
+  said_or_printed : (says html : List ℕ) (l : Laid) (stack : List Opened)
+      → printed_at (with_more l (cond (is_described stack) says html)) stack ≡ printed_at (cond (is_described stack) (with_more l says) (with_more l html)) stack
+  said_or_printed says html l stack = ap (λ x. printed_at x stack) (either (is_described stack) l says html)
+
+  mutual
+    part_rows_printed : (i : Inline) (l : Laid) (stack : List Opened)
+        → fold (row_printed meaning) (printed_at l stack) (part_rows (leads_to meaning.definition) i) ≡ printed_at (part_after (is_described stack) i l) stack
+    part_rows_printed (Data b) l stack = said_or_printed (part_description meaning.compile (Data b)) (part_html meaning (Data b)) l stack
+    part_rows_printed (Escape b) l stack = said_or_printed (part_description meaning.compile (Escape b)) (part_html meaning (Escape b)) l stack
+    part_rows_printed (Character bytes) l stack = said_or_printed (part_description meaning.compile (Character bytes)) (part_html meaning (Character bytes)) l stack
+    part_rows_printed (Code bytes) l stack = said_or_printed (part_description meaning.compile (Code bytes)) (part_html meaning (Code bytes)) l stack
+    part_rows_printed (Math bytes) l stack = said_or_printed (part_description meaning.compile (Math bytes)) (part_html meaning (Math bytes)) l stack
+    part_rows_printed (Autolink is_email bytes) l stack = said_or_printed (part_description meaning.compile (Autolink is_email bytes)) (part_html meaning (Autolink is_email bytes)) l stack
+    part_rows_printed (Literal kind bytes) l stack = said_or_printed (part_description meaning.compile (Literal kind bytes)) (part_html meaning (Literal kind bytes)) l stack
+    part_rows_printed (Html text) l stack = said_or_printed (part_description meaning.compile (Html text)) (part_html meaning (Html text)) l stack
+    part_rows_printed EscapedBreak l stack = said_or_printed (part_description meaning.compile EscapedBreak) (part_html meaning EscapedBreak) l stack
+    part_rows_printed TrailingBreak l stack = said_or_printed (part_description meaning.compile TrailingBreak) (part_html meaning TrailingBreak) l stack
+    part_rows_printed (LineEnd code) l stack = said_or_printed (part_description meaning.compile (LineEnd code)) (part_html meaning (LineEnd code)) l stack
+    part_rows_printed (Emphasis kids) l stack = between (codes "<em>") (codes "</em>") kids (rows_printed kids) l stack
+    part_rows_printed (Strong kids) l stack = between (codes "<strong>") (codes "</strong>") kids (rows_printed kids) l stack
+    part_rows_printed (Strikethrough kids) l stack = between (codes "<del>") (codes "</del>") kids (rows_printed kids) l stack
+    part_rows_printed (Link target kids) l stack = between (link_tag meaning (leads_to meaning.definition target)) (codes "</a>") kids (rows_printed kids) l stack
+    part_rows_printed (Image target kids) l stack = image_printed (leads_to meaning.definition target) kids (rows_printed kids) l stack
+    part_rows_printed (Call label) l stack = ap (λ x. printed_at x stack) (call_either label (is_described stack) l)
+
+    rows_printed : (is : Inlines) (l : Laid) (stack : List Opened)
+        → fold (row_printed meaning) (printed_at l stack) (inline_rows (leads_to meaning.definition) is) ≡ printed_at (all_after (is_described stack) is l) stack
+    rows_printed Nil l stack = ap (λ x. printed_at x stack) (nothing_printed (is_described stack) l)
+    rows_printed (Cons i is) l stack =
+        fold-append (row_printed meaning) (printed_at l stack) (part_rows (leads_to meaning.definition) i) (rows_of is)
+        ∙ ap (λ p. fold (row_printed meaning) p (rows_of is)) (part_rows_printed i l stack)
+        ∙ rows_printed is (part_after (is_described stack) i l) stack
+        ∙ ap (λ x. printed_at x stack) (more_printed (is_described stack) i is l)
+
+  -- a whole content
+  pub content_printed : (is : Inlines) (l : Laid)
+      → fold (row_printed meaning) (printed_at l []) (inline_rows (leads_to meaning.definition) is) ≡ printed_at (fold (lay meaning.compile default) l (inline_pieces meaning is)) []
+  content_printed is l = rows_printed is l []

@@ -1,6 +1,6 @@
 -- What stands in the cell of a table, or elsewhere.
 use Rattle.std.specs.Prelude.{ℕ, suc, Bool, true, false, if◌then◌else◌, List, [], ◌∷◌}
-use Rattle.definition_inline.specs.Inline.{Inline, Data, Escape, Character, Code, Math, Autolink, Literal, Html, EscapedBreak, TrailingBreak, LineEnd, Emphasis, Strong, Strikethrough, Link, Image, Inlines}
+use Rattle.definition_inline.specs.Inline.{Inline, Data, Escape, Character, Code, Math, Autolink, Literal, Html, EscapedBreak, TrailingBreak, LineEnd, Emphasis, Strong, Strikethrough, Link, Image, Call, Inlines}
 use Rattle.definition_page.specs.GfmTable.{escapes_bar, cell_code, in_cell}
 use Rattle.html_bytes.specs.InlineHtml.{InlineMeaning}
 use Rattle.html_inline.specs.Printed.{Printed, row_printed}
@@ -38,6 +38,7 @@ part_shown cell (Strong kids) = Strong kids
 part_shown cell (Strikethrough kids) = Strikethrough kids
 part_shown cell (Link target kids) = Link target kids
 part_shown cell (Image target kids) = Image target kids
+part_shown cell (Call label) = Call label
 
 -- and for a row
 abbrev pub row_shown : Bool → InlineRow → InlineRow

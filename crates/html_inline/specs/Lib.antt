@@ -6,3 +6,4 @@ pub mod Opens
 pub mod Printed
 pub mod Prints
 pub mod GfmTable
+pub mod Counts

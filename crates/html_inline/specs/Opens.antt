@@ -1,11 +1,12 @@
 -- What is open, as the definition has it.
 use Rattle.std.specs.Prelude.{ℕ, Bool, true, false, List, [], None, codes, map, reverse, slice_index_or}
 use Rattle.definition_inline.specs.Inline as inline
+use Rattle.definition_page.specs.Layout.{Laid}
 use Rattle.html_bytes.specs.InlineHtml.{InlineMeaning}
 use Rattle.inline_runs.specs.View.{span_view}
 use Rattle.inline_rows.specs.declared.row.Linked.{Linked}
 use Rattle.inline_rows.specs.declared.row.InlineRow.{InlineRow}
-use Rattle.inline_rows.specs.declared.row.InlineRow.TheVariants.{Text, Leaf, EnterSpan, EnterLink, EnterImage, Exit}
+use Rattle.inline_rows.specs.declared.row.InlineRow.TheVariants.{Text, Leaf, EnterSpan, EnterLink, EnterImage, Call, Exit}
 use Rattle.inline_rows.specs.View.{linked_view, target_linked}
 use Rattle.html_inline.specs.declared.stack.OpenPart.{OpenPart}
 use Rattle.html_inline.specs.declared.stack.OpenPart.TheVariants as open_part
@@ -25,6 +26,7 @@ image_linked at (Leaf part) = nowhere
 image_linked at (EnterSpan span) = nowhere
 image_linked at (EnterLink target) = nowhere
 image_linked at (EnterImage target) = target_linked at target
+image_linked at (Call label) = nowhere
 image_linked at Exit = nowhere
 
 module _ (meaning : InlineMeaning) (at : ℕ → inline.Linked) (rows : List InlineRow) where
@@ -34,9 +36,9 @@ module _ (meaning : InlineMeaning) (at : ℕ → inline.Linked) (rows : List Inl
   opened_view (open_part.Image place) = opened true (image_end meaning (image_linked at (slice_index_or rows place Exit)))
   opened_view open_part.Silent = opened true []
 
-  -- what was printed, and what is open, the innermost last
-  abbrev pub printed_of : List ℕ → List OpenPart → Printed
-  printed_of out stack = printed_at out (map opened_view (reverse stack))
+  -- what was laid out, and what is open, the innermost last
+  abbrev pub printed_of : Laid → List OpenPart → Printed
+  printed_of laid stack = printed_at laid (map opened_view (reverse stack))
 
 -- whether the innermost one stands in the description of an image, or is an image
 abbrev pub is_silent : OpenPart → Bool

@@ -1,8 +1,12 @@
--- Inline structure, printed row by row.
+-- Inline structure, laid out row by row.
 use Rattle.std.specs.Prelude.{ℕ, Bool, true, false, if◌then◌else◌, List, [], ◌∷◌, ◌++◌, codes}
-use Rattle.std.specs.List.{flat_map}
-use Rattle.definition_inline.specs.Inline.{Inline, Linked}
-use Rattle.html_bytes.specs.InlineHtml.{InlineMeaning, url_of, title_attribute, link_tag, part_description, part_html}
+use Rattle.std.specs.List.{flat_map, fold}
+use Rattle.definition_inline.specs.Inline.{Inline, Call, Linked}
+use Rattle.definition_inline.specs.LabelMatch.{first_match, normal_label}
+use Rattle.definition_page.specs.Layout.{Laid}
+use Rattle.html_bytes.specs.InlineHtml.{InlineMeaning, url_of, title_attribute, link_tag, part_description, part_html, call_at, count_at}
+use Rattle.html_bytes.specs.Layout.{lay, with_text}
+use Rattle.html_bytes.specs.Pieces.{Piece, Bytes}
 use Rattle.inline_rows.specs.InlineRows.{InlineRow, Part, EnterSpan, EnterLink, EnterImage, Leave}
 use Rattle.definition_inline.specs.Spans.{Span, IsEmphasis, IsStrong, IsStrikethrough}
 
@@ -14,13 +18,17 @@ pub record Opened : Type 0 where
 abbrev pub opened : Bool → List ℕ → Opened
 opened described ending = record { described = described; ending = ending }
 
--- what was printed, and what is open, the innermost first
+-- what was laid out, and what is open, the innermost first
 pub record Printed : Type 0 where
-  pub out : List ℕ
+  pub laid : Laid
   pub stack : List Opened
 
-abbrev pub printed_at : List ℕ → List Opened → Printed
-printed_at out stack = record { out = out; stack = stack }
+abbrev pub printed_at : Laid → List Opened → Printed
+printed_at laid stack = record { laid = laid; stack = stack }
+
+-- more of the innermost text that is open
+abbrev pub with_more : Laid → List ℕ → Laid
+with_more l bytes = with_text l (l.text ++ bytes)
 
 -- whether only a description is printed
 abbrev pub is_described : List Opened → Bool
@@ -51,19 +59,37 @@ part_printed meaning described i = if described then part_description meaning.co
 abbrev pub parts_printed : InlineMeaning → Bool → List Inline → List ℕ
 parts_printed meaning described parts = flat_map (part_printed meaning described) parts
 
+-- a call of a footnote, or one in a description, which counts and prints nothing
+abbrev pub call_row : InlineMeaning → Bool → List ℕ → List Piece
+call_row meaning described label =
+    if described
+    then count_at (first_match label meaning.footnotes) (normal_label label)
+    else call_at (first_match label meaning.footnotes) (normal_label label)
+
+-- what a part lays that holds no other
+abbrev pub part_laid : InlineMeaning → Bool → Inline → List Piece
+part_laid meaning described (Call label) = call_row meaning described label
+part_laid meaning described i = Bytes (part_printed meaning described i) ∷ []
+
+-- pieces of inline structure, none of which is the default ending
+abbrev pub laid_out : InlineMeaning → Laid → List Piece → Laid
+laid_out meaning l pieces = fold (lay meaning.compile []) l pieces
+
 -- a part starts that holds others: in a description nothing is printed for it
 abbrev pub enter : List ℕ → Opened → Printed → Printed
 enter start o p =
-    if is_described p.stack then printed_at p.out (opened true [] ∷ p.stack) else printed_at (p.out ++ start) (o ∷ p.stack)
+    if is_described p.stack
+    then printed_at p.laid (opened true [] ∷ p.stack)
+    else printed_at (with_more p.laid start) (o ∷ p.stack)
 
 -- the innermost one ends
-abbrev pub leave : List ℕ → List Opened → Printed
-leave out [] = printed_at out []
-leave out (o ∷ others) = printed_at (out ++ o.ending) others
+abbrev pub leave : Laid → List Opened → Printed
+leave l [] = printed_at l []
+leave l (o ∷ others) = printed_at (with_more l o.ending) others
 
 abbrev pub row_printed : InlineMeaning → Printed → InlineRow → Printed
-row_printed meaning p (Part i) = printed_at (p.out ++ part_printed meaning (is_described p.stack) i) p.stack
+row_printed meaning p (Part i) = printed_at (laid_out meaning p.laid (part_laid meaning (is_described p.stack) i)) p.stack
 row_printed meaning p (EnterSpan span) = enter (span_start span) (opened false (span_end span)) p
 row_printed meaning p (EnterLink target) = enter (link_tag meaning target) (opened false (codes "</a>")) p
 row_printed meaning p (EnterImage target) = enter (image_start meaning target) (opened true (image_end meaning target)) p
-row_printed meaning p Leave = leave p.out p.stack
+row_printed meaning p Leave = leave p.laid p.stack

@@ -10,6 +10,6 @@ use Rattle.html_inline.specs.declared.printing.Printing.{Printing}
 abbrev pub Definitions : Type 0
 Definitions = List ℕ → Option Linked
 
--- what inline structure means by what names stand for
-abbrev pub meaning_by : {T : Type 0} → (List ℕ → Option (List ℕ)) → Printing T → Definitions → InlineMeaning
-meaning_by names printing definition = inline_meaning printing.on.now printing.compile.now names definition
+-- what inline structure means by what names stand for, and by the labels of the document's footnotes
+abbrev pub meaning_by : {A T : Type 0} → (List ℕ → Option (List ℕ)) → Printing A T → Definitions → List (List ℕ) → InlineMeaning
+meaning_by names printing definition footnotes = inline_meaning printing.on.now printing.compile.now names definition footnotes

@@ -1,5 +1,5 @@
 //! The tags of links and images (CommonMark 6.3 and 6.4).
-ghost use Rattle.std.specs.Prelude.{◌≡◌, OnOk, string_bytes};
+ghost use Rattle.std.specs.Prelude.{◌≡◌, ℕ, List, OnOk, string_bytes};
 ghost use Rattle.definition_text.specs.Encode.{plain};
 ghost use Rattle.html_bytes.specs.InlineHtml.{link_tag, title_attribute, titled};
 ghost use Rattle.inline_rows.specs.View.{linked_view, target_linked};
@@ -37,14 +37,14 @@ pub(crate) fn linked_at<'a>(definitions: &'a [Linked<'a>], target: LinkTarget<'a
 }
 
 /// Prints the start tag of a link (CommonMark 6.3). `text` is used for its URL and its title.
-pub(crate) fn push_link_start<A: Allocator, T: Tables>(
+pub(crate) fn push_link_start<A: Allocator + Clone, T: Tables>(
     out: &mut String<A>,
     text: &mut String<A>,
-    printing: &Printing<'_, T>,
+    printing: &Printing<'_, A, T>,
     linked: Linked<'_>,
 ) -> Result<(), AllocError>
-    ensures { (definition : Definitions) →
-        Prints result out.old out.new (link_tag (meaning_by (T.reference_of printing.now.tables.now) printing.now definition) (linked_view linked.entry)) }
+    ensures { (definition : Definitions) (footnotes : List (List ℕ)) →
+        Prints result out.old out.new (link_tag (meaning_by (T.reference_of printing.now.tables.now) printing.now definition footnotes) (linked_view linked.entry)) }
 {
     read_url(text, printing, linked.destination)?;
     out.push_str("<a href=\"")?;
@@ -55,14 +55,14 @@ pub(crate) fn push_link_start<A: Allocator, T: Tables>(
 }
 
 /// Prints the tag of an image before its description (CommonMark 6.4).
-pub(crate) fn push_image_start<A: Allocator, T: Tables>(
+pub(crate) fn push_image_start<A: Allocator + Clone, T: Tables>(
     out: &mut String<A>,
     text: &mut String<A>,
-    printing: &Printing<'_, T>,
+    printing: &Printing<'_, A, T>,
     linked: Linked<'_>,
 ) -> Result<(), AllocError>
-    ensures { (definition : Definitions) →
-        Prints result out.old out.new (image_start (meaning_by (T.reference_of printing.now.tables.now) printing.now definition) (linked_view linked.entry)) }
+    ensures { (definition : Definitions) (footnotes : List (List ℕ)) →
+        Prints result out.old out.new (image_start (meaning_by (T.reference_of printing.now.tables.now) printing.now definition footnotes) (linked_view linked.entry)) }
 {
     read_url(text, printing, linked.destination)?;
     out.push_str("<img src=\"")?;
@@ -71,14 +71,14 @@ pub(crate) fn push_image_start<A: Allocator, T: Tables>(
 }
 
 /// Prints the tag of an image after its description (CommonMark 6.4).
-pub(crate) fn push_image_end<A: Allocator, T: Tables>(
+pub(crate) fn push_image_end<A: Allocator + Clone, T: Tables>(
     out: &mut String<A>,
     text: &mut String<A>,
-    printing: &Printing<'_, T>,
+    printing: &Printing<'_, A, T>,
     linked: Linked<'_>,
 ) -> Result<(), AllocError>
-    ensures { (definition : Definitions) →
-        Prints result out.old out.new (image_end (meaning_by (T.reference_of printing.now.tables.now) printing.now definition) (linked_view linked.entry)) }
+    ensures { (definition : Definitions) (footnotes : List (List ℕ)) →
+        Prints result out.old out.new (image_end (meaning_by (T.reference_of printing.now.tables.now) printing.now definition footnotes) (linked_view linked.entry)) }
 {
     out.push_str("\"")?;
     push_title(out, text, printing, linked)?;
@@ -86,9 +86,9 @@ pub(crate) fn push_image_end<A: Allocator, T: Tables>(
 }
 
 /// Reads the URL of a destination: its text, in which NUL is U+FFFD (CommonMark 6.3).
-fn read_url<A: Allocator, T: Tables>(
+fn read_url<A: Allocator + Clone, T: Tables>(
     text: &mut String<A>,
-    printing: &Printing<'_, T>,
+    printing: &Printing<'_, A, T>,
     destination: &str,
 ) -> Result<(), AllocError>
     ensures { OnOk result (string_bytes text.new ≡ plain (text_of printing.now.on.now (T.reference_of printing.now.tables.now) destination.now)) }
@@ -98,14 +98,14 @@ fn read_url<A: Allocator, T: Tables>(
 }
 
 /// Prints the attribute of a title that isn't empty.
-fn push_title<A: Allocator, T: Tables>(
+fn push_title<A: Allocator + Clone, T: Tables>(
     out: &mut String<A>,
     text: &mut String<A>,
-    printing: &Printing<'_, T>,
+    printing: &Printing<'_, A, T>,
     linked: Linked<'_>,
 ) -> Result<(), AllocError>
-    ensures { (definition : Definitions) →
-        Prints result out.old out.new (title_attribute (meaning_by (T.reference_of printing.now.tables.now) printing.now definition)
+    ensures { (definition : Definitions) (footnotes : List (List ℕ)) →
+        Prints result out.old out.new (title_attribute (meaning_by (T.reference_of printing.now.tables.now) printing.now definition footnotes)
         (linked_view linked.entry).title) }
 {
     match linked.title {

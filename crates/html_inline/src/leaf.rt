@@ -2,7 +2,7 @@
 ghost use Rattle.std.specs.List.{flat_map};
 ghost use Rattle.html_bytes.specs.InlineHtml.{part_description, part_html};
 ghost use Rattle.inline_leaves.specs.Leaves.{parts_of};
-ghost use Rattle.std.specs.Prelude.{map};
+ghost use Rattle.std.specs.Prelude.{ℕ, List, map};
 ghost use Rattle.html_inline.specs.GfmTable.{part_shown};
 ghost use Rattle.html_inline.specs.Prints.{meaning_by, Definitions, Prints};
 
@@ -48,14 +48,14 @@ pub(crate) fn push_description<A: Allocator>(
 }
 
 /// Prints a construct.
-pub(crate) fn push_leaf<A: Allocator, T: Tables>(
+pub(crate) fn push_leaf<A: Allocator + Clone, T: Tables>(
     out: &mut String<A>,
     room: &mut String<A>,
-    printing: &Printing<'_, T>,
+    printing: &Printing<'_, A, T>,
     part: LeafPart<'_>,
 ) -> Result<(), AllocError>
-    ensures { (definition : Definitions) →
-        Prints result out.old out.new (flat_map (part_html (meaning_by (T.reference_of printing.now.tables.now) printing.now definition))
+    ensures { (definition : Definitions) (footnotes : List (List ℕ)) →
+        Prints result out.old out.new (flat_map (part_html (meaning_by (T.reference_of printing.now.tables.now) printing.now definition footnotes))
         (map (part_shown printing.now.cell) (parts_of part.entry))) }
 {
     match part {

@@ -4,8 +4,10 @@
 pub mod autolink;
 pub mod character_reference;
 pub mod code_text;
+pub mod count;
 pub mod form;
 mod gfm_autolink_literal;
+mod gfm_label_start_footnote;
 pub mod gfm_table;
 pub mod gfm_task_list_item;
 pub mod html_text;
@@ -18,6 +20,7 @@ mod stack;
 pub mod string;
 pub mod url;
 
+pub use count::count_rows;
 pub use gfm_task_list_item::push_check;
 pub use printing::{Printing, Scratch};
 pub use rows::push_rows;

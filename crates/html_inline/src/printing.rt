@@ -2,13 +2,14 @@
 ghost use Rattle.std.specs.Prelude.{◌≡◌, [], IfOk, string_bytes};
 
 use crate::stack::OpenPart;
+use inline_labels::LabelTable;
 use inline_rows::Linked;
 use markdown_options::{CompileOptions, Constructs};
 use std::alloc::{AllocError, Allocator};
 
 /// What rows are printed by.
 #[derive(Drop)]
-pub struct Printing<'a, T> {
+pub struct Printing<'a, A: Allocator + Clone, T> {
     /// Which constructs are on.
     pub on: &'a Constructs,
     /// How HTML is printed.
@@ -17,6 +18,8 @@ pub struct Printing<'a, T> {
     pub tables: &'a T,
     /// Where the definitions of the document lead, by their places.
     pub definitions: &'a [Linked<'a>],
+    /// The labels of the document's footnote definitions.
+    pub footnotes: &'a LabelTable<A>,
     /// Whether it is the cell of a table, in whose code a bar may be escaped (GFM 4.10).
     pub cell: bool,
 }

@@ -2,11 +2,14 @@
 //!
 //! In the description of an image no tag is printed, and nothing for the URL and the title of a
 //! link or an image (CommonMark 6.4). The title of an image comes after its description.
-ghost use Rattle.std.specs.Prelude.{◌≡◌, ℕ, List, OnOk, map, reverse, slice_index_or, string_bytes};
+ghost use Rattle.std.specs.Prelude.{◌≡◌, ℕ, List, OnOk, map, reverse, slice_index_or};
 ghost use Rattle.std.specs.List.{fold};
 ghost use Rattle.definition_inline.specs.Inline as inline;
 ghost use Rattle.definition_page.specs.InlinePieces.{leads_to};
-ghost use Rattle.html_bytes.specs.InlineHtml.{InlineMeaning, inline_html};
+ghost use Rattle.html_bytes.specs.InlineHtml.{InlineMeaning, inline_pieces};
+ghost use Rattle.html_bytes.specs.Layout.{lay};
+ghost use Rattle.html_footnotes.specs.Output.{output_view};
+ghost use Rattle.inline_labels.specs.Table.{HasLabels};
 ghost use Rattle.inline_rows.specs.InlineRows as rows_of;
 ghost use Rattle.inline_runs.specs.View.{span_view};
 ghost use Rattle.inline_leaves.specs.Leaves.{parts_of};
@@ -18,27 +21,32 @@ ghost use Rattle.html_inline.specs.Opens.{image_linked, opened_view, place_linke
 ghost use Rattle.html_inline.specs.Printed.{is_described, parts_printed, row_printed, span_end, span_start};
 ghost use Rattle.html_inline.specs.Prints.{meaning_by, Definitions, Prints};
 
+use crate::gfm_label_start_footnote::push_call;
 use crate::label_end::{linked_at, push_image_end, push_image_start, push_link_start};
 use crate::leaf::{push_description, push_leaf};
 use crate::printing::{Printing, Scratch};
 use crate::stack::{OpenPart, is_described};
 use html_escape::push_encoded;
+use html_footnotes::Output;
 use inline_leaves::LeafPart;
 use inline_rows::{InlineRow, LinkTarget, Linked};
 use inline_runs::Span;
 use markdown_options::Tables;
 use std::alloc::{AllocError, Allocator};
 
-/// Prints the rows of a content: where these are the rows of some inline structure, its HTML.
-pub fn push_rows<A: Allocator, T: Tables>(
-    out: &mut String<A>,
+/// Prints the rows of a content: where these are the rows of some inline structure, what it prints.
+/// Its calls are numbered after those before them.
+pub fn push_rows<A: Allocator + Clone, T: Tables>(
+    out: &mut Output<A>,
     scratch: &mut Scratch<A>,
-    printing: &Printing<'_, T>,
+    printing: &Printing<'_, A, T>,
     rows: &[InlineRow<'_>],
 ) -> Result<(), AllocError>
-    ensures { (definition : Definitions) (is : inline.Inlines) →
+    ensures { (definition : Definitions) (footnotes : List (List ℕ)) (default : List ℕ) (is : inline.Inlines) →
+        let meaning = meaning_by (T.reference_of printing.now.tables.now) printing.now definition footnotes in
+        HasLabels printing.now.footnotes.now footnotes →
         rows_view (place_linked printing.now.definitions.now) rows.now ≡ rows_of.inline_rows (leads_to definition) is →
-        Prints result out.old out.new (inline_html (meaning_by (T.reference_of printing.now.tables.now) printing.now definition) (shown printing.now.cell is)) }
+        OnOk result (output_view out.new ≡ fold (lay printing.now.compile.now default) (output_view out.old) (inline_pieces meaning (shown printing.now.cell is))) }
 {
     scratch.stack.clear();
     for (place, row) in rows.iter().enumerate() {
@@ -48,42 +56,44 @@ pub fn push_rows<A: Allocator, T: Tables>(
 }
 
 /// Prints a row, which stands at a place.
-fn push_row<A: Allocator, T: Tables>(
-    out: &mut String<A>,
+fn push_row<A: Allocator + Clone, T: Tables>(
+    out: &mut Output<A>,
     scratch: &mut Scratch<A>,
-    printing: &Printing<'_, T>,
+    printing: &Printing<'_, A, T>,
     rows: &[InlineRow<'_>],
     place: usize,
     row: InlineRow<'_>,
 ) -> Result<(), AllocError>
     requires { slice_index_or rows.now place Exit ≡ row }
-    ensures { (definition : Definitions) →
-        let meaning = meaning_by (T.reference_of printing.now.tables.now) printing.now definition in
+    ensures { (definition : Definitions) (footnotes : List (List ℕ)) →
+        let meaning = meaning_by (T.reference_of printing.now.tables.now) printing.now definition footnotes in
         let at = place_linked printing.now.definitions.now in
-        OnOk result (printed_of meaning at rows.now (string_bytes out.new) scratch.new.stack.items
-        ≡ fold (row_printed_in printing.now.cell meaning) (printed_of meaning at rows.now (string_bytes out.old) scratch.old.stack.items)
+        HasLabels printing.now.footnotes.now footnotes →
+        OnOk result (printed_of meaning at rows.now (output_view out.new) scratch.new.stack.items
+        ≡ fold (row_printed_in printing.now.cell meaning) (printed_of meaning at rows.now (output_view out.old) scratch.old.stack.items)
         (row_view at row.entry)) }
 {
     match row {
-        InlineRow::Text(text) => push_encoded(out, text),
-        InlineRow::Leaf(part) => push_part(out, scratch, printing, part),
+        InlineRow::Text(text) => push_encoded(&mut out.html, text),
+        InlineRow::Leaf(part) => push_part(&mut out.html, scratch, printing, part),
         InlineRow::EnterSpan(span) => enter_span(out, scratch, span),
         InlineRow::EnterLink(target) => enter_link(out, scratch, printing, target),
         InlineRow::EnterImage(target) => enter_image(out, scratch, printing, place, target),
+        InlineRow::Call(label) => push_call(out, scratch, printing, label),
         InlineRow::Exit => exit(out, scratch, printing, rows),
     }
 }
 
 /// Prints a construct that holds no other.
-fn push_part<A: Allocator, T: Tables>(
+fn push_part<A: Allocator + Clone, T: Tables>(
     out: &mut String<A>,
     scratch: &mut Scratch<A>,
-    printing: &Printing<'_, T>,
+    printing: &Printing<'_, A, T>,
     part: LeafPart<'_>,
 ) -> Result<(), AllocError>
     ensures stack { scratch.new.stack ≡ scratch.old.stack }
-    ensures printed { (definition : Definitions) (rows : List InlineRow) →
-        let meaning = meaning_by (T.reference_of printing.now.tables.now) printing.now definition in
+    ensures printed { (definition : Definitions) (footnotes : List (List ℕ)) (rows : List InlineRow) →
+        let meaning = meaning_by (T.reference_of printing.now.tables.now) printing.now definition footnotes in
         let at = place_linked printing.now.definitions.now in
         Prints result out.old out.new (parts_printed meaning (is_described (map (opened_view meaning at rows) (reverse scratch.old.stack.items)))
         (map (part_shown printing.now.cell) (parts_of part.entry))) }
@@ -102,61 +112,61 @@ fn push_part<A: Allocator, T: Tables>(
 }
 
 /// Emphasis or strong emphasis starts (CommonMark 6.2).
-fn enter_span<A: Allocator>(
-    out: &mut String<A>,
+fn enter_span<A: Allocator + Clone>(
+    out: &mut Output<A>,
     scratch: &mut Scratch<A>,
     span: Span,
 ) -> Result<(), AllocError>
     ensures { (meaning : InlineMeaning) (at : ℕ → inline.Linked) (rows : List InlineRow) →
-        OnOk result (printed_of meaning at rows (string_bytes out.new) scratch.new.stack.items
-        ≡ row_printed meaning (printed_of meaning at rows (string_bytes out.old) scratch.old.stack.items) (rows_of.EnterSpan (span_view span))) }
+        OnOk result (printed_of meaning at rows (output_view out.new) scratch.new.stack.items
+        ≡ row_printed meaning (printed_of meaning at rows (output_view out.old) scratch.old.stack.items) (rows_of.EnterSpan (span_view span))) }
 {
     if is_described(scratch.stack.as_slice()) {
         scratch.stack.push(OpenPart::Silent)?;
         return Ok(());
     }
-    out.push_str(span_start(span))?;
+    out.html.push_str(span_start(span))?;
     scratch.stack.push(OpenPart::Span(span))?;
     Ok(())
 }
 
 /// A link starts (CommonMark 6.3).
-fn enter_link<A: Allocator, T: Tables>(
-    out: &mut String<A>,
+fn enter_link<A: Allocator + Clone, T: Tables>(
+    out: &mut Output<A>,
     scratch: &mut Scratch<A>,
-    printing: &Printing<'_, T>,
+    printing: &Printing<'_, A, T>,
     target: LinkTarget<'_>,
 ) -> Result<(), AllocError>
-    ensures { (definition : Definitions) (rows : List InlineRow) →
-        let meaning = meaning_by (T.reference_of printing.now.tables.now) printing.now definition in
+    ensures { (definition : Definitions) (footnotes : List (List ℕ)) (rows : List InlineRow) →
+        let meaning = meaning_by (T.reference_of printing.now.tables.now) printing.now definition footnotes in
         let at = place_linked printing.now.definitions.now in
-        OnOk result (printed_of meaning at rows (string_bytes out.new) scratch.new.stack.items
-        ≡ row_printed meaning (printed_of meaning at rows (string_bytes out.old) scratch.old.stack.items) (rows_of.EnterLink (target_linked at target.entry))) }
+        OnOk result (printed_of meaning at rows (output_view out.new) scratch.new.stack.items
+        ≡ row_printed meaning (printed_of meaning at rows (output_view out.old) scratch.old.stack.items) (rows_of.EnterLink (target_linked at target.entry))) }
 {
     if is_described(scratch.stack.as_slice()) {
         scratch.stack.push(OpenPart::Silent)?;
         return Ok(());
     }
     let linked = linked_at(printing.definitions, target);
-    push_link_start(out, &mut scratch.text, printing, linked)?;
+    push_link_start(&mut out.html, &mut scratch.text, printing, linked)?;
     scratch.stack.push(OpenPart::Link)?;
     Ok(())
 }
 
 /// An image starts, by the row at this place (CommonMark 6.4).
-fn enter_image<A: Allocator, T: Tables>(
-    out: &mut String<A>,
+fn enter_image<A: Allocator + Clone, T: Tables>(
+    out: &mut Output<A>,
     scratch: &mut Scratch<A>,
-    printing: &Printing<'_, T>,
+    printing: &Printing<'_, A, T>,
     place: usize,
     target: LinkTarget<'_>,
 ) -> Result<(), AllocError>
-    ensures { (definition : Definitions) (rows : List InlineRow) →
-        let meaning = meaning_by (T.reference_of printing.now.tables.now) printing.now definition in
+    ensures { (definition : Definitions) (footnotes : List (List ℕ)) (rows : List InlineRow) →
+        let meaning = meaning_by (T.reference_of printing.now.tables.now) printing.now definition footnotes in
         let at = place_linked printing.now.definitions.now in
         image_linked at (slice_index_or rows place Exit) ≡ target_linked at target.entry →
-        OnOk result (printed_of meaning at rows (string_bytes out.new) scratch.new.stack.items
-        ≡ row_printed meaning (printed_of meaning at rows (string_bytes out.old) scratch.old.stack.items)
+        OnOk result (printed_of meaning at rows (output_view out.new) scratch.new.stack.items
+        ≡ row_printed meaning (printed_of meaning at rows (output_view out.old) scratch.old.stack.items)
         (rows_of.EnterImage (target_linked at target.entry))) }
 {
     if is_described(scratch.stack.as_slice()) {
@@ -164,40 +174,40 @@ fn enter_image<A: Allocator, T: Tables>(
         return Ok(());
     }
     let linked = linked_at(printing.definitions, target);
-    push_image_start(out, &mut scratch.text, printing, linked)?;
+    push_image_start(&mut out.html, &mut scratch.text, printing, linked)?;
     scratch.stack.push(OpenPart::Image(place))?;
     Ok(())
 }
 
 /// The innermost part that holds others ends.
-fn exit<A: Allocator, T: Tables>(
-    out: &mut String<A>,
+fn exit<A: Allocator + Clone, T: Tables>(
+    out: &mut Output<A>,
     scratch: &mut Scratch<A>,
-    printing: &Printing<'_, T>,
+    printing: &Printing<'_, A, T>,
     rows: &[InlineRow<'_>],
 ) -> Result<(), AllocError>
-    ensures { (definition : Definitions) →
-        let meaning = meaning_by (T.reference_of printing.now.tables.now) printing.now definition in
+    ensures { (definition : Definitions) (footnotes : List (List ℕ)) →
+        let meaning = meaning_by (T.reference_of printing.now.tables.now) printing.now definition footnotes in
         let at = place_linked printing.now.definitions.now in
-        OnOk result (printed_of meaning at rows.now (string_bytes out.new) scratch.new.stack.items
-        ≡ row_printed meaning (printed_of meaning at rows.now (string_bytes out.old) scratch.old.stack.items) rows_of.Leave) }
+        OnOk result (printed_of meaning at rows.now (output_view out.new) scratch.new.stack.items
+        ≡ row_printed meaning (printed_of meaning at rows.now (output_view out.old) scratch.old.stack.items) rows_of.Leave) }
 {
     match scratch.stack.pop() {
         None => Ok(()),
-        Some(part) => push_end(out, &mut scratch.text, printing, rows, part),
+        Some(part) => push_end(&mut out.html, &mut scratch.text, printing, rows, part),
     }
 }
 
 /// Prints what stands at the end of a part that holds others.
-fn push_end<A: Allocator, T: Tables>(
+fn push_end<A: Allocator + Clone, T: Tables>(
     out: &mut String<A>,
     text: &mut String<A>,
-    printing: &Printing<'_, T>,
+    printing: &Printing<'_, A, T>,
     rows: &[InlineRow<'_>],
     part: OpenPart,
 ) -> Result<(), AllocError>
-    ensures { (definition : Definitions) →
-        let meaning = meaning_by (T.reference_of printing.now.tables.now) printing.now definition in
+    ensures { (definition : Definitions) (footnotes : List (List ℕ)) →
+        let meaning = meaning_by (T.reference_of printing.now.tables.now) printing.now definition footnotes in
         let at = place_linked printing.now.definitions.now in
         Prints result out.old out.new ((opened_view meaning at rows.now part).ending) }
 {
@@ -213,8 +223,8 @@ fn push_end<A: Allocator, T: Tables>(
 }
 
 /// Where the image leads that the row at a place starts.
-fn image_linked<'a, T>(
-    printing: &Printing<'a, T>,
+fn image_linked<'a, A: Allocator + Clone, T>(
+    printing: &Printing<'a, A, T>,
     rows: &[InlineRow<'a>],
     place: usize,
 ) -> Linked<'a>

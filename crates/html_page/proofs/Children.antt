@@ -1,5 +1,5 @@
 -- What the rows of blocks print, in each container and list.
-use Rattle.std.proofs.Common.{◌≡◌, ℕ, suc, ◌+◌, ◌≤◌, Bool, true, false, not, ◌==◌, List, [], ◌∷◌, ◌++◌, Option, refl, sym, ap, ◌∙◌, subst, append_assoc, arith, codes, None, Some}
+use Rattle.std.proofs.Common.{◌≡◌, ℕ, ◌≤◌, Bool, true, false, not, ◌==◌, List, [], ◌∷◌, ◌++◌, Option, refl, sym, ap, ◌∙◌, subst, append_assoc, codes, None, Some}
 use Rattle.std.specs.List.{fold}
 use Rattle.std.proofs.lemmas.Bool.{eqb-true}
 use Rattle.std.proofs.lemmas.List.Sums.{fold-append}
@@ -7,7 +7,9 @@ use Rattle.definition_block.specs.declared.container.Item.{Item as ItemOf}
 use Rattle.definition_block.specs.Container.{Container, Quote, Item, Footnote}
 use Rattle.definition_block.specs.Tree.{Block, Paragraph, Heading, Break, IndentedCode, FencedCode, Html, Table, Definition, Holds, Items, Ending, Blank, Blocks, Nil, Cons}
 use Rattle.definition_block.specs.Lists.{after_endings, has_gap, is_loose, list_marker, before, grouped, grouped_block}
-use Rattle.html_bytes.specs.Pieces.{Piece, Bytes, Eol, Fresh, print}
+use Rattle.html_bytes.specs.Pieces.{Piece, Bytes, Eol, Fresh, NoteStart, NoteEnd, print}
+use Rattle.html_bytes.specs.Layout.{lay as lay_piece, with_text}
+use Rattle.definition_page.specs.Layout.{Laid}
 use Rattle.html_bytes.specs.Document.{Document}
 use Rattle.definition_page.specs.Read.{in_container, in_item}
 use Rattle.html_bytes.specs.Html.{block_pieces, children_pieces, ends_tight, fresh_unless, number_tag, number_end}
@@ -20,18 +22,27 @@ use Rattle.html_page.specs.declared.loose.Ahead.{Ahead}
 use Rattle.html_page.specs.Printable.{IsPrintable, CanBePrinted}
 use Rattle.html_page.specs.Loose.{place_at}
 use Rattle.html_page.specs.Levels.{standing_of, is_list, level_of, new_level, after_block, after_footnote, level_after}
-use Rattle.html_page.specs.PrinterView.{PrinterView, printer_in, printer_at, in_list, start_item, exit_of, leave_list_if, print_row, print_all, more}
+use Rattle.html_page.specs.PrinterView.{PrinterView, printer_at, in_list, start_item, exit_of, leave_list_if, print_row, print_all, more}
 use Rattle.html_page.proofs.Ahead.{ahead_of, ahead_of_item, before_item_is, list_ahead, after_list, on_list, off_list, no_marker}
 use Rattle.html_page.proofs.Places.{places_in, places_within}
 use Rattle.html_page.proofs.Past.{level_past, past_kind, past_plain}
 
 module _ (d : Document) (default : List ℕ) where
   -- a page after pieces
-  abbrev lay : List ℕ → List Piece → List ℕ
-  lay out pieces = fold (print default) out pieces
+  abbrev one_more : Laid → Piece → Laid
+  one_more l p = lay_piece d.options.compile default l p
 
-  lay_more : (out : List ℕ) (ps qs : List Piece) → lay (lay out ps) qs ≡ lay out (ps ++ qs)
-  lay_more out ps qs = sym (fold-append (print default) out ps qs)
+  abbrev lay : Laid → List Piece → Laid
+  lay out pieces = fold one_more out pieces
+
+  lay_more : (out : Laid) (ps qs : List Piece) → lay (lay out ps) qs ≡ lay out (ps ++ qs)
+  lay_more out ps qs = sym (fold-append one_more out ps qs)
+
+  -- the end of an item is text
+  item_end : (said : Bool) (out : Laid)
+      → with_text out (fold (print default) out.text (fresh_unless said ++ Bytes (codes "</li>") ∷ [])) ≡ lay out (fresh_unless said ++ Bytes (codes "</li>") ∷ [])
+  item_end true out = refl
+  item_end false out = refl
 
   -- what blocks print at a level
   abbrev at_level : Level → Blocks → List Piece
@@ -41,21 +52,21 @@ module _ (d : Document) (default : List ℕ) where
 
   -- in a container or the document
   abbrev pub ChildrenPrinted : Blocks → Type 0
-  ChildrenPrinted bs = (l : Level) (out : List ℕ) (outer : List Level) (places : List Place) → is_list l.holder ≡ false
+  ChildrenPrinted bs = (l : Level) (out : Laid) (outer : List Level) (places : List Place) → is_list l.holder ≡ false
       → print_all d default (printer_at out l outer (places_within bs ++ places)) (rows_of bs)
       ≡ printer_at (lay out (at_level l (grouped bs))) (level_past l (grouped bs)) outer places
 
   -- on a list that is open in a level
-  abbrev on_list_at : List ℕ → Option ℕ → Bool → Bool → Level → List Level → List Place → PrinterView
+  abbrev on_list_at : Laid → Option ℕ → Bool → Bool → Level → List Level → List Place → PrinterView
   on_list_at out number tight plain l outer places = printer_at out (level_of (holder.List number) tight plain false false) (l ∷ outer) places
 
   -- after the rest of a list, and what follows it
-  abbrev list_then : List ℕ → Option ℕ → Bool → Level → Blocks → Blocks → List Level → List Place → PrinterView
+  abbrev list_then : Laid → Option ℕ → Bool → Level → Blocks → Blocks → List Level → List Place → PrinterView
   list_then out number tight l items others outer places =
       printer_at (lay (lay out (children_pieces d in_container tight false items ++ Eol ∷ Bytes (number_end number) ∷ [])) (at_level l others)) (level_past l others) outer places
 
   abbrev pub ListPrinted : Blocks → Type 0
-  ListPrinted bs = (number : Option ℕ) (tight plain : Bool) (l : Level) (out : List ℕ) (outer : List Level) (places : List Place)
+  ListPrinted bs = (number : Option ℕ) (tight plain : Bool) (l : Level) (out : Laid) (outer : List Level) (places : List Place)
       → is_list l.holder ≡ false → 1 ≤ list_marker (after_endings (grouped bs))
       → print_all d default (on_list_at out number tight plain l outer (places_within bs ++ places)) (rows_of bs)
       ≡ list_then out number tight l (list_ahead (grouped bs)) (after_list (grouped bs)) outer places
@@ -63,14 +74,15 @@ module _ (d : Document) (default : List ℕ) where
   -- ---- an item
 
   -- the end of an item
-  item_left : (number : Option ℕ) (tight last : Bool) (l inner : Level) (out : List ℕ) (outer : List Level) (places : List Place) → inner.holder ≡ holder.Item last
+  item_left : (number : Option ℕ) (tight last : Bool) (l inner : Level) (out : Laid) (outer : List Level) (places : List Place) → inner.holder ≡ holder.Item last
       → print_row d default (printer_at out inner (level_of (holder.List number) tight false false false ∷ l ∷ outer) places) Exit
       ≡ leave_list_if default last (on_list_at (lay out (fresh_unless inner.plain ++ Bytes (codes "</li>") ∷ [])) number tight false l outer places)
   item_left number tight last l inner out outer places is =
       ap (λ (k : Holder). exit_of default k (printer_at out inner (level_of (holder.List number) tight false false false ∷ l ∷ outer) places)) is
+      ∙ ap (λ x. leave_list_if default last (on_list_at x number tight false l outer places)) (item_end inner.plain out)
 
   -- an item on a list that is open
-  item_printed : (item : ItemOf) (kids : Blocks) (place : Place) (number : Option ℕ) (tight plain : Bool) (l : Level) (out : List ℕ) (outer : List Level) (places : List Place)
+  item_printed : (item : ItemOf) (kids : Blocks) (place : Place) (number : Option ℕ) (tight plain : Bool) (l : Level) (out : Laid) (outer : List Level) (places : List Place)
       → ChildrenPrinted kids
       → print_all d default (on_list_at out number tight plain l outer (place ∷ (places_within kids ++ places))) (block_rows (Holds (Item item) kids))
       ≡ leave_list_if default (not place.goes_on) (on_list_at (lay out (block_pieces d in_container tight false (Holds (Item item) (grouped kids)))) number tight false l outer places)
@@ -90,7 +102,7 @@ module _ (d : Document) (default : List ℕ) where
       ∙ ap (λ ps. lay (lay out start) ps) (sym (append_assoc body (fresh_unless (ends_tight tight true gs)) end)))
 
   -- what follows an item that is printed: more of its list, or what stands after it
-  item_then : (goes_on : Bool) (bs : Blocks) (number : Option ℕ) (tight : Bool) (l : Level) (out : List ℕ) (outer : List Level) (places : List Place)
+  item_then : (goes_on : Bool) (bs : Blocks) (number : Option ℕ) (tight : Bool) (l : Level) (out : Laid) (outer : List Level) (places : List Place)
       → is_list l.holder ≡ false → (goes_on ≡ true → 1 ≤ list_marker (after_endings (grouped bs))) → ChildrenPrinted bs → ListPrinted bs
       → print_all d default (leave_list_if default (not goes_on) (on_list_at out number tight false l outer (places_within bs ++ places))) (rows_of bs)
       ≡ list_then out number tight l (on_list goes_on (grouped bs)) (off_list goes_on (grouped bs)) outer places
@@ -98,7 +110,7 @@ module _ (d : Document) (default : List ℕ) where
   item_then false bs number tight l out outer places no_list some children list = children l (lay out (Eol ∷ Bytes (number_end number) ∷ [])) outer places no_list
 
   -- the pieces of an item, of what follows it on its list, and of what follows the list
-  split_list : (out : List ℕ) (item more end others : List Piece) → lay (lay (lay out item) (more ++ end)) others ≡ lay (lay out ((item ++ more) ++ end)) others
+  split_list : (out : Laid) (item more end others : List Piece) → lay (lay (lay out item) (more ++ end)) others ≡ lay (lay out ((item ++ more) ++ end)) others
   split_list out item more end others =
       ap (λ x. lay x others) (lay_more out item (more ++ end) ∙ ap (λ ps. lay out ps) (sym (append_assoc item more end)))
 
@@ -106,12 +118,12 @@ module _ (d : Document) (default : List ℕ) where
 
   -- a block, and those after it
   abbrev StepPrinted : Block → Blocks → Type 0
-  StepPrinted b bs = (l : Level) (out : List ℕ) (outer : List Level) (places : List Place) → is_list l.holder ≡ false
+  StepPrinted b bs = (l : Level) (out : Laid) (outer : List Level) (places : List Place) → is_list l.holder ≡ false
       → print_all d default (print_all d default (printer_at out l outer (places_in b (grouped bs) ++ (places_within bs ++ places))) (block_rows b)) (rows_of bs)
       ≡ printer_at (lay out (at_level l (before (grouped_block b) (grouped bs)))) (level_past l (before (grouped_block b) (grouped bs))) outer places
 
   -- a block that is a row
-  leaf_step : (b : Block) (bs : Blocks) → ChildrenPrinted bs → (l : Level) (out : List ℕ) (outer : List Level) (places : List Place) → is_list l.holder ≡ false
+  leaf_step : (b : Block) (bs : Blocks) → ChildrenPrinted bs → (l : Level) (out : Laid) (outer : List Level) (places : List Place) → is_list l.holder ≡ false
       → print_all d default (print_row d default (printer_at out l outer (places_within bs ++ places)) (Single b)) (rows_of bs)
       ≡ printer_at (lay out (at_level l (Cons b (grouped bs)))) (level_past l (Cons b (grouped bs))) outer places
   leaf_step b bs children l out outer places no_list =
@@ -120,7 +132,7 @@ module _ (d : Document) (default : List ℕ) where
       children after (lay out own) outer places no_list
       ∙ ap (λ x. printer_at x (level_past after (grouped bs)) outer places) (lay_more out own (at_level after (grouped bs)))
 
-  quote_left : (l inner : Level) (out : List ℕ) (outer : List Level) (places : List Place) → inner.holder ≡ holder.Quote
+  quote_left : (l inner : Level) (out : Laid) (outer : List Level) (places : List Place) → inner.holder ≡ holder.Quote
       → print_row d default (printer_at out inner (l ∷ outer) places) Exit ≡ printer_at (lay out (Fresh ∷ Bytes (codes "</blockquote>") ∷ [])) l outer places
   quote_left l inner out outer places is = ap (λ (k : Holder). exit_of default k (printer_at out inner (l ∷ outer) places)) is
 
@@ -140,69 +152,28 @@ module _ (d : Document) (default : List ℕ) where
       ∙ children (after_block l) (lay (lay out start) (body ++ end)) outer places no_list
       ∙ ap (λ x. printer_at x (level_past (after_block l) (grouped bs)) outer places) (lay_more out (start ++ (body ++ end)) (at_level (after_block l) (grouped bs)))
 
-  -- ---- footnote definitions, in which nothing is printed
+  footnote_left : (l inner : Level) (out : Laid) (outer : List Level) (places : List Place) → inner.holder ≡ holder.Footnote
+      → print_row d default (printer_at out inner (l ∷ outer) places) Exit ≡ printer_at (lay out (NoteEnd ∷ [])) l outer places
+  footnote_left l inner out outer places is = ap (λ (k : Holder). exit_of default k (printer_at out inner (l ∷ outer) places)) is
 
-  -- in one
-  abbrev RowsHidden : Blocks → Type 0
-  RowsHidden kids = (left : ℕ) (l : Level) (out : List ℕ) (outer : List Level) (places : List Place)
-      → print_all d default (printer_in (suc left) out l outer (places_within kids ++ places)) (rows_of kids) ≡ printer_in (suc left) out l outer places
-
-  abbrev BlockHidden : Block → Type 0
-  BlockHidden b = (gs : Blocks) (left : ℕ) (l : Level) (out : List ℕ) (outer : List Level) (places : List Place)
-      → print_all d default (printer_in (suc left) out l outer (places_in b gs ++ places)) (block_rows b) ≡ printer_in (suc left) out l outer places
-
-  -- up to the end of a container
-  exit_hidden : (kids : Blocks) → RowsHidden kids → (left : ℕ) (l : Level) (out : List ℕ) (outer : List Level) (places : List Place)
-      → print_all d default (printer_in (suc left) out l outer (places_within kids ++ places)) (rows_of kids ++ Exit ∷ []) ≡ printer_in left out l outer places
-  exit_hidden kids k left l out outer places =
-      fold-append (print_row d default) (printer_in (suc left) out l outer (places_within kids ++ places)) (rows_of kids) (Exit ∷ [])
-      ∙ ap (λ (p : PrinterView). print_row d default p Exit) (k left l out outer places)
-
-  holds_hidden : (c : Container) (kids : Blocks) → RowsHidden kids → BlockHidden (Holds c kids)
-  holds_hidden Quote kids k gs left l out outer places =
-      let e : suc left + 1 ≡ suc (suc left) = omega arith in
-      ap (λ m. print_all d default (printer_in m out l outer (places_within kids ++ places)) (rows_of kids ++ Exit ∷ [])) e ∙ exit_hidden kids k (suc left) l out outer places
-  holds_hidden (Item item) kids k gs left l out outer places =
-      let e : suc left + 1 ≡ suc (suc left) = omega arith in
-      ap (λ m. print_all d default (printer_in m out l outer (places_within kids ++ places)) (rows_of kids ++ Exit ∷ [])) e ∙ exit_hidden kids k (suc left) l out outer places
-  holds_hidden (Footnote label) kids k gs left l out outer places =
-      let e : suc left + 1 ≡ suc (suc left) = omega arith in
-      ap (λ m. print_all d default (printer_in m out l outer (places_within kids ++ places)) (rows_of kids ++ Exit ∷ [])) e ∙ exit_hidden kids k (suc left) l out outer places
-
-  more_hidden : (b : Block) (bs : Blocks) → BlockHidden b → RowsHidden bs → RowsHidden (Cons b bs)
-  more_hidden b bs h k left l out outer places =
-      ap (λ ps. print_all d default (printer_in (suc left) out l outer ps) (rows_of (Cons b bs))) (append_assoc (places_in b (grouped bs)) (places_within bs) places)
-      ∙ fold-append (print_row d default) (printer_in (suc left) out l outer (places_in b (grouped bs) ++ (places_within bs ++ places))) (block_rows b) (rows_of bs)
-      ∙ ap (λ (p : PrinterView). print_all d default p (rows_of bs)) (h (grouped bs) left l out outer (places_within bs ++ places))
-      ∙ k left l out outer places
-
-  mutual
-    block_hidden : (b : Block) → IsPrintable b → BlockHidden b
-    block_hidden (Paragraph ls) h gs left l out outer places = refl
-    block_hidden (Heading rank ls) h gs left l out outer places = refl
-    block_hidden Break h gs left l out outer places = refl
-    block_hidden (IndentedCode ls) h gs left l out outer places = refl
-    block_hidden (FencedCode info closed ls) h gs left l out outer places = refl
-    block_hidden (Html ls) h gs left l out outer places = refl
-    block_hidden (Table ls) h gs left l out outer places = refl
-    block_hidden (Definition label destination title) h gs left l out outer places = refl
-    block_hidden (Holds c kids) h gs left l out outer places = holds_hidden c kids (rows_hidden kids h.1) gs left l out outer places
-    block_hidden (Items items) h gs left l out outer places = absurd h
-    block_hidden (Ending ending) h gs left l out outer places = refl
-    block_hidden (Blank ending) h gs left l out outer places = refl
-
-    rows_hidden : (bs : Blocks) → CanBePrinted bs → RowsHidden bs
-    rows_hidden Nil h left l out outer places = refl
-    rows_hidden (Cons b bs) h left l out outer places = more_hidden b bs (block_hidden b h.0) (rows_hidden bs h.1) left l out outer places
-
-  footnote_step : (label : List ℕ) (kids bs : Blocks) → CanBePrinted kids → ChildrenPrinted bs → StepPrinted (Holds (Footnote label) kids) bs
-  footnote_step label kids bs h children l out outer places no_list =
+  footnote_step : (label : List ℕ) (kids bs : Blocks) → ChildrenPrinted kids → ChildrenPrinted bs → StepPrinted (Holds (Footnote label) kids) bs
+  footnote_step label kids bs k children l out outer places no_list =
+      let gs = grouped kids in
+      let start : List Piece = NoteStart ∷ [] in
+      let new = new_level holder.Footnote false in
+      let body = children_pieces d in_container false false gs in
+      let end : List Piece = NoteEnd ∷ [] in
       let left = places_within bs ++ places in
-      ap (λ (p : PrinterView). print_all d default p (rows_of bs)) (exit_hidden kids (rows_hidden kids h) 0 (after_footnote l) out outer left)
-      ∙ children (after_footnote l) out outer places no_list
+      ap (λ (p : PrinterView). print_all d default p (rows_of bs))
+      (fold-append (print_row d default) (printer_at (lay out start) new (after_footnote l ∷ outer) (places_within kids ++ left)) (rows_of kids) (Exit ∷ [])
+      ∙ ap (λ (p : PrinterView). print_row d default p Exit) (k new (lay out start) (after_footnote l ∷ outer) left refl)
+      ∙ footnote_left (after_footnote l) (level_past new gs) (lay (lay out start) body) outer left (past_kind new gs)
+      ∙ ap (λ x. printer_at x (after_footnote l) outer left) (lay_more (lay out start) body end))
+      ∙ children (after_footnote l) (lay (lay out start) (body ++ end)) outer places no_list
+      ∙ ap (λ x. printer_at x (level_past (after_footnote l) (grouped bs)) outer places) (lay_more out (start ++ (body ++ end)) (at_level (after_footnote l) (grouped bs)))
 
   -- the list that an item starts, if none is open
-  list_started : (item : ItemOf) (kids : Blocks) (place : Place) (l : Level) (out : List ℕ) (outer : List Level) (places : List Place) → is_list l.holder ≡ false
+  list_started : (item : ItemOf) (kids : Blocks) (place : Place) (l : Level) (out : Laid) (outer : List Level) (places : List Place) → is_list l.holder ≡ false
       → print_all d default (printer_at out l outer (place ∷ places)) (block_rows (Holds (Item item) kids))
       ≡ print_all d default (on_list_at (lay out (Fresh ∷ Bytes (number_tag item.number) ∷ [])) item.number (not place.loose) true (after_block l) outer (place ∷ places)) (block_rows (Holds (Item item) kids))
   list_started item kids place l out outer places no_list =
@@ -232,7 +203,7 @@ module _ (d : Document) (default : List ℕ) where
       let items = on_list goes_on gs in
       let others = off_list goes_on gs in
       let body = λ (t : Bool). children_pieces d in_container t false (Cons b items) in
-      let at = λ (x : List ℕ). printer_at x (level_past (after_block l) others) outer places in
+      let at = λ (x : Laid). printer_at x (level_past (after_block l) others) outer places in
       ap (λ (p : PrinterView). print_all d default p (rows_of bs))
       (list_started item kids place l out outer (places_within kids ++ left) no_list
       ∙ item_printed item kids place item.number tight true (after_block l) (lay out start) outer left k)
@@ -245,13 +216,13 @@ module _ (d : Document) (default : List ℕ) where
   -- ---- blocks on a list
 
   abbrev OnListPrinted : Block → Blocks → Type 0
-  OnListPrinted b bs = (number : Option ℕ) (tight plain : Bool) (l : Level) (out : List ℕ) (outer : List Level) (places : List Place)
+  OnListPrinted b bs = (number : Option ℕ) (tight plain : Bool) (l : Level) (out : Laid) (outer : List Level) (places : List Place)
       → is_list l.holder ≡ false → 1 ≤ list_marker (after_endings (before (grouped_block b) (grouped bs)))
       → print_all d default (print_all d default (on_list_at out number tight plain l outer (places_in b (grouped bs) ++ (places_within bs ++ places))) (block_rows b)) (rows_of bs)
       ≡ list_then out number tight l (list_ahead (before (grouped_block b) (grouped bs))) (after_list (before (grouped_block b) (grouped bs))) outer places
 
   -- an ending, by what it prints
-  ending_on_list : (own : List Piece) (bs : Blocks) → ListPrinted bs → (number : Option ℕ) (tight plain : Bool) (l : Level) (out : List ℕ) (outer : List Level) (places : List Place)
+  ending_on_list : (own : List Piece) (bs : Blocks) → ListPrinted bs → (number : Option ℕ) (tight plain : Bool) (l : Level) (out : Laid) (outer : List Level) (places : List Place)
       → is_list l.holder ≡ false → 1 ≤ list_marker (after_endings (grouped bs))
       → print_all d default (on_list_at (lay out own) number tight plain l outer (places_within bs ++ places)) (rows_of bs)
       ≡ printer_at (lay (lay out ((own ++ children_pieces d in_container tight false (list_ahead (grouped bs))) ++ Eol ∷ Bytes (number_end number) ∷ [])) (at_level l (after_list (grouped bs))))
@@ -296,7 +267,7 @@ module _ (d : Document) (default : List ℕ) where
   step (Definition label destination title) bs h k children list = leaf_step (Definition label destination title) bs children
   step (Holds Quote kids) bs h k children list = quote_step kids bs k children
   step (Holds (Item item) kids) bs h k children list = item_step item kids bs h.0 k children list
-  step (Holds (Footnote label) kids) bs h k children list = footnote_step label kids bs h.1 children
+  step (Holds (Footnote label) kids) bs h k children list = footnote_step label kids bs k children
   step (Items items) bs h k children list = absurd h
   step (Ending ending) bs h k children list = leaf_step (Ending ending) bs children
   step (Blank ending) bs h k children list = leaf_step (Blank ending) bs children

@@ -12,14 +12,17 @@ use Rattle.definition_text.specs.Columns.{is_byte, code_byte}
 use Rattle.definition_text.specs.Encode.{encode}
 use Rattle.definition_text.specs.BlockLines.{BlockLine, own_lines, last_ending}
 use Rattle.definition_block.specs.Tree.{FencedCode}
-use Rattle.html_bytes.specs.Pieces.{Piece as PrinterView, Bytes, Fresh, print}
+use Rattle.html_bytes.specs.Pieces.{Piece as PrinterView, Bytes, Fresh}
+use Rattle.html_bytes.specs.Layout.{lay, with_text}
+use Rattle.definition_page.specs.Layout.{Laid}
+use Rattle.markdown_options.specs.declared.configuration.CompileOptions.{CompileOptions}
 use Rattle.html_bytes.specs.Document.{Document, info_of}
 use Rattle.definition_page.specs.Read.{Standing}
 use Rattle.html_page.specs.Levels.{standing_at}
 use Rattle.html_bytes.specs.Html.{block_pieces, class_of, code_of, fenced_content, fresh_unless}
 use Rattle.block_rows.specs.Rows.{piece_line, piece_lines, first_codes}
 use Rattle.block_rows.proofs.RowSteps.{no_piece}
-use Rattle.html_page.specs.Prints.{layout_after}
+use Rattle.html_page.specs.Prints.{layout_after, with_bytes, with_fresh}
 use Rattle.html_page.proofs.Owed.{none_owed}
 use Rattle.block_rows.proofs.OwnLines.{with_last_ending}
 
@@ -29,55 +32,75 @@ class_some d [] some = let wrong : true ≡ false = some in cc
 class_some d (b ∷ bs) some = refl
 
 -- content with the ending of its last line
-whole_laid : (e : LineEnding) (out : List ℕ) (ls : List BlockLine)
-    → print (ending_bytes e) (out ++ code_of ls) Fresh ≡ print (ending_bytes e) ((out ++ code_of (own_lines ls)) ++ ending_text (last_ending ls)) Fresh
+whole_laid : (e : LineEnding) (out : Laid) (ls : List BlockLine)
+    → with_fresh (ending_bytes e) (with_bytes (code_of ls) out)
+    ≡ with_fresh (ending_bytes e) (with_bytes (ending_text (last_ending ls)) (with_bytes (code_of (own_lines ls)) out))
 whole_laid e out ls =
-    ap (λ x. print (ending_bytes e) (out ++ x) Fresh) (with_last_ending (λ codes. encode (map code_byte codes)) ls)
-    ∙ ap (λ x. print (ending_bytes e) x Fresh) (sym (append_assoc out (code_of (own_lines ls)) (ending_text (last_ending ls))))
+    ap (λ x. with_fresh (ending_bytes e) (with_bytes x out)) (with_last_ending (λ codes. encode (map code_byte codes)) ls)
+    ∙ ap (λ x. with_fresh (ending_bytes e) (with_text out x)) (sym (append_assoc out.text (code_of (own_lines ls)) (ending_text (last_ending ls))))
 
 -- the ending that is printed last
 abbrev pub content_ending : Bool → Bool → LineEnding → List BlockLine → Option LineEnding
 content_ending top closed e ls = if top || closed then last_ending ls else Some e
 
 -- content with that ending
-pub content_laid : (e : LineEnding) (out : List ℕ) (top closed : Bool) (ls : List BlockLine) → 0 < length ls
-    → layout_after e out (fenced_content top closed ls) ≡ print (ending_bytes e) ((out ++ code_of (own_lines ls)) ++ ending_text (content_ending top closed e ls)) Fresh
-content_laid e out top closed [] some = absurd (omega arith)
-content_laid e out true closed (l ∷ ls) some = whole_laid e out (l ∷ ls)
-content_laid e out false true (l ∷ ls) some = whole_laid e out (l ∷ ls)
-content_laid e out false false (l ∷ ls) some = refl
+pub content_laid : (options : CompileOptions) (e : LineEnding) (out : Laid) (top closed : Bool) (ls : List BlockLine) → 0 < length ls
+    → layout_after options e out (fenced_content top closed ls)
+    ≡ with_fresh (ending_bytes e) (with_bytes (ending_text (content_ending top closed e ls)) (with_bytes (code_of (own_lines ls)) out))
+content_laid options e out top closed [] some = absurd (omega arith)
+content_laid options e out true closed (l ∷ ls) some = whole_laid e out (l ∷ ls)
+content_laid options e out false true (l ∷ ls) some = whole_laid e out (l ∷ ls)
+content_laid options e out false false (l ∷ ls) some = refl
 
 -- what stands after the content of code that isn't closed
-end_laid : (e : LineEnding) (out : List ℕ) (content : List PrinterView)
-    → print (ending_bytes e) (layout_after e out content ++ codes "</code></pre>") Fresh ≡ layout_after e out (content ++ Bytes (codes "</code></pre>") ∷ fresh_unless false)
-end_laid e out content = sym (fold-append (print (ending_bytes e)) out content (Bytes (codes "</code></pre>") ∷ Fresh ∷ []))
+end_laid : (options : CompileOptions) (e : LineEnding) (out : Laid) (content : List PrinterView)
+    → with_fresh (ending_bytes e) (with_bytes (codes "</code></pre>") (layout_after options e out content))
+    ≡ layout_after options e out (content ++ Bytes (codes "</code></pre>") ∷ fresh_unless false)
+end_laid options e out content = sym (fold-append (lay options (ending_bytes e)) out content (Bytes (codes "</code></pre>") ∷ Fresh ∷ []))
+
+-- the start tag, step by step
+tag_laid : (d : Document) (e : LineEnding) (info : List ℕ) (out fresh tag class start : Laid)
+    → fresh ≡ with_fresh (ending_bytes e) out → tag ≡ with_bytes (codes "<pre><code") fresh → class ≡ with_bytes (class_of d info) tag → start ≡ with_bytes (codes ">") class
+    → start ≡ with_bytes (codes "<pre><code" ++ class_of d info ++ codes ">") (with_fresh (ending_bytes e) out)
+tag_laid d e info out fresh tag class start is_fresh is_tag is_class is_start =
+    let line = with_fresh (ending_bytes e) out in
+    let t = line.text in
+    is_start
+    ∙ ap (with_bytes (codes ">")) (is_class ∙ ap (with_bytes (class_of d info)) (is_tag ∙ ap (with_bytes (codes "<pre><code")) is_fresh))
+    ∙ ap (λ x. with_text out (x ++ codes ">")) (append_assoc t (codes "<pre><code") (class_of d info))
+    ∙ ap (with_text out) (append_assoc t (codes "<pre><code" ++ class_of d info) (codes ">"))
 
 -- code that isn't closed, step by step
-pub open_laid : (d : Document) (e inner after : LineEnding) (info : List ℕ) (top closed : Bool) (ls : List BlockLine) (out fresh tag class start content end : List ℕ)
+pub open_laid : (d : Document) (e inner after : LineEnding) (info : List ℕ) (top closed : Bool) (ls : List BlockLine) (out fresh tag class start content end : Laid)
     → closed ≡ false → inner ≡ e → after ≡ e
-    → fresh ≡ print (ending_bytes e) out Fresh → tag ≡ fresh ++ codes "<pre><code" → class ≡ tag ++ class_of d info → start ≡ class ++ codes ">"
-    → content ≡ layout_after inner start (fenced_content top closed ls) → end ≡ content ++ codes "</code></pre>"
-    → print (ending_bytes after) end Fresh ≡ layout_after e out (block_pieces d (standing_at top) false false (FencedCode info closed ls))
+    → fresh ≡ with_fresh (ending_bytes e) out → tag ≡ with_bytes (codes "<pre><code") fresh → class ≡ with_bytes (class_of d info) tag → start ≡ with_bytes (codes ">") class
+    → content ≡ layout_after d.options.compile inner start (fenced_content top closed ls) → end ≡ with_bytes (codes "</code></pre>") content
+    → with_fresh (ending_bytes after) end ≡ layout_after d.options.compile e out (block_pieces d (standing_at top) false false (FencedCode info closed ls))
 open_laid d e inner after info top closed ls out fresh tag class start content end not_closed same_inner same_after is_fresh is_tag is_class is_start is_content is_end =
-    ap (λ x. print (ending_bytes x) end Fresh) same_after
-    ∙ ap (λ x. print (ending_bytes e) x Fresh) (is_end ∙ ap (λ x. x ++ codes "</code></pre>") whole)
-    ∙ end_laid e first (fenced_content top closed ls)
-    ∙ ap (λ b. layout_after e first (fenced_content top closed ls ++ Bytes (codes "</code></pre>") ∷ fresh_unless b)) (sym not_closed)
-  where
-    line : List ℕ
-    line = print (ending_bytes e) out Fresh
+    let o = d.options.compile in
+    let first = with_bytes (codes "<pre><code" ++ class_of d info ++ codes ">") (with_fresh (ending_bytes e) out) in
+    let body = fenced_content top closed ls in
+    ap (λ x. with_fresh (ending_bytes x) end) same_after
+    ∙ ap (with_fresh (ending_bytes e)) (is_end ∙ ap (with_bytes (codes "</code></pre>")) (is_content ∙ ap (λ x. layout_after o x start body) same_inner
+    ∙ ap (λ x. layout_after o e x body) (tag_laid d e info out fresh tag class start is_fresh is_tag is_class is_start)))
+    ∙ end_laid o e first body
+    ∙ ap (λ b. layout_after o e first (body ++ Bytes (codes "</code></pre>") ∷ fresh_unless b)) (sym not_closed)
 
-    first : List ℕ
-    first = line ++ (codes "<pre><code" ++ class_of d info ++ codes ">")
-
-    started : start ≡ first
-    started =
-        is_start
-        ∙ ap (λ x. x ++ codes ">") (is_class ∙ ap (λ x. x ++ class_of d info) (is_tag ∙ ap (λ x. x ++ codes "<pre><code") is_fresh) ∙ append_assoc line (codes "<pre><code") (class_of d info))
-        ∙ append_assoc line (codes "<pre><code" ++ class_of d info) (codes ">")
-
-    whole : content ≡ layout_after e first (fenced_content top closed ls)
-    whole = is_content ∙ ap (λ x. layout_after x start (fenced_content top closed ls)) same_inner ∙ ap (λ x. layout_after e x (fenced_content top closed ls)) started
+-- code that is closed
+pub closed_laid : (d : Document) (e inner : LineEnding) (info : List ℕ) (top closed : Bool) (ls : List BlockLine) (out fresh tag class start content end : Laid)
+    → closed ≡ true → inner ≡ e
+    → fresh ≡ with_fresh (ending_bytes e) out → tag ≡ with_bytes (codes "<pre><code") fresh → class ≡ with_bytes (class_of d info) tag → start ≡ with_bytes (codes ">") class
+    → content ≡ layout_after d.options.compile inner start (fenced_content top closed ls) → end ≡ with_bytes (codes "</code></pre>") content
+    → end ≡ layout_after d.options.compile e out (block_pieces d (standing_at top) false false (FencedCode info closed ls))
+closed_laid d e inner info top closed ls out fresh tag class start content end is_closed same_inner is_fresh is_tag is_class is_start is_content is_end =
+    let o = d.options.compile in
+    let first = with_bytes (codes "<pre><code" ++ class_of d info ++ codes ">") (with_fresh (ending_bytes e) out) in
+    let body = fenced_content top closed ls in
+    is_end
+    ∙ ap (with_bytes (codes "</code></pre>")) (is_content ∙ ap (λ x. layout_after o x start body) same_inner
+    ∙ ap (λ x. layout_after o e x body) (tag_laid d e info out fresh tag class start is_fresh is_tag is_class is_start))
+    ∙ sym (fold-append (lay o (ending_bytes e)) first body (Bytes (codes "</code></pre>") ∷ []))
+    ∙ ap (λ b. layout_after o e first (body ++ Bytes (codes "</code></pre>") ∷ fresh_unless b)) (sym is_closed)
 
 -- ---- what a row takes
 
@@ -94,12 +117,12 @@ content_is count pieces =
     ∙ sym (take-map piece_line count (drop 1 pieces))
     ∙ ap (take count) (sym (drop-map piece_line 1 pieces))
 
-pub fenced_laid : (d : Document) (e : LineEnding) (out : List ℕ) (s : Standing) (tight silent closed : Bool) (count : ℕ) (pieces : List Piece)
+pub fenced_laid : (d : Document) (e : LineEnding) (out : Laid) (s : Standing) (tight silent closed : Bool) (count : ℕ) (pieces : List Piece)
     → 1 + count ≤ length pieces → list_all is_byte (first_codes (piece_lines pieces)) ≡ true
-    → layout_after e out (block_pieces d (standing_at s.top) false false (FencedCode (get_or pieces 0 no_piece).text.now closed (piece_lines (take count (take (length pieces - 1) (drop 1 pieces))))))
-    ≡ layout_after e out (block_pieces d s tight silent (FencedCode (first_codes (piece_lines pieces)) closed (take count (drop 1 (piece_lines pieces)))))
+    → layout_after d.options.compile e out (block_pieces d (standing_at s.top) false false (FencedCode (get_or pieces 0 no_piece).text.now closed (piece_lines (take count (take (length pieces - 1) (drop 1 pieces))))))
+    ≡ layout_after d.options.compile e out (block_pieces d s tight silent (FencedCode (first_codes (piece_lines pieces)) closed (take count (drop 1 (piece_lines pieces)))))
 fenced_laid d e out s tight silent closed count pieces enough h =
     let info = (get_or pieces 0 no_piece).text.now in
-    ap (λ ls. layout_after e out (block_pieces d s tight silent (FencedCode info closed ls))) (content_is count pieces)
-    ∙ ap (λ x. layout_after e out (block_pieces d s tight silent (FencedCode x closed (take count (drop 1 (piece_lines pieces))))))
+    ap (λ ls. layout_after d.options.compile e out (block_pieces d s tight silent (FencedCode info closed ls))) (content_is count pieces)
+    ∙ ap (λ x. layout_after d.options.compile e out (block_pieces d s tight silent (FencedCode x closed (take count (drop 1 (piece_lines pieces))))))
     (sym (info_is pieces (omega arith) h))

@@ -1,3 +1,4 @@
+pub mod Laid
 pub mod Owed
 pub mod Lines
 pub mod GfmTableLemmas

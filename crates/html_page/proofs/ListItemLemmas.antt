@@ -1,5 +1,5 @@
--- Items that start have markers.
-use Rattle.std.proofs.Common.{◌≡◌, ℕ, ◌+◌, ◌≤◌, lit≤, inl, inr, [], ◌∷◌, Option, None, Some, Bool, true, not, ◌&&◌, ◌||◌, ◌==◌, leb, sym, subst, take, drop}
+-- Items that start have markers, and footnote definitions labels.
+use Rattle.std.proofs.Common.{◌≡◌, ℕ, ◌+◌, ◌≤◌, lit≤, inl, inr, List, [], ◌∷◌, Option, None, Some, Bool, true, false, not, ◌&&◌, ◌||◌, ◌==◌, leb, sym, subst, take, drop}
 use Rattle.std.specs.Option.{IfSome}
 use Rattle.std.specs.List.{prefix_len}
 use Rattle.std.proofs.lemmas.Bool.{or_cases, eqb-true}
@@ -8,10 +8,11 @@ use Rattle.definition_text.specs.Columns.{Rest, bare, indent}
 use Rattle.definition_text.specs.Indents.{small_indent}
 use Rattle.definition_block.specs.ThematicBreak.{is_break}
 use Rattle.definition_block.specs.Started.{Started}
-use Rattle.definition_block.specs.BlockQuote.{quote_prefix}
+use Rattle.definition_block.specs.BlockQuote.{after_byte, quote_prefix}
 use Rattle.definition_block.specs.ListItem.{Marker, marker_of, is_digit, number_of, bullet, delimiter, marker, is_item, item, item_after, item_start}
-use Rattle.definition_text.specs.Content.{Part}
-use Rattle.definition_block.specs.GfmFootnoteDefinition.{footnote_mark, footnote_of, footnote_start}
+use Rattle.definition_text.specs.Content.{Part, closed_by}
+use Rattle.definition_inline.specs.Label.{label_end}
+use Rattle.definition_block.specs.GfmFootnoteDefinition.{is_footnote_label, label_before, with_colon, after_open, after_bracket, footnote_mark, footnote_of, footnote_start}
 use Rattle.definition_block.specs.Containers.{quote_or, footnote_or, starts}
 use Rattle.html_page.specs.Printable.{IsPrintableContainer}
 use Rattle.html_page.proofs.Choose.{choose_if, choose}
@@ -75,9 +76,29 @@ quote_or_fits : (other : Option Started) (o : Option Rest) → StartFits other �
 quote_or_fits other None h = h
 quote_or_fits other (Some rest) h = record { container = tt }
 
-footnote_of_fits : (o : Option Part) → StartFits (footnote_of o)
-footnote_of_fits None = none_starts
-footnote_of_fits (Some mark) = record { container = tt }
+abbrev LabelFits : Option Part → Type 0
+LabelFits o = IfSome o (λ mark. is_footnote_label mark.text ≡ true)
+
+label_before_fits : (label : List ℕ) (o : Option Rest) → is_footnote_label label ≡ true → LabelFits (label_before label o)
+label_before_fits label None h = tt
+label_before_fits label (Some rest) h = h
+
+with_colon_fits : (o : Option Part) → LabelFits (with_colon o)
+with_colon_fits None = tt
+with_colon_fits (Some label) =
+    choose_if LabelFits (is_footnote_label label.text) _ None (label_before_fits label.text (after_byte 58 label.rest)) tt
+
+after_open_fits : (o : Option Rest) → LabelFits (after_open o)
+after_open_fits None = tt
+after_open_fits (Some rest) = with_colon_fits (closed_by rest (label_end false rest))
+
+mark_fits : (o : Option Rest) → LabelFits (after_bracket o)
+mark_fits None = tt
+mark_fits (Some rest) = after_open_fits (after_byte 94 rest)
+
+footnote_of_fits : (o : Option Part) → LabelFits o → StartFits (footnote_of o)
+footnote_of_fits None h = none_starts
+footnote_of_fits (Some mark) h = record { container = h }
 
 footnote_or_fits : (other o : Option Started) → StartFits other → StartFits o → StartFits (footnote_or other o)
 footnote_or_fits other None h k = h
@@ -87,4 +108,4 @@ pub starts_fits : (on : Constructs) (interrupts : Bool) (rest : Rest) → StartF
 starts_fits on interrupts rest =
     quote_or_fits (footnote_or (item_start on interrupts rest) (footnote_start on rest)) (quote_prefix on rest)
     (footnote_or_fits (item_start on interrupts rest) (footnote_start on rest) (choose StartFits (on.list_item && small_indent on rest && not (is_break on rest)) _ _ (item_after_fits (indent rest) interrupts (marker (bare rest)) (marker_fits (bare rest))) none_starts)
-    (choose StartFits (on.gfm_footnote_definition && small_indent on rest) _ _ (footnote_of_fits (footnote_mark (bare rest))) none_starts))
+    (choose StartFits (on.gfm_footnote_definition && small_indent on rest) _ _ (footnote_of_fits (footnote_mark (bare rest)) (mark_fits (after_byte 91 (bare rest)))) none_starts))

@@ -209,7 +209,7 @@ without_last_printable (Cons b (Cons c bs)) h = (h.0, without_last_printable (Co
 holds_printable : (c : Container) (kids : Blocks) → IsPrintableContainer c → CanBePrinted kids → CanBePrinted (holds c kids)
 holds_printable Quote kids h k = ((tt, without_last_printable kids k), last_printable kids)
 holds_printable (Item item) kids h k = ((h, front_printable kids k), trailing_printable kids)
-holds_printable (Footnote label) kids h k = ((tt, front_printable kids k), trailing_printable kids)
+holds_printable (Footnote label) kids h k = ((h, front_printable kids k), trailing_printable kids)
 
 blanks_printable : (ls : List BlockLine) → CanBePrinted (blanks ls)
 blanks_printable [] = tt

@@ -6,7 +6,8 @@ use Rattle.std.proofs.lemmas.List.Elements.{All-nil, All-cons, All-head, All-tai
 use Rattle.definition_block.specs.Container.{Container, Quote, Item, Footnote}
 use Rattle.definition_block.specs.Tree.{Block, Paragraph, Heading, Break, IndentedCode, FencedCode, Html, Table, Definition, Holds, Items, Ending, Blank, Blocks, Nil, Cons}
 use Rattle.definition_block.specs.Lists.{grouped}
-use Rattle.html_bytes.specs.Pieces.{print, layout}
+use Rattle.html_bytes.specs.Layout.{finished, lay, nothing_laid, page_layout}
+use Rattle.definition_page.specs.Layout.{Laid}
 use Rattle.html_bytes.specs.Document.{Document}
 use Rattle.definition_page.specs.Read.{ends_blank, is_blank_ending}
 use Rattle.definition_page.specs.Read.{on_page}
@@ -14,7 +15,7 @@ use Rattle.html_bytes.specs.Html.{children_pieces, last_piece, document_pieces}
 use Rattle.block_rows.specs.Rows.{BlockRow, Single, Exit, start_row, rows_of, block_rows, spaced_definition}
 use Rattle.html_page.specs.declared.level.Holder.TheVariants as holder
 use Rattle.html_page.specs.declared.loose.Place.{Place}
-use Rattle.html_page.specs.Printable.{IsPrintable, IsPrintableRow, ArePrintable, CanBePrinted}
+use Rattle.html_page.specs.Printable.{IsPrintable, IsPrintableContainer, IsPrintableRow, ArePrintable, CanBePrinted}
 use Rattle.html_page.specs.Loose.{PassView}
 use Rattle.html_page.specs.Levels.{new_level}
 use Rattle.html_page.specs.PrinterView.{PrinterView, printer_at, print_all, is_blank_row, ends_blank_rows, rows_html}
@@ -50,16 +51,17 @@ rows_end_blank (Cons b bs) blank h =
 
 -- ---- the page
 
-pub rows_html_of : (d : Document) (default : List ℕ) (bs : Blocks) → CanBePrinted bs → rows_html d default (rows_of bs) ≡ layout default (document_pieces d bs)
+pub rows_html_of : (d : Document) (default : List ℕ) (bs : Blocks) → CanBePrinted bs → rows_html d default (rows_of bs) ≡ page_layout d.options.compile default (document_pieces d bs)
 rows_html_of d default bs h =
     let pieces = children_pieces d on_page false false (grouped bs) in
     let start = new_level holder.Document false in
-    let last = λ (out : List ℕ) (blank : Bool). fold (print default) out (last_piece blank) in
+    let o = d.options.compile in
+    let last = λ (out : Laid) (blank : Bool). finished o default (fold (lay o default) out (last_piece blank)) in
     let blank = ends_blank_rows (rows_of bs) in
-    ap (λ (ps : List Place). last (print_all d default (printer_at [] start [] ps) (rows_of bs)).out blank) (ap (λ (p : PassView). p.places) (blocks_passed bs h [] []))
-    ∙ ap (λ (p : PrinterView). last p.out blank) ((blocks_printed d default bs h).children start [] [] [] refl)
-    ∙ ap (last (layout default pieces)) (rows_end_blank bs false h)
-    ∙ sym (fold-append (print default) [] pieces (last_piece (ends_blank false bs)))
+    ap (λ (ps : List Place). last (print_all d default (printer_at nothing_laid start [] ps) (rows_of bs)).out blank) (ap (λ (p : PassView). p.places) (blocks_passed bs h [] []))
+    ∙ ap (λ (p : PrinterView). last p.out blank) ((blocks_printed d default bs h).children start nothing_laid [] [] refl)
+    ∙ ap (last (fold (lay o default) nothing_laid pieces)) (rows_end_blank bs false h)
+    ∙ sym (ap (finished o default) (fold-append (lay o default) nothing_laid pieces (last_piece (ends_blank false bs))))
 
 -- ---- what can be printed
 
@@ -70,10 +72,10 @@ all_append P (x ∷ xs) ys h k = All-cons P x (xs ++ ys) (All-head P x xs h) (al
 all_one : (row : BlockRow) → IsPrintableRow row → ArePrintable (row ∷ [])
 all_one row h = All-cons IsPrintableRow row [] h (All-nil IsPrintableRow)
 
-entered_printable : (c : Container) → IsPrintableRow (start_row c)
-entered_printable Quote = tt
-entered_printable (Item item) = tt
-entered_printable (Footnote label) = tt
+entered_printable : (c : Container) → IsPrintableContainer c → IsPrintableRow (start_row c)
+entered_printable Quote h = tt
+entered_printable (Item item) h = tt
+entered_printable (Footnote label) h = h
 
 mutual
   pub printable_block : (b : Block) → IsPrintable b → ArePrintable (block_rows b)
@@ -86,7 +88,7 @@ mutual
   printable_block (Table ls) h = all_one (Single (Table ls)) h
   printable_block (Definition label destination title) h = all_one (Single (spaced_definition label destination title)) h
   printable_block (Holds c kids) h =
-      All-cons IsPrintableRow (start_row c) (rows_of kids ++ Exit ∷ []) (entered_printable c) (all_append IsPrintableRow (rows_of kids) (Exit ∷ []) (printable_rows_of kids h.1) (all_one Exit tt))
+      All-cons IsPrintableRow (start_row c) (rows_of kids ++ Exit ∷ []) (entered_printable c h.0) (all_append IsPrintableRow (rows_of kids) (Exit ∷ []) (printable_rows_of kids h.1) (all_one Exit tt))
   printable_block (Items items) h = absurd h
   printable_block (Ending ending) h = all_one (Single (Ending ending)) h
   printable_block (Blank ending) h = all_one (Single (Blank ending)) h

@@ -16,18 +16,21 @@ is_document holder.Document = true
 is_document holder.Quote = false
 is_document (holder.List number) = false
 is_document (holder.Item last) = false
+is_document holder.Footnote = false
 
 abbrev pub is_list : Holder → Bool
 is_list holder.Document = false
 is_list holder.Quote = false
 is_list (holder.List number) = true
 is_list (holder.Item last) = false
+is_list holder.Footnote = false
 
 abbrev pub is_item : Holder → Bool
 is_item holder.Document = false
 is_item holder.Quote = false
 is_item (holder.List number) = false
 is_item (holder.Item last) = true
+is_item holder.Footnote = false
 
 abbrev pub level_of : Holder → Bool → Bool → Bool → Bool → Level
 level_of k tight plain silent first = record { holder = k; tight = tight; plain = plain; silent = silent; first = first }

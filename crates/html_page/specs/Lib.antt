@@ -2,5 +2,5 @@ pub mod Printable
 pub mod GfmTable
 pub mod Loose
 pub mod Levels
-pub mod PrinterView
 pub mod Prints
+pub mod PrinterView

@@ -2,17 +2,18 @@
 use Rattle.std.specs.Prelude.{◌≡◌, ◌≤◌, true, List, [], ◌∷◌, length}
 use Rattle.std.specs.List.{list_all, All}
 use Rattle.definition_block.specs.Container.{Container, Quote, Item, Footnote}
+use Rattle.definition_block.specs.GfmFootnoteDefinition.{is_footnote_label}
 use Rattle.definition_text.specs.Columns.{is_byte}
 use Rattle.block_rows.specs.ParagraphLines.{HaveNoEnding, AreLines}
 use Rattle.definition_text.specs.BlockLines.{BlockLine}
 use Rattle.definition_block.specs.Tree.{Block, Paragraph, Heading, Break, IndentedCode, FencedCode, Html, Table, Definition, Holds, Items, Ending, Blank, Blocks, Nil, Cons}
 use Rattle.block_rows.specs.Rows.{BlockRow, Single, EnterQuote, EnterItem, EnterFootnote, Exit}
 
--- whether a container can be printed: an item has a marker
+-- whether a container can be printed: an item has a marker, and a footnote definition a label
 abbrev pub IsPrintableContainer : Container → Type 0
 IsPrintableContainer Quote = Unit {0}
 IsPrintableContainer (Item item) = 1 ≤ item.marker
-IsPrintableContainer (Footnote label) = Unit {0}
+IsPrintableContainer (Footnote label) = is_footnote_label label ≡ true
 
 -- the lines of a heading: an ATX heading has one, which may be empty
 abbrev pub AreHeadingLines : List BlockLine → Type 0
@@ -54,7 +55,7 @@ abbrev pub IsPrintableRow : BlockRow → Type 0
 IsPrintableRow (Single b) = IsPrintable b
 IsPrintableRow EnterQuote = Unit {0}
 IsPrintableRow (EnterItem marker number) = Unit {0}
-IsPrintableRow (EnterFootnote label) = Unit {0}
+IsPrintableRow (EnterFootnote label) = is_footnote_label label ≡ true
 IsPrintableRow Exit = Unit {0}
 
 abbrev pub ArePrintable : List BlockRow → Type 0

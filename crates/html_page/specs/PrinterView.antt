@@ -1,10 +1,13 @@
 -- A page, printed row by row.
-use Rattle.std.specs.Prelude.{ℕ, zero, suc, ◌+◌, Bool, true, false, not, List, [], ◌∷◌, ◌++◌, Option, codes, reverse, string_bytes}
+use Rattle.std.specs.Prelude.{ℕ, Bool, true, false, not, List, [], ◌∷◌, ◌++◌, Option, codes, reverse}
 use Rattle.std.specs.List.{fold}
 use Rattle.html_bytes.specs.Document.{Document}
 use Rattle.html_bytes.specs.Pieces.{Piece, Bytes, Eol, Fresh, print}
+use Rattle.html_bytes.specs.Layout.{finished, lay, nothing_laid, with_text}
+use Rattle.definition_page.specs.Layout.{Laid}
 use Rattle.definition_page.specs.Read.{is_blank_ending}
 use Rattle.html_bytes.specs.Html.{number_tag, number_end, fresh_unless, last_piece}
+use Rattle.html_footnotes.specs.Output.{output_view}
 use Rattle.block_rows.specs.Rows.{BlockRow, Single, EnterQuote, EnterItem, EnterFootnote, Exit}
 use Rattle.html_page.specs.declared.loose.Place.{Place}
 use Rattle.html_page.specs.declared.level.Level.{Level}
@@ -12,22 +15,18 @@ use Rattle.html_page.specs.declared.level.Holder.{Holder}
 use Rattle.html_page.specs.declared.level.Holder.TheVariants as holder
 use Rattle.html_page.specs.declared.printer.Printer.{Printer}
 use Rattle.html_page.specs.Loose.{places_of}
+use Rattle.html_page.specs.Prints.{note_started, note_left}
 use Rattle.html_page.specs.Levels.{is_list, new_level, after_block, after_footnote, level_after, row_pieces}
 
--- a page, the level that is open, the levels around it, the places of the items to come, and how many containers are open from a footnote definition on, in which nothing is printed
+-- a page, the level that is open, the levels around it, and the places of the items to come
 pub record PrinterView : Type 0 where
-  pub out : List ℕ
+  pub out : Laid
   pub level : Level
   pub outer : List Level
   pub places : List Place
-  pub hidden : ℕ
 
-abbrev pub printer_in : ℕ → List ℕ → Level → List Level → List Place → PrinterView
-printer_in hidden out level outer places = record { out = out; level = level; outer = outer; places = places; hidden = hidden }
-
--- in no footnote definition
-abbrev pub printer_at : List ℕ → Level → List Level → List Place → PrinterView
-printer_at out level outer places = printer_in 0 out level outer places
+abbrev pub printer_at : Laid → Level → List Level → List Place → PrinterView
+printer_at out level outer places = record { out = out; level = level; outer = outer; places = places }
 
 abbrev pub no_place : Place
 no_place = record { loose = false; goes_on = false }
@@ -40,20 +39,35 @@ abbrev pub other_places : List Place → List Place
 other_places [] = []
 other_places (place ∷ others) = others
 
--- in and out of a container or a list
+-- in and out of a container or a list, with the level around it as it is afterwards
+abbrev pub within_at : Level → Holder → Bool → PrinterView → PrinterView
+within_at around k tight p = printer_at p.out (new_level k tight) (around ∷ p.outer) p.places
+
 abbrev pub within : Holder → Bool → PrinterView → PrinterView
-within k tight p = printer_in p.hidden p.out (new_level k tight) (after_block p.level ∷ p.outer) p.places
+within k tight p = within_at (after_block p.level) k tight p
 
 abbrev pub outside_to : List Level → PrinterView → PrinterView
-outside_to [] p = printer_in p.hidden p.out p.level [] p.places
-outside_to (l ∷ ls) p = printer_in p.hidden p.out l ls p.places
+outside_to [] p = printer_at p.out p.level [] p.places
+outside_to (l ∷ ls) p = printer_at p.out l ls p.places
 
 abbrev pub outside : PrinterView → PrinterView
 outside p = outside_to p.outer p
 
+-- with something else laid out
+abbrev pub with_laid : Laid → PrinterView → PrinterView
+with_laid l p = printer_at l p.level p.outer p.places
+
+-- a footnote definition starts, in a text of its own, and ends
+abbrev pub enter_footnote : PrinterView → PrinterView
+enter_footnote p = within_at (after_footnote p.level) holder.Footnote false (with_laid (note_started p.out) p)
+
+abbrev pub leave_footnote : PrinterView → PrinterView
+leave_footnote p = outside (with_laid (note_left p.out) p)
+
 module _ (default : List ℕ) where
+  -- more pieces of text
   abbrev pub more : List Piece → PrinterView → PrinterView
-  more pieces p = printer_in p.hidden (fold (print default) p.out pieces) p.level p.outer p.places
+  more pieces p = with_laid (with_text p.out (fold (print default) p.out.text pieces)) p
 
   abbrev pub enter_quote : PrinterView → PrinterView
   enter_quote p = within holder.Quote false (more (Fresh ∷ Bytes (codes "<blockquote>") ∷ []) p)
@@ -72,7 +86,7 @@ module _ (default : List ℕ) where
   abbrev pub enter_item : Option ℕ → PrinterView → PrinterView
   enter_item number p =
       let place = first_place p.places in
-      start_item (not place.goes_on) (in_list (is_list p.level.holder) number (not place.loose) (printer_in p.hidden p.out p.level p.outer (other_places p.places)))
+      start_item (not place.goes_on) (in_list (is_list p.level.holder) number (not place.loose) (printer_at p.out p.level p.outer (other_places p.places)))
 
   abbrev pub leave_quote : PrinterView → PrinterView
   leave_quote p = outside (more (Fresh ∷ Bytes (codes "</blockquote>") ∷ []) p)
@@ -85,6 +99,7 @@ module _ (default : List ℕ) where
   leave_list_of holder.Quote p = p
   leave_list_of (holder.List number) p = outside (more (Eol ∷ Bytes (number_end number) ∷ []) p)
   leave_list_of (holder.Item last) p = p
+  leave_list_of holder.Footnote p = p
 
   abbrev pub leave_list : PrinterView → PrinterView
   leave_list p = leave_list_of p.level.holder p
@@ -98,43 +113,26 @@ module _ (default : List ℕ) where
   exit_of holder.Quote p = leave_quote p
   exit_of (holder.List number) p = p
   exit_of (holder.Item last) p = leave_list_if last (leave_item p)
+  exit_of holder.Footnote p = leave_footnote p
 
   abbrev pub exit : PrinterView → PrinterView
   exit p = exit_of p.level.holder p
 
--- a footnote definition starts
-abbrev pub hide : PrinterView → PrinterView
-hide p = printer_in 1 p.out (after_footnote p.level) p.outer p.places
-
--- a row in a footnote definition: so many containers are open where it ends one
-abbrev pub hidden_row : ℕ → PrinterView → BlockRow → PrinterView
-hidden_row left p (Single b) = p
-hidden_row left p EnterQuote = printer_in (p.hidden + 1) p.out p.level p.outer p.places
-hidden_row left p (EnterItem marker number) = printer_in (p.hidden + 1) p.out p.level p.outer (other_places p.places)
-hidden_row left p (EnterFootnote label) = printer_in (p.hidden + 1) p.out p.level p.outer p.places
-hidden_row left p Exit = printer_in left p.out p.level p.outer p.places
-
 module _ (d : Document) (default : List ℕ) where
-  abbrev pub shown_row : PrinterView → BlockRow → PrinterView
-  shown_row p (Single b) = printer_in p.hidden (fold (print default) p.out (row_pieces d p.level (Single b))) (level_after p.level (Single b)) p.outer p.places
-  shown_row p EnterQuote = enter_quote default p
-  shown_row p (EnterItem marker number) = enter_item default number p
-  shown_row p (EnterFootnote label) = hide p
-  shown_row p Exit = exit default p
-
-  abbrev pub row_in : ℕ → PrinterView → BlockRow → PrinterView
-  row_in zero p row = shown_row p row
-  row_in (suc left) p row = hidden_row left p row
-
   abbrev pub print_row : PrinterView → BlockRow → PrinterView
-  print_row p row = row_in p.hidden p row
+  print_row p (Single b) =
+      printer_at (fold (lay d.options.compile default) p.out (row_pieces d p.level (Single b))) (level_after p.level (Single b)) p.outer p.places
+  print_row p EnterQuote = enter_quote default p
+  print_row p (EnterItem marker number) = enter_item default number p
+  print_row p (EnterFootnote label) = enter_footnote p
+  print_row p Exit = exit default p
 
   abbrev pub print_all : PrinterView → List BlockRow → PrinterView
   print_all p rows = fold print_row p rows
 
 -- what a printer has printed
 abbrev pub printer_view : {A : Type 0} → Printer A → PrinterView
-printer_view p = printer_in p.hidden (string_bytes p.page.html) p.level (reverse p.outer.items) (reverse p.places.items)
+printer_view p = printer_at (output_view p.page.out) p.level (reverse p.outer.items) (reverse p.places.items)
 
 -- ---- the HTML of rows
 
@@ -152,7 +150,9 @@ ends_blank_rows rows = fold (λ before row. is_blank_row row) false rows
 
 -- before any row
 abbrev pub blank_page : List BlockRow → PrinterView
-blank_page rows = printer_at [] (new_level holder.Document false) [] (places_of rows)
+blank_page rows = printer_at nothing_laid (new_level holder.Document false) [] (places_of rows)
 
 abbrev pub rows_html : Document → List ℕ → List BlockRow → List ℕ
-rows_html d default rows = fold (print default) (print_all d default (blank_page rows) rows).out (last_piece (ends_blank_rows rows))
+rows_html d default rows =
+    let options = d.options.compile in
+    finished options default (fold (lay options default) (print_all d default (blank_page rows) rows).out (last_piece (ends_blank_rows rows)))

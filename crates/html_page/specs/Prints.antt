@@ -1,19 +1,41 @@
 -- What is printed on a page.
-use Rattle.std.specs.Prelude.{◌≡◌, ℕ, List, ◌++◌, string_bytes}
+use Rattle.std.specs.Prelude.{◌≡◌, ℕ, List, [], ◌∷◌, ◌++◌}
 use Rattle.std.specs.List.{fold}
+use Rattle.markdown_options.specs.declared.configuration.CompileOptions.{CompileOptions}
 use Rattle.markdown_options.specs.declared.line_ending.LineEnding.{LineEnding}
 use Rattle.markdown_options.specs.LineEndings.{ending_bytes}
-use Rattle.html_bytes.specs.Pieces.{Piece, print}
+use Rattle.definition_page.specs.Layout.{Laid, laid, note_ended}
+use Rattle.html_bytes.specs.Layout.{lay, with_text}
+use Rattle.html_bytes.specs.Pieces.{Piece, Fresh, print}
+use Rattle.html_footnotes.specs.Output.{output_view}
 use Rattle.html_page.specs.declared.page.Page.{Page}
 
+-- what was laid out of a page
+abbrev pub page_view : {A : Type 0} → Page A → Laid
+page_view page = output_view page.out
+
+-- with more bytes, and with a fresh line
+abbrev pub with_bytes : List ℕ → Laid → Laid
+with_bytes bytes l = with_text l (l.text ++ bytes)
+
+abbrev pub with_fresh : List ℕ → Laid → Laid
+with_fresh default l = with_text l (print default l.text Fresh)
+
+-- where the content of a footnote starts, in a text of its own, and where it ends
+abbrev pub note_started : Laid → Laid
+note_started l = laid [] (l.text ∷ l.outer) l.notes l.called
+
+abbrev pub note_left : Laid → Laid
+note_left l = note_ended l.text l.outer l.notes l.called
+
 -- a page after more pieces
-abbrev pub layout_after : LineEnding → List ℕ → List Piece → List ℕ
-layout_after ending out pieces = fold (print (ending_bytes ending)) out pieces
+abbrev pub layout_after : CompileOptions → LineEnding → Laid → List Piece → Laid
+layout_after options ending l pieces = fold (lay options (ending_bytes ending)) l pieces
 
 -- a page grows by these pieces
-abbrev pub LaysOut : {A : Type 0} → Page A → Page A → List Piece → Type 0
-LaysOut old new pieces = string_bytes new.html ≡ layout_after old.default_ending (string_bytes old.html) pieces
+abbrev pub LaysOut : {A : Type 0} → CompileOptions → Page A → Page A → List Piece → Type 0
+LaysOut options old new pieces = page_view new ≡ layout_after options old.default_ending (page_view old) pieces
 
 -- a page grows by these bytes
 abbrev pub Prints : {A : Type 0} → Page A → Page A → List ℕ → Type 0
-Prints old new bytes = string_bytes new.html ≡ string_bytes old.html ++ bytes
+Prints old new bytes = page_view new ≡ with_bytes bytes (page_view old)

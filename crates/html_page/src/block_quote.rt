@@ -14,7 +14,7 @@ impl<A: Allocator + Clone> Printer<A> {
         ensures printed { OnOk result (printer_view self.new ≡ enter_quote (ending_bytes self.old.page.default_ending) (printer_view self.old)) }
     {
         self.page.fresh()?;
-        self.page.html.push_str("<blockquote>")?;
+        self.page.say("<blockquote>")?;
         self.enter(Holder::Quote, false)
     }
 
@@ -24,7 +24,7 @@ impl<A: Allocator + Clone> Printer<A> {
         ensures printed { OnOk result (printer_view self.new ≡ leave_quote (ending_bytes self.old.page.default_ending) (printer_view self.old)) }
     {
         self.page.fresh()?;
-        self.page.html.push_str("</blockquote>")?;
+        self.page.say("</blockquote>")?;
         self.leave();
         Ok(())
     }

@@ -1,16 +1,17 @@
 //! Fenced code (CommonMark 4.5).
-ghost use Rattle.std.specs.Prelude.{◌≡◌, ◌++◌, List, OnOk, string_bytes, false};
+ghost use Rattle.std.specs.Prelude.{◌≡◌, List, OnOk, false};
 ghost use Rattle.markdown_options.specs.LineEndings.{ending_bytes};
 ghost use Rattle.definition_text.specs.Lines.{ending_text};
-ghost use Rattle.html_bytes.specs.Pieces.{Fresh, print};
-ghost use Rattle.definition_inline.specs.Definition.{Definition};
+ghost use Rattle.definition_page.specs.Targets.{Targets};
+ghost use Rattle.markdown_options.specs.declared.configuration.CompileOptions.{CompileOptions};
 ghost use Rattle.block_rows.specs.ParagraphLines.{HaveNoEnding};
 ghost use Rattle.definition_block.specs.Tree.{FencedCode};
 ghost use Rattle.html_bytes.specs.Html.{block_pieces, class_of, fenced_content};
 ghost use Rattle.block_rows.specs.Rows.{piece_lines};
 ghost use Rattle.html_contents.specs.Texts.{document_by};
 ghost use Rattle.html_page.specs.Levels.{standing_at};
-ghost use Rattle.html_page.specs.Prints.{LaysOut, Prints};
+ghost use Rattle.html_escape.specs.Prints as escape;
+ghost use Rattle.html_page.specs.Prints.{LaysOut, Prints, page_view, with_bytes, with_fresh};
 
 use crate::page::Page;
 use block_rows::Piece;
@@ -29,15 +30,16 @@ impl<A: Allocator + Clone> Page<A> {
         lines: &[Piece<'_>],
     ) -> Result<(), AllocError>
         ensures default { self.new.default_ending ≡ self.old.default_ending }
-        ensures printed { (ds : List Definition) → HaveNoEnding info.now → let code = FencedCode info.now closed (piece_lines lines.now) in
-            OnOk result (LaysOut self.old self.new (block_pieces (document_by T.Tables texts.now ds) (standing_at top) false false code)) }
+        ensures printed { (ds : Targets) → HaveNoEnding info.now → let code = FencedCode info.now closed (piece_lines lines.now) in
+            let d = document_by T.Tables texts.now ds in
+            OnOk result (LaysOut d.options.compile self.old self.new (block_pieces d (standing_at top) false false code)) }
     {
         self.fresh()?;
-        self.html.push_str("<pre><code")?;
+        self.say("<pre><code")?;
         self.class(texts, info)?;
-        self.html.push_str(">")?;
+        self.say(">")?;
         self.fenced_content(closed, top, lines)?;
-        self.html.push_str("</code></pre>")?;
+        self.say("</code></pre>")?;
         if closed {
             return Ok(());
         }
@@ -47,15 +49,10 @@ impl<A: Allocator + Clone> Page<A> {
     /// Prints the class of code with an info, which has no line ending.
     fn class<T: Tables>(&mut self, texts: &Texts<'_, T, A>, info: &str) -> Result<(), AllocError>
         ensures default { self.new.default_ending ≡ self.old.default_ending }
-        ensures printed { (ds : List Definition) → HaveNoEnding info.now →
+        ensures printed { (ds : Targets) → HaveNoEnding info.now →
             OnOk result (Prints self.old self.new (class_of (document_by T.Tables texts.now ds) info.now)) }
     {
-        if info.is_empty() {
-            return Ok(());
-        }
-        self.html.push_str(" class=\"language-")?;
-        texts.push_info(&mut self.html, info)?;
-        self.html.push_str("\"")
+        push_class(&mut self.out.html, texts, info)
     }
 
     /// Prints lines of fenced code. Where it isn't closed, its last ending stands outside in a
@@ -67,7 +64,7 @@ impl<A: Allocator + Clone> Page<A> {
         lines: &[Piece<'_>],
     ) -> Result<(), AllocError>
         ensures default { self.new.default_ending ≡ self.old.default_ending }
-        ensures printed { OnOk result (LaysOut self.old self.new (fenced_content top closed (piece_lines lines.now))) }
+        ensures printed { (options : CompileOptions) → OnOk result (LaysOut options self.old self.new (fenced_content top closed (piece_lines lines.now))) }
     {
         self.code(lines)?;
         match lines.last() {
@@ -87,10 +84,27 @@ impl<A: Allocator + Clone> Page<A> {
     /// Prints the last ending of code, and asks for a fresh line.
     fn end_content(&mut self, ending: Option<LineEnding>) -> Result<(), AllocError>
         ensures default { self.new.default_ending ≡ self.old.default_ending }
-        ensures printed { OnOk result (string_bytes self.new.html ≡
-            print (ending_bytes self.old.default_ending) (string_bytes self.old.html ++ ending_text ending) Fresh) }
+        ensures printed { OnOk result (page_view self.new ≡
+            with_fresh (ending_bytes self.old.default_ending) (with_bytes (ending_text ending) (page_view self.old))) }
     {
         self.push_ending(ending)?;
         self.fresh()
     }
+}
+
+/// Prints the class of code with an info, which has no line ending.
+fn push_class<T: Tables, A: Allocator + Clone>(
+    out: &mut String<A>,
+    texts: &Texts<'_, T, A>,
+    info: &str,
+) -> Result<(), AllocError>
+    ensures { (ds : Targets) → HaveNoEnding info.now →
+        escape.Prints result out.old out.new (class_of (document_by T.Tables texts.now ds) info.now) }
+{
+    if info.is_empty() {
+        return Ok(());
+    }
+    out.push_str(" class=\"language-")?;
+    texts.push_info(out, info)?;
+    out.push_str("\"")
 }

@@ -17,12 +17,12 @@ impl<A: Allocator + Clone> Page<A> {
     pub(crate) fn indented_code(&mut self, lines: &[Piece<'_>]) -> Result<(), AllocError>
         ensures default { self.new.default_ending ≡ self.old.default_ending }
         ensures printed { (d : Document) → let code = IndentedCode (own_lines (piece_lines lines.now)) in
-            OnOk result (LaysOut self.old self.new (block_pieces d on_page false false code)) }
+            OnOk result (LaysOut d.options.compile self.old self.new (block_pieces d on_page false false code)) }
     {
         self.fresh()?;
-        self.html.push_str("<pre><code>")?;
+        self.say("<pre><code>")?;
         self.code(lines)?;
         self.fresh()?;
-        self.html.push_str("</code></pre>")
+        self.say("</code></pre>")
     }
 }

@@ -1,7 +1,7 @@
 //! Where containers start and end (CommonMark 5).
 ghost use Rattle.std.specs.Prelude.{◌≡◌, OnOk};
 ghost use Rattle.markdown_options.specs.LineEndings.{ending_bytes};
-ghost use Rattle.html_page.specs.PrinterView.{leave_quote, exit, leave_item, leave_list, within, outside, printer_view};
+ghost use Rattle.html_page.specs.PrinterView.{leave_quote, exit, leave_item, leave_list, within, within_at, outside, printer_view};
 
 use crate::level::{Holder, Level};
 use crate::printer::Printer;
@@ -20,6 +20,7 @@ impl<A: Allocator + Clone> Printer<A> {
                 self.leave_item()?;
                 if last { self.leave_list() } else { Ok(()) }
             }
+            Holder::Footnote => self.leave_footnote(),
         }
     }
 
@@ -28,12 +29,26 @@ impl<A: Allocator + Clone> Printer<A> {
         ensures page { self.new.page ≡ self.old.page }
         ensures printed { OnOk result (printer_view self.new ≡ within holder tight (printer_view self.old)) }
     {
-        self.outer.push(Level {
+        let around = Level {
             plain: false,
             silent: false,
             first: false,
             ..self.level
-        })?;
+        };
+        self.enter_at(around, holder, tight)
+    }
+
+    /// Goes into a container or a list, where the level around it is this one afterwards.
+    pub(crate) fn enter_at(
+        &mut self,
+        around: Level,
+        holder: Holder,
+        tight: bool,
+    ) -> Result<(), AllocError>
+        ensures page { self.new.page ≡ self.old.page }
+        ensures printed { OnOk result (printer_view self.new ≡ within_at around holder tight (printer_view self.old)) }
+    {
+        self.outer.push(around)?;
         self.level = Level::new(holder, tight);
         Ok(())
     }

@@ -1,39 +1,50 @@
-//! Footnote definitions, which print nothing at their place (in neither standard).
-ghost use Rattle.std.specs.Prelude.{◌≡◌, ◌-◌, ◌+◌, ◌≤◌, ◌<◌, ◌^◌, List};
-ghost use Rattle.definition_text.specs.BlockLines.{BlockLine};
-ghost use Rattle.block_rows.specs.Rows.{row_value};
-ghost use Rattle.html_page.specs.PrinterView.{hide, hidden_row, printer_view};
+//! Footnote definitions, whose blocks are printed at the page's end (in neither standard).
+ghost use Rattle.std.specs.Prelude.{◌≡◌, OnOk};
+ghost use Rattle.html_page.specs.Prints.{page_view, note_started, note_left};
+ghost use Rattle.html_page.specs.PrinterView.{enter_footnote, leave_footnote, printer_view};
 
+use crate::level::Holder;
+use crate::page::Page;
 use crate::printer::Printer;
 use block_rows::Row;
-use std::alloc::Allocator;
+use std::alloc::{AllocError, Allocator};
 
-impl<A: Allocator + Clone> Printer<A> {
-    /// A footnote definition starts.
-    pub(crate) fn hide(&mut self)
-        ensures default { self.new.page.default_ending ≡ self.old.page.default_ending }
-        ensures hidden { printer_view self.new ≡ hide (printer_view self.old) }
+impl<A: Allocator + Clone> Page<A> {
+    /// The content of a footnote starts.
+    fn start_note(&mut self) -> Result<(), AllocError>
+        ensures default { self.new.default_ending ≡ self.old.default_ending }
+        ensures printed { OnOk result (page_view self.new ≡ note_started (page_view self.old)) }
     {
-        self.level = self.level.after(Row::EnterFootnote);
-        self.hidden = 1;
+        self.out.start_note()
     }
 
-    /// A row in a footnote definition.
-    pub(crate) fn hidden_row(&mut self, row: Row)
-        requires some { 0 < self.old.hidden }
-        requires few { self.old.hidden + 1 < 2 ^ 64 }
-        ensures default { self.new.page.default_ending ≡ self.old.page.default_ending }
-        ensures hidden { (ls : List BlockLine) → printer_view self.new ≡ hidden_row (self.old.hidden - 1) (printer_view self.old) (row_value row ls) }
-        ensures few { self.new.hidden ≤ self.old.hidden + 1 }
+    /// The content of a footnote ends.
+    fn end_note(&mut self) -> Result<(), AllocError>
+        ensures default { self.new.default_ending ≡ self.old.default_ending }
+        ensures printed { OnOk result (page_view self.new ≡ note_left (page_view self.old)) }
     {
-        match row {
-            Row::EnterQuote | Row::EnterFootnote => self.hidden += 1,
-            Row::EnterItem { .. } => {
-                let _place = self.places.pop();
-                self.hidden += 1;
-            }
-            Row::Exit => self.hidden -= 1,
-            _ => {}
-        }
+        self.out.end_note()
+    }
+}
+
+impl<A: Allocator + Clone> Printer<A> {
+    /// A footnote definition starts: what it holds is printed into a text of its own.
+    pub(crate) fn enter_footnote(&mut self) -> Result<(), AllocError>
+        ensures default { self.new.page.default_ending ≡ self.old.page.default_ending }
+        ensures printed { OnOk result (printer_view self.new ≡ enter_footnote (printer_view self.old)) }
+    {
+        let around = self.level.after(Row::EnterFootnote);
+        self.page.start_note()?;
+        self.enter_at(around, Holder::Footnote, false)
+    }
+
+    /// A footnote definition ends: the text around it goes on.
+    pub(crate) fn leave_footnote(&mut self) -> Result<(), AllocError>
+        ensures default { self.new.page.default_ending ≡ self.old.page.default_ending }
+        ensures printed { OnOk result (printer_view self.new ≡ leave_footnote (printer_view self.old)) }
+    {
+        self.page.end_note()?;
+        self.leave();
+        Ok(())
     }
 }

@@ -2,20 +2,24 @@
 //!
 //!     table ::= head delimiters row*
 //!
-//! A row has a cell for each delimiter: those that are missing are empty, and more aren't printed.
+//! A row has a cell for each delimiter: those that are missing are empty, and more aren't printed,
+//! but the calls of footnotes in them count.
 ghost use Rattle.std.specs.Prelude.{◌≡◌, ◌≤◌, ◌++◌, List, OnOk, codes, length};
 ghost use Rattle.std.specs.List.{flat_map};
-ghost use Rattle.definition_inline.specs.Definition.{Definition};
+ghost use Rattle.markdown_options.specs.declared.configuration.CompileOptions.{CompileOptions};
+ghost use Rattle.definition_page.specs.Targets.{Targets};
 ghost use Rattle.definition_text.specs.BlockLines.{own_lines};
 ghost use Rattle.definition_block.specs.GfmTable.{line_cells};
 ghost use Rattle.block_rows.specs.ParagraphLines.{HaveNoEnding};
 ghost use Rattle.block_rows.specs.Rows.{piece_line, piece_lines};
-ghost use Rattle.block_cells.specs.GfmTable.{cell_view};
+ghost use Rattle.block_cells.specs.GfmTable.{cell_view, cells_left};
+ghost use Rattle.html_bytes.specs.Document.{cell_counts};
 ghost use Rattle.html_bytes.specs.GfmTable.{align_of, cell_tag as tag_of_cell, cell_end as end_of_cell, cell_pieces, missing_pieces, cells_pieces};
 ghost use Rattle.html_bytes.specs.GfmTable.{row_pieces, body_row_pieces, body_pieces, head_pieces, table_pieces};
-ghost use Rattle.html_contents.specs.Texts.{HasDefinitions, document_by};
-ghost use Rattle.html_page.specs.GfmTable.{IsClearIf, next_cell_pieces};
+ghost use Rattle.html_contents.specs.Texts.{KnowsTargets, document_by};
+ghost use Rattle.html_page.specs.GfmTable.{CellsAreClear, IsClearIf, next_cell_pieces};
 ghost use Rattle.html_page.specs.Printable.{AreClear};
+ghost use Rattle.html_escape.specs.Prints as escape;
 ghost use Rattle.html_page.specs.Prints.{LaysOut, Prints};
 
 use crate::page::Page;
@@ -35,18 +39,19 @@ impl<A: Allocator + Clone> Page<A> {
     ) -> Result<(), AllocError>
         requires { 2 ≤ length lines.now }
         ensures default { self.new.default_ending ≡ self.old.default_ending }
-        ensures printed { (ds : List Definition) → HasDefinitions texts.now.labels.now texts.now.links.now ds → AreClear (piece_lines lines.now) →
-            OnOk result (LaysOut self.old self.new (table_pieces (document_by T.Tables texts.now ds) (own_lines (piece_lines lines.now)))) }
+        ensures printed { (ds : Targets) → KnowsTargets texts.now ds → AreClear (piece_lines lines.now) →
+            let d = document_by T.Tables texts.now ds in
+            OnOk result (LaysOut d.options.compile self.old self.new (table_pieces d (own_lines (piece_lines lines.now)))) }
     {
         let mut aligns = Vec::new(self.buffers.alloc.clone()?);
         read_delimiters(&mut aligns, lines[1])?;
         self.fresh()?;
-        self.html.push_str("<table>")?;
+        self.say("<table>")?;
         self.fresh()?;
         self.table_head(texts, &aligns, &lines[0])?;
         self.table_body(texts, &aligns, lines[1].ending, &lines[2..])?;
         self.fresh()?;
-        self.html.push_str("</table>")
+        self.say("</table>")
     }
 
     /// Prints the head, with the ending of its line.
@@ -57,14 +62,15 @@ impl<A: Allocator + Clone> Page<A> {
         line: &Piece<'_>,
     ) -> Result<(), AllocError>
         ensures default { self.new.default_ending ≡ self.old.default_ending }
-        ensures printed { (ds : List Definition) → HasDefinitions texts.now.labels.now texts.now.links.now ds → HaveNoEnding (piece_line line.now).codes →
-            OnOk result (LaysOut self.old self.new (head_pieces (document_by T.Tables texts.now ds) aligns.now (piece_line line.now))) }
+        ensures printed { (ds : Targets) → KnowsTargets texts.now ds → HaveNoEnding (piece_line line.now).codes →
+            let d = document_by T.Tables texts.now ds in
+            OnOk result (LaysOut d.options.compile self.old self.new (head_pieces d aligns.now (piece_line line.now))) }
     {
-        self.html.push_str("<thead>")?;
+        self.say("<thead>")?;
         self.table_line(texts, "th", aligns, line)?;
         self.push_ending(line.ending)?;
         self.fresh()?;
-        self.html.push_str("</thead>")
+        self.say("</thead>")
     }
 
     /// Prints the body, if it has rows, after the ending of the row of delimiters.
@@ -76,17 +82,18 @@ impl<A: Allocator + Clone> Page<A> {
         rows: &[Piece<'_>],
     ) -> Result<(), AllocError>
         ensures default { self.new.default_ending ≡ self.old.default_ending }
-        ensures printed { (ds : List Definition) → HasDefinitions texts.now.labels.now texts.now.links.now ds → AreClear (piece_lines rows.now) →
-            OnOk result (LaysOut self.old self.new (body_pieces (document_by T.Tables texts.now ds) aligns.now ending (own_lines (piece_lines rows.now)))) }
+        ensures printed { (ds : Targets) → KnowsTargets texts.now ds → AreClear (piece_lines rows.now) →
+            let d = document_by T.Tables texts.now ds in
+            OnOk result (LaysOut d.options.compile self.old self.new (body_pieces d aligns.now ending (own_lines (piece_lines rows.now)))) }
     {
         if rows.is_empty() {
             return Ok(());
         }
         self.push_ending(ending)?;
-        self.html.push_str("<tbody>")?;
+        self.say("<tbody>")?;
         self.table_rows(texts, aligns, rows)?;
         self.fresh()?;
-        self.html.push_str("</tbody>")
+        self.say("</tbody>")
     }
 
     /// Prints the rows of a body without the last ending.
@@ -97,9 +104,9 @@ impl<A: Allocator + Clone> Page<A> {
         rows: &[Piece<'_>],
     ) -> Result<(), AllocError>
         ensures default { self.new.default_ending ≡ self.old.default_ending }
-        ensures printed { (ds : List Definition) → HasDefinitions texts.now.labels.now texts.now.links.now ds → AreClear (piece_lines rows.now) →
-            OnOk result (LaysOut self.old self.new
-            (flat_map (body_row_pieces (document_by T.Tables texts.now ds) aligns.now) (own_lines (piece_lines rows.now)))) }
+        ensures printed { (ds : Targets) → KnowsTargets texts.now ds → AreClear (piece_lines rows.now) →
+            let d = document_by T.Tables texts.now ds in
+            OnOk result (LaysOut d.options.compile self.old self.new (flat_map (body_row_pieces d aligns.now) (own_lines (piece_lines rows.now)))) }
     {
         let mut waiting = None;
         for row in rows {
@@ -119,14 +126,15 @@ impl<A: Allocator + Clone> Page<A> {
         line: &Piece<'_>,
     ) -> Result<(), AllocError>
         ensures default { self.new.default_ending ≡ self.old.default_ending }
-        ensures printed { (ds : List Definition) → HasDefinitions texts.now.labels.now texts.now.links.now ds → HaveNoEnding (piece_line line.now).codes →
-            OnOk result (LaysOut self.old self.new (row_pieces (document_by T.Tables texts.now ds) name.now aligns.now (piece_line line.now))) }
+        ensures printed { (ds : Targets) → KnowsTargets texts.now ds → HaveNoEnding (piece_line line.now).codes →
+            let d = document_by T.Tables texts.now ds in
+            OnOk result (LaysOut d.options.compile self.old self.new (row_pieces d name.now aligns.now (piece_line line.now))) }
     {
         self.fresh()?;
-        self.html.push_str("<tr>")?;
+        self.say("<tr>")?;
         self.table_cells(texts, name, aligns, line)?;
         self.fresh()?;
-        self.html.push_str("</tr>")
+        self.say("</tr>")
     }
 
     /// Prints the cells of a row, one for each column.
@@ -138,14 +146,32 @@ impl<A: Allocator + Clone> Page<A> {
         line: &Piece<'_>,
     ) -> Result<(), AllocError>
         ensures default { self.new.default_ending ≡ self.old.default_ending }
-        ensures printed { (ds : List Definition) → HasDefinitions texts.now.labels.now texts.now.links.now ds → HaveNoEnding (piece_line line.now).codes →
-            OnOk result (LaysOut self.old self.new
-            (cells_pieces (document_by T.Tables texts.now ds) name.now aligns.now (line_cells (piece_line line.now)))) }
+        ensures printed { (ds : Targets) → KnowsTargets texts.now ds → HaveNoEnding (piece_line line.now).codes →
+            let d = document_by T.Tables texts.now ds in
+            OnOk result (LaysOut d.options.compile self.old self.new (cells_pieces d name.now aligns.now (line_cells (piece_line line.now)))) }
     {
         let mut cells = Cells::new(*line);
         for align in aligns {
             let cell = cells.next();
             self.next_cell(texts, name, *align, cell)?;
+        }
+        self.more_cells(texts, cells)
+    }
+
+    /// Counts the calls of footnotes in the cells beyond the columns, which aren't printed.
+    fn more_cells<T: Tables>(
+        &mut self,
+        texts: &Texts<'_, T, A>,
+        cells: Cells<'_>,
+    ) -> Result<(), AllocError>
+        ensures default { self.new.default_ending ≡ self.old.default_ending }
+        ensures printed { (ds : Targets) → KnowsTargets texts.now ds → CellsAreClear (cells_left cells.entry) →
+            let d = document_by T.Tables texts.now ds in
+            OnOk result (LaysOut d.options.compile self.old self.new (flat_map (cell_counts d) (cells_left cells.entry))) }
+    {
+        let mut left = cells;
+        while let Some(cell) = left.next() {
+            texts.count_cell(&mut self.out, &mut self.buffers, &cell)?;
         }
         Ok(())
     }
@@ -159,8 +185,9 @@ impl<A: Allocator + Clone> Page<A> {
         cell: Option<Cell<'_>>,
     ) -> Result<(), AllocError>
         ensures default { self.new.default_ending ≡ self.old.default_ending }
-        ensures printed { (ds : List Definition) → HasDefinitions texts.now.labels.now texts.now.links.now ds → IsClearIf cell.entry →
-            OnOk result (LaysOut self.old self.new (next_cell_pieces (document_by T.Tables texts.now ds) name.now align cell.entry)) }
+        ensures printed { (ds : Targets) → KnowsTargets texts.now ds → IsClearIf cell.entry →
+            let d = document_by T.Tables texts.now ds in
+            OnOk result (LaysOut d.options.compile self.old self.new (next_cell_pieces d name.now align cell.entry)) }
     {
         match cell {
             Some(cell) => self.cell(texts, name, align, &cell),
@@ -177,20 +204,21 @@ impl<A: Allocator + Clone> Page<A> {
         cell: &Cell<'_>,
     ) -> Result<(), AllocError>
         ensures default { self.new.default_ending ≡ self.old.default_ending }
-        ensures printed { (ds : List Definition) → HasDefinitions texts.now.labels.now texts.now.links.now ds →
+        ensures printed { (ds : Targets) → KnowsTargets texts.now ds →
             HaveNoEnding (piece_line cell.now.line).codes →
-            OnOk result (LaysOut self.old self.new (cell_pieces (document_by T.Tables texts.now ds) name.now align (cell_view cell.now))) }
+            let d = document_by T.Tables texts.now ds in
+            OnOk result (LaysOut d.options.compile self.old self.new (cell_pieces d name.now align (cell_view cell.now))) }
     {
         self.fresh()?;
         self.cell_tag(name, align)?;
-        texts.push_cell(&mut self.html, &mut self.buffers, cell)?;
+        texts.push_cell(&mut self.out, &mut self.buffers, cell)?;
         self.cell_end(name)
     }
 
     /// Prints a cell that is missing.
     fn missing_cell(&mut self, name: &str, align: AlignKind) -> Result<(), AllocError>
         ensures default { self.new.default_ending ≡ self.old.default_ending }
-        ensures printed { OnOk result (LaysOut self.old self.new (missing_pieces name.now align)) }
+        ensures printed { (options : CompileOptions) → OnOk result (LaysOut options self.old self.new (missing_pieces name.now align)) }
     {
         self.fresh()?;
         self.cell_tag(name, align)?;
@@ -202,10 +230,7 @@ impl<A: Allocator + Clone> Page<A> {
         ensures default { self.new.default_ending ≡ self.old.default_ending }
         ensures printed { OnOk result (Prints self.old self.new (tag_of_cell name.now align)) }
     {
-        self.html.push_str("<")?;
-        self.html.push_str(name)?;
-        self.html.push_str(align_attribute(align))?;
-        self.html.push_str(">")
+        push_cell_tag(&mut self.out.html, name, align)
     }
 
     /// Prints the end of a cell.
@@ -213,10 +238,31 @@ impl<A: Allocator + Clone> Page<A> {
         ensures default { self.new.default_ending ≡ self.old.default_ending }
         ensures printed { OnOk result (Prints self.old self.new (end_of_cell name.now)) }
     {
-        self.html.push_str("</")?;
-        self.html.push_str(name)?;
-        self.html.push_str(">")
+        push_cell_end(&mut self.out.html, name)
     }
+}
+
+/// Prints the tag of a cell.
+fn push_cell_tag<A: Allocator>(
+    out: &mut String<A>,
+    name: &str,
+    align: AlignKind,
+) -> Result<(), AllocError>
+    ensures { escape.Prints result out.old out.new (tag_of_cell name.now align) }
+{
+    out.push_str("<")?;
+    out.push_str(name)?;
+    out.push_str(align_attribute(align))?;
+    out.push_str(">")
+}
+
+/// Prints the end of a cell.
+fn push_cell_end<A: Allocator>(out: &mut String<A>, name: &str) -> Result<(), AllocError>
+    ensures { escape.Prints result out.old out.new (end_of_cell name.now) }
+{
+    out.push_str("</")?;
+    out.push_str(name)?;
+    out.push_str(">")
 }
 
 /// The attribute of a cell in a column that is aligned.

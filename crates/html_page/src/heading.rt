@@ -1,5 +1,6 @@
 //! The tags of headings (CommonMark 4.2 and 4.3).
 ghost use Rattle.std.specs.Prelude.{◌≡◌, ◌≤◌, ◌+◌, ◌++◌, ◌∷◌, [], OnOk, codes};
+ghost use Rattle.html_escape.specs.Prints as escape;
 ghost use Rattle.html_page.specs.Prints.{Prints};
 
 use crate::page::Page;
@@ -12,10 +13,22 @@ impl<A: Allocator + Clone> Page<A> {
         ensures default { self.new.default_ending ≡ self.old.default_ending }
         ensures printed { OnOk result (Prints self.old self.new (name.now ++ (48 + rank) ∷ codes ">")) }
     {
-        self.html.push_str(name)?;
-        self.html.push_str(digit(rank))?;
-        self.html.push_str(">")
+        push_heading_tag(&mut self.out.html, name, rank)
     }
+}
+
+/// Prints a tag that ends with a rank.
+fn push_heading_tag<A: Allocator>(
+    out: &mut String<A>,
+    name: &str,
+    rank: u8,
+) -> Result<(), AllocError>
+    requires { (1 ≤ rank) × (rank ≤ 6) }
+    ensures { escape.Prints result out.old out.new (name.now ++ (48 + rank) ∷ codes ">") }
+{
+    out.push_str(name)?;
+    out.push_str(digit(rank))?;
+    out.push_str(">")
 }
 
 /// The digit of a rank.

@@ -1,13 +1,13 @@
 //! ATX headings (CommonMark 4.2).
 ghost use Rattle.std.specs.Prelude.{◌≡◌, ◌≤◌, ◌∷◌, [], List, OnOk, true, false};
-ghost use Rattle.definition_inline.specs.Definition.{Definition};
+ghost use Rattle.definition_page.specs.Targets.{Targets};
 ghost use Rattle.definition_text.specs.BlockLines.{own_lines};
 ghost use Rattle.definition_block.specs.Tree.{Heading};
 ghost use Rattle.definition_page.specs.Read.{on_page};
 ghost use Rattle.html_bytes.specs.Html.{block_pieces};
 ghost use Rattle.block_rows.specs.ParagraphLines.{HaveNoEnding};
 ghost use Rattle.block_rows.specs.Rows.{piece_line};
-ghost use Rattle.html_contents.specs.Texts.{HasDefinitions, document_by};
+ghost use Rattle.html_contents.specs.Texts.{KnowsTargets, document_by};
 ghost use Rattle.html_page.specs.Prints.{LaysOut};
 
 use crate::page::Page;
@@ -26,13 +26,14 @@ impl<A: Allocator + Clone> Page<A> {
     ) -> Result<(), AllocError>
         requires { (1 ≤ rank) × (rank ≤ 6) }
         ensures default { self.new.default_ending ≡ self.old.default_ending }
-        ensures printed { (ds : List Definition) → HasDefinitions texts.now.labels.now texts.now.links.now ds →
+        ensures printed { (ds : Targets) → KnowsTargets texts.now ds →
             HaveNoEnding (piece_line line.now).codes → let ls = own_lines (piece_line line.now ∷ []) in
-            OnOk result (LaysOut self.old self.new (block_pieces (document_by T.Tables texts.now ds) on_page false false (Heading rank ls))) }
+            let d = document_by T.Tables texts.now ds in
+            OnOk result (LaysOut d.options.compile self.old self.new (block_pieces d on_page false false (Heading rank ls))) }
     {
         self.fresh()?;
         self.heading_tag("<h", rank)?;
-        texts.push_line(&mut self.html, &mut self.buffers, line)?;
+        texts.push_line(&mut self.out, &mut self.buffers, line)?;
         self.heading_tag("</h", rank)
     }
 }

@@ -1,15 +1,15 @@
 //! Setext headings (CommonMark 4.3).
 ghost use Rattle.std.specs.Prelude.{◌≡◌, ◌≤◌, List, OnOk, true, false};
 ghost use Rattle.html_bytes.specs.Document.{text_of};
-ghost use Rattle.definition_inline.specs.Definition.{Definition};
+ghost use Rattle.definition_page.specs.Targets.{Targets};
 ghost use Rattle.definition_text.specs.BlockLines.{own_lines};
 ghost use Rattle.definition_block.specs.Tree.{Heading};
 ghost use Rattle.definition_page.specs.Read.{on_page};
 ghost use Rattle.html_bytes.specs.Html.{block_pieces};
 ghost use Rattle.block_rows.specs.Rows.{piece_lines};
-ghost use Rattle.html_contents.specs.Texts.{HasDefinitions, document_by};
+ghost use Rattle.html_contents.specs.Texts.{KnowsTargets, document_by};
 ghost use Rattle.html_page.specs.Printable.{AreHeadingLines};
-ghost use Rattle.html_page.specs.Prints.{LaysOut, Prints};
+ghost use Rattle.html_page.specs.Prints.{LaysOut};
 
 use crate::page::Page;
 use block_rows::Piece;
@@ -27,9 +27,10 @@ impl<A: Allocator + Clone> Page<A> {
     ) -> Result<(), AllocError>
         requires { (1 ≤ rank) × (rank ≤ 6) }
         ensures default { self.new.default_ending ≡ self.old.default_ending }
-        ensures printed { (ds : List Definition) → HasDefinitions texts.now.labels.now texts.now.links.now ds →
+        ensures printed { (ds : Targets) → KnowsTargets texts.now ds →
             let ls = own_lines (piece_lines lines.now) in AreHeadingLines ls →
-            OnOk result (LaysOut self.old self.new (block_pieces (document_by T.Tables texts.now ds) on_page false false (Heading rank ls))) }
+            let d = document_by T.Tables texts.now ds in
+            OnOk result (LaysOut d.options.compile self.old self.new (block_pieces d on_page false false (Heading rank ls))) }
     {
         self.fresh()?;
         self.heading_tag("<h", rank)?;
@@ -44,14 +45,14 @@ impl<A: Allocator + Clone> Page<A> {
         lines: &[Piece<'_>],
     ) -> Result<(), AllocError>
         ensures default { self.new.default_ending ≡ self.old.default_ending }
-        ensures printed { (ds : List Definition) → HasDefinitions texts.now.labels.now texts.now.links.now ds →
+        ensures printed { (ds : Targets) → KnowsTargets texts.now ds →
             let ls = own_lines (piece_lines lines.now) in AreHeadingLines ls →
-            OnOk result (Prints self.old self.new (text_of (document_by T.Tables texts.now ds) ls)) }
+            let d = document_by T.Tables texts.now ds in OnOk result (LaysOut d.options.compile self.old self.new (text_of d ls)) }
     {
         if lines.len() == 1 {
-            texts.push_line(&mut self.html, &mut self.buffers, &lines[0])
+            texts.push_line(&mut self.out, &mut self.buffers, &lines[0])
         } else {
-            texts.push_text(&mut self.html, &mut self.buffers, lines)
+            texts.push_text(&mut self.out, &mut self.buffers, lines)
         }
     }
 }

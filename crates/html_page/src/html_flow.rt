@@ -9,10 +9,11 @@ ghost use Rattle.html_bytes.specs.Html.{html_of};
 ghost use Rattle.html_bytes.specs.RawHtml.{raw_html};
 ghost use Rattle.html_bytes.specs.Pieces.{Bytes, Fresh};
 ghost use Rattle.block_rows.specs.Rows.{piece_lines};
+ghost use Rattle.html_escape.specs.Prints as escape;
 ghost use Rattle.html_page.specs.Prints.{LaysOut, Prints};
 
 use crate::page::Page;
-use block_rows::Piece;
+use block_rows::{Piece, push_ending};
 use html_escape::push_html;
 use markdown_options::CompileOptions;
 use std::alloc::{AllocError, Allocator};
@@ -25,7 +26,7 @@ impl<A: Allocator + Clone> Page<A> {
         lines: &[Piece<'_>],
     ) -> Result<(), AllocError>
         ensures default { self.new.default_ending ≡ self.old.default_ending }
-        ensures printed { OnOk result (LaysOut self.old self.new (Fresh ∷ Bytes (html_of options.now (own_lines (piece_lines lines.now))) ∷ [])) }
+        ensures printed { OnOk result (LaysOut options.now self.old self.new (Fresh ∷ Bytes (html_of options.now (own_lines (piece_lines lines.now))) ∷ [])) }
     {
         self.fresh()?;
         self.html_lines(options, lines)
@@ -40,20 +41,34 @@ impl<A: Allocator + Clone> Page<A> {
         ensures default { self.new.default_ending ≡ self.old.default_ending }
         ensures printed { OnOk result (Prints self.old self.new (html_of options.now (own_lines (piece_lines lines.now)))) }
     {
-        let mut waiting = None;
-        for line in lines {
-            self.push_ending(waiting)?;
-            self.html_line(options, line.text)?;
-            waiting = line.ending;
-        }
-        Ok(())
+        push_html_lines(&mut self.out.html, options, lines)
     }
+}
 
-    /// Prints a line of HTML. Columns before it that are left of a tab aren't printed.
-    fn html_line(&mut self, options: &CompileOptions, text: &str) -> Result<(), AllocError>
-        ensures default { self.new.default_ending ≡ self.old.default_ending }
-        ensures printed { (owed : ℕ) → OnOk result (Prints self.old self.new (raw_html options.now (bytes_of (replicate owed tab_column ++ text.now)))) }
-    {
-        push_html(&mut self.html, options, text)
+/// Prints lines of HTML without the last ending.
+fn push_html_lines<A: Allocator>(
+    out: &mut String<A>,
+    options: &CompileOptions,
+    lines: &[Piece<'_>],
+) -> Result<(), AllocError>
+    ensures { escape.Prints result out.old out.new (html_of options.now (own_lines (piece_lines lines.now))) }
+{
+    let mut waiting = None;
+    for line in lines {
+        push_ending(out, waiting)?;
+        push_html_line(out, options, line.text)?;
+        waiting = line.ending;
     }
+    Ok(())
+}
+
+/// Prints a line of HTML. Columns before it that are left of a tab aren't printed.
+fn push_html_line<A: Allocator>(
+    out: &mut String<A>,
+    options: &CompileOptions,
+    text: &str,
+) -> Result<(), AllocError>
+    ensures { (owed : ℕ) → escape.Prints result out.old out.new (raw_html options.now (bytes_of (replicate owed tab_column ++ text.now))) }
+{
+    push_html(out, options, text)
 }

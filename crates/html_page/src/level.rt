@@ -15,6 +15,7 @@ pub(crate) enum Holder {
     List { number: Option<u32> },
     /// An item, which may be the last of its list.
     Item { last: bool },
+    Footnote,
 }
 
 /// What holds a row, and what was printed in it so far.

@@ -1,6 +1,7 @@
 //! Lists (CommonMark 5.3).
 ghost use Rattle.std.specs.Prelude.{◌≡◌, OnOk};
 ghost use Rattle.html_bytes.specs.Html.{number_tag, number_end};
+ghost use Rattle.html_escape.specs.Prints as escape;
 ghost use Rattle.html_page.specs.Prints.{Prints};
 ghost use Rattle.markdown_options.specs.LineEndings.{ending_bytes};
 ghost use Rattle.html_page.specs.PrinterView.{enter_list, leave_list, printer_view};
@@ -16,11 +17,7 @@ impl<A: Allocator + Clone> Page<A> {
         ensures default { self.new.default_ending ≡ self.old.default_ending }
         ensures printed { OnOk result (Prints self.old self.new (number_tag number)) }
     {
-        match number {
-            None => self.html.push_str("<ul>"),
-            Some(1) => self.html.push_str("<ol>"),
-            Some(number) => write!(self.html, "<ol start=\"{number}\">"),
-        }
+        push_list_tag(&mut self.out.html, number)
     }
 
     /// Prints the end of a list by the number of its first item.
@@ -28,10 +25,7 @@ impl<A: Allocator + Clone> Page<A> {
         ensures default { self.new.default_ending ≡ self.old.default_ending }
         ensures printed { OnOk result (Prints self.old self.new (number_end number)) }
     {
-        match number {
-            None => self.html.push_str("</ul>"),
-            Some(_) => self.html.push_str("</ol>"),
-        }
+        self.say(list_end(number))
     }
 }
 
@@ -57,5 +51,26 @@ impl<A: Allocator + Clone> Printer<A> {
             self.leave();
         }
         Ok(())
+    }
+}
+
+/// Prints the tag of a list by the number of its first item.
+fn push_list_tag<A: Allocator>(out: &mut String<A>, number: Option<u32>) -> Result<(), AllocError>
+    ensures { escape.Prints result out.old out.new (number_tag number) }
+{
+    match number {
+        None => out.push_str("<ul>"),
+        Some(1) => out.push_str("<ol>"),
+        Some(number) => write!(out, "<ol start=\"{number}\">"),
+    }
+}
+
+/// The end of a list by the number of its first item.
+fn list_end(number: Option<u32>) -> &'static str
+    ensures { result.now ≡ number_end number }
+{
+    match number {
+        None => "</ul>",
+        Some(_) => "</ol>",
     }
 }

@@ -26,7 +26,7 @@ impl<A: Allocator + Clone> Printer<A> {
         ensures printed { OnOk result (printer_view self.new ≡ start_item (ending_bytes self.old.page.default_ending) last (printer_view self.old)) }
     {
         self.page.fresh()?;
-        self.page.html.push_str("<li>")?;
+        self.page.say("<li>")?;
         self.enter(Holder::Item { last }, self.level.tight)
     }
 
@@ -38,7 +38,7 @@ impl<A: Allocator + Clone> Printer<A> {
         if !self.level.plain {
             self.page.fresh()?;
         }
-        self.page.html.push_str("</li>")?;
+        self.page.say("</li>")?;
         self.leave();
         Ok(())
     }

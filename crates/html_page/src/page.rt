@@ -1,32 +1,32 @@
 //! The page, printed piece by piece.
-ghost use Rattle.std.specs.Prelude.{◌≡◌, ◌≤◌, ◌<◌, List, OnOk, string_bytes, length, true, false};
+ghost use Rattle.std.specs.Prelude.{◌≡◌, ◌≤◌, ◌<◌, List, OnOk, length, true, false};
 ghost use Rattle.markdown_options.specs.LineEndings.{ending_bytes};
 ghost use Rattle.definition_text.specs.Lines.{ending_text};
-ghost use Rattle.definition_inline.specs.Definition.{Definition};
+ghost use Rattle.definition_page.specs.Targets.{Targets};
 ghost use Rattle.definition_block.specs.Tree.{Paragraph, Break};
 ghost use Rattle.definition_page.specs.Pieces.{is_fresh};
-ghost use Rattle.html_bytes.specs.Pieces.{Fresh, print};
 ghost use Rattle.block_rows.specs.Rows.{row_size, piece_lines, row_value};
-ghost use Rattle.html_contents.specs.Texts.{HasDefinitions, document_by};
+ghost use Rattle.html_contents.specs.Texts.{KnowsTargets, document_by};
 ghost use Rattle.html_page.specs.Levels.{row_pieces};
 ghost use Rattle.html_page.specs.Printable.{IsPrintableRow};
 
 use crate::level::Level;
 use block_rows::{Piece, Row, push_ending};
 use html_contents::{TextBuffers, Texts};
+use html_footnotes::Output;
 use markdown_options::{LineEnding, Tables};
 use std::alloc::{AllocError, Allocator};
 
 /// A page that is being printed.
 #[derive(Drop)]
 pub(crate) struct Page<A: Allocator + Clone> {
-    pub(crate) html: String<A>,
+    pub(crate) out: Output<A>,
     pub(crate) buffers: TextBuffers<A>,
     pub(crate) default_ending: LineEnding,
 }
 
 impl<A: Allocator + Clone> Page<A> {
-    ghost use Rattle.html_page.specs.Prints.{LaysOut, Prints};
+    ghost use Rattle.html_page.specs.Prints.{LaysOut, Prints, page_view, with_fresh};
 
     /// Prints a block, or the ending of a line. A block takes its lines from the front of these.
     /// A definition (CommonMark 4.7) prints nothing, nor does any other row here.
@@ -40,8 +40,9 @@ impl<A: Allocator + Clone> Page<A> {
         requires enough { row_size row ≤ length lines.now }
         requires printable { IsPrintableRow (row_value row (piece_lines lines.now)) }
         ensures default { self.new.default_ending ≡ self.old.default_ending }
-        ensures printed { (ds : List Definition) → HasDefinitions texts.now.labels.now texts.now.links.now ds →
-            OnOk result (LaysOut self.old self.new (row_pieces (document_by T.Tables texts.now ds) level (row_value row (piece_lines lines.now)))) }
+        ensures printed { (ds : Targets) → KnowsTargets texts.now ds →
+            let d = document_by T.Tables texts.now ds in
+            OnOk result (LaysOut d.options.compile self.old self.new (row_pieces d level (row_value row (piece_lines lines.now)))) }
     {
         let top = level.is_document();
         match row {
@@ -82,15 +83,15 @@ impl<A: Allocator + Clone> Page<A> {
         ensures default { self.new.default_ending ≡ self.old.default_ending }
         ensures printed { OnOk result (Prints self.old self.new (ending_text ending)) }
     {
-        push_ending(&mut self.html, ending)
+        push_ending(&mut self.out.html, ending)
     }
 
     /// Asks for a fresh line.
     pub(crate) fn fresh(&mut self) -> Result<(), AllocError>
         ensures default { self.new.default_ending ≡ self.old.default_ending }
-        ensures printed { OnOk result (string_bytes self.new.html ≡ print (ending_bytes self.old.default_ending) (string_bytes self.old.html) Fresh) }
+        ensures printed { OnOk result (page_view self.new ≡ with_fresh (ending_bytes self.old.default_ending) (page_view self.old)) }
     {
-        if is_fresh(self.html.as_bytes()) {
+        if is_fresh(self.out.html.as_bytes()) {
             return Ok(());
         }
         self.eol()
@@ -101,7 +102,15 @@ impl<A: Allocator + Clone> Page<A> {
         ensures default { self.new.default_ending ≡ self.old.default_ending }
         ensures printed { OnOk result (Prints self.old self.new (ending_bytes self.old.default_ending)) }
     {
-        self.html.push_str(self.default_ending.as_str())
+        self.say(self.default_ending.as_str())
+    }
+
+    /// Prints a text as it is.
+    pub(crate) fn say(&mut self, text: &str) -> Result<(), AllocError>
+        ensures default { self.new.default_ending ≡ self.old.default_ending }
+        ensures printed { OnOk result (Prints self.old self.new text.now) }
+    {
+        self.out.html.push_str(text)
     }
 }
 

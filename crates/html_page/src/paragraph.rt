@@ -1,12 +1,12 @@
 //! Paragraphs (CommonMark 4.8).
 ghost use Rattle.std.specs.Prelude.{◌≡◌, ◌<◌, ℕ, List, slice_index, OnOk, true, false};
-ghost use Rattle.definition_inline.specs.Definition.{Definition};
+ghost use Rattle.definition_page.specs.Targets.{Targets};
 ghost use Rattle.block_rows.specs.ParagraphLines.{AreLines};
 ghost use Rattle.definition_text.specs.BlockLines.{own_lines};
 ghost use Rattle.definition_block.specs.Tree.{Paragraph};
 ghost use Rattle.html_bytes.specs.Html.{block_pieces};
 ghost use Rattle.block_rows.specs.Rows.{piece_lines, whole_lines};
-ghost use Rattle.html_contents.specs.Texts.{HasDefinitions, document_by};
+ghost use Rattle.html_contents.specs.Texts.{KnowsTargets, document_by};
 ghost use Rattle.html_page.specs.Levels.{standing_first};
 ghost use Rattle.html_page.specs.Prints.{LaysOut};
 
@@ -27,17 +27,18 @@ impl<A: Allocator + Clone> Page<A> {
         lines: &[Piece<'_>],
     ) -> Result<(), AllocError>
         ensures default { self.new.default_ending ≡ self.old.default_ending }
-        ensures printed { (ds : List Definition) → HasDefinitions texts.now.labels.now texts.now.links.now ds → AreLines (piece_lines lines.now) →
+        ensures printed { (ds : Targets) → KnowsTargets texts.now ds → AreLines (piece_lines lines.now) →
             let paragraph = Paragraph (own_lines (piece_lines lines.now)) in
-            OnOk result (LaysOut self.old self.new (block_pieces (document_by T.Tables texts.now ds) (standing_first first) tight false paragraph)) }
+            let d = document_by T.Tables texts.now ds in
+            OnOk result (LaysOut d.options.compile self.old self.new (block_pieces d (standing_first first) tight false paragraph)) }
     {
         if tight {
-            return texts.push_paragraph(&mut self.html, &mut self.buffers, first, lines);
+            return texts.push_paragraph(&mut self.out, &mut self.buffers, first, lines);
         }
         self.fresh()?;
-        self.html.push_str("<p>")?;
-        texts.push_paragraph(&mut self.html, &mut self.buffers, first, lines)?;
-        self.html.push_str("</p>")
+        self.say("<p>")?;
+        texts.push_paragraph(&mut self.out, &mut self.buffers, first, lines)?;
+        self.say("</p>")
     }
 
     /// Prints a paragraph of the first lines of a text, so many (CommonMark 4.8).
@@ -50,17 +51,18 @@ impl<A: Allocator + Clone> Page<A> {
         text: &str,
     ) -> Result<(), AllocError>
         ensures default { self.new.default_ending ≡ self.old.default_ending }
-        ensures printed { (ds : List Definition) → HasDefinitions texts.now.labels.now texts.now.links.now ds →
+        ensures printed { (ds : Targets) → KnowsTargets texts.now ds →
             let paragraph = Paragraph (own_lines (whole_lines count text.now)) in
-            OnOk result (LaysOut self.old self.new (block_pieces (document_by T.Tables texts.now ds) (standing_first first) tight false paragraph)) }
+            let d = document_by T.Tables texts.now ds in
+            OnOk result (LaysOut d.options.compile self.old self.new (block_pieces d (standing_first first) tight false paragraph)) }
         ensures bytes { (k : ℕ) → slice_index text.now k < 256 }
     {
         if tight {
-            return texts.push_whole(&mut self.html, &mut self.buffers, first, count, text);
+            return texts.push_whole(&mut self.out, &mut self.buffers, first, count, text);
         }
         self.fresh()?;
-        self.html.push_str("<p>")?;
-        texts.push_whole(&mut self.html, &mut self.buffers, first, count, text)?;
-        self.html.push_str("</p>")
+        self.say("<p>")?;
+        texts.push_whole(&mut self.out, &mut self.buffers, first, count, text)?;
+        self.say("</p>")
     }
 }

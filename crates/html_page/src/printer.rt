@@ -1,21 +1,22 @@
 //! Rows to HTML.
-ghost use Rattle.std.specs.Prelude.{◌≡◌, ◌≤◌, ◌<◌, ◌+◌, ◌^◌, List, IfOk, OnOk, string_bytes, length};
+ghost use Rattle.std.specs.Prelude.{◌≡◌, ◌≤◌, List, IfOk, OnOk, string_bytes, length};
 ghost use Rattle.markdown_options.specs.LineEndings.{ending_bytes};
-ghost use Rattle.definition_inline.specs.Definition.{Definition};
+ghost use Rattle.definition_page.specs.Targets.{Targets};
 ghost use Rattle.definition_text.specs.BlockLines.{BlockLine};
 ghost use Rattle.definition_block.specs.Tree.{Blocks};
-ghost use Rattle.html_bytes.specs.Pieces.{layout};
+ghost use Rattle.html_bytes.specs.Layout.{page_layout};
 ghost use Rattle.html_bytes.specs.Html.{document_pieces};
 ghost use Rattle.block_rows.specs.Rows.{rows_size, row_size, piece_lines, rows_of, row_value, rows_value};
-ghost use Rattle.html_contents.specs.Texts.{HasDefinitions, document_by};
+ghost use Rattle.html_contents.specs.Texts.{KnowsTargets, document_by};
 ghost use Rattle.html_page.specs.Printable.{IsPrintableRow, ArePrintable, CanBePrinted};
-ghost use Rattle.html_page.specs.PrinterView.{ends_blank_rows, is_blank_row, printer_view, print_row, shown_row};
+ghost use Rattle.html_page.specs.PrinterView.{ends_blank_rows, is_blank_row, printer_view, print_row};
 
 use crate::level::{Holder, Level};
 use crate::loose::{Place, places};
 use crate::page::Page;
 use block_rows::{Piece, Row};
 use html_contents::{TextBuffers, Texts};
+use html_footnotes::Output;
 use markdown_options::{LineEnding, Tables};
 use std::alloc::{AllocError, Allocator};
 
@@ -28,13 +29,10 @@ pub(crate) struct Printer<A: Allocator + Clone> {
     pub(crate) outer: Vec<Level, A>,
     /// The places of the items to come, the next one last.
     pub(crate) places: Vec<Place, A>,
-    /// How many containers are open from a footnote definition on, in which nothing is printed.
-    pub(crate) hidden: usize,
 }
 
 impl<A: Allocator + Clone> Printer<A> {
-    /// Prints a row, unless it stands in a footnote definition. A block takes its lines from the
-    /// front of these.
+    /// Prints a row. A block takes its lines from the front of these.
     fn row<T: Tables>(
         &mut self,
         texts: &Texts<'_, T, A>,
@@ -43,41 +41,14 @@ impl<A: Allocator + Clone> Printer<A> {
     ) -> Result<(), AllocError>
         requires enough { row_size row ≤ length lines.now }
         requires printable { IsPrintableRow (row_value row (piece_lines lines.now)) }
-        requires few { self.old.hidden + 1 < 2 ^ 64 }
         ensures default { self.new.page.default_ending ≡ self.old.page.default_ending }
-        ensures printed { (ds : List Definition) → HasDefinitions texts.now.labels.now texts.now.links.now ds →
+        ensures printed { (ds : Targets) → KnowsTargets texts.now ds →
             let d = document_by T.Tables texts.now ds in let value = row_value row (piece_lines lines.now) in
             OnOk result (printer_view self.new ≡ print_row d (ending_bytes self.old.page.default_ending) (printer_view self.old) value) }
-        ensures few { OnOk result (self.new.hidden ≤ self.old.hidden + 1) }
-    {
-        if self.hidden > 0 {
-            self.hidden_row(row);
-            return Ok(());
-        }
-        self.shown_row(texts, row, lines)
-    }
-
-    /// Prints a row that stands in no footnote definition.
-    fn shown_row<T: Tables>(
-        &mut self,
-        texts: &Texts<'_, T, A>,
-        row: Row,
-        lines: &[Piece<'_>],
-    ) -> Result<(), AllocError>
-        requires enough { row_size row ≤ length lines.now }
-        requires printable { IsPrintableRow (row_value row (piece_lines lines.now)) }
-        ensures default { self.new.page.default_ending ≡ self.old.page.default_ending }
-        ensures printed { (ds : List Definition) → HasDefinitions texts.now.labels.now texts.now.links.now ds →
-            let d = document_by T.Tables texts.now ds in let value = row_value row (piece_lines lines.now) in
-            OnOk result (printer_view self.new ≡ shown_row d (ending_bytes self.old.page.default_ending) (printer_view self.old) value) }
-        ensures few { OnOk result (self.new.hidden ≤ self.old.hidden + 1) }
     {
         match row {
             Row::EnterQuote => self.enter_quote(),
-            Row::EnterFootnote => {
-                self.hide();
-                Ok(())
-            }
+            Row::EnterFootnote => self.enter_footnote(),
             Row::EnterItem { number, .. } => self.enter_item(number),
             Row::Exit => self.exit(),
             _ => {
@@ -92,8 +63,8 @@ impl<A: Allocator + Clone> Printer<A> {
 /// The HTML of a block tree by its rows, whose blocks take their lines from `pieces`. Its texts are
 /// read by the labels and links of all definitions of the document.
 ///
-/// Items are put into lists here (CommonMark 5.3). Other rows print something, too. Room is made
-/// for `room` bytes at once.
+/// Items are put into lists here (CommonMark 5.3), and the footnotes that are called stand at the
+/// end. Room is made for `room` bytes of the page's text at once.
 pub fn print_rows<T: Tables, A: Allocator + Clone>(
     alloc: A,
     room: usize,
@@ -104,20 +75,20 @@ pub fn print_rows<T: Tables, A: Allocator + Clone>(
 ) -> Result<String<A>, AllocError>
     requires enough { rows_size rows.now ≤ length pieces.now }
     requires printable { ArePrintable (rows_value rows.now (piece_lines pieces.now)).rows }
-    ensures { (ds : List Definition) → HasDefinitions texts.now.labels.now texts.now.links.now ds →
+    ensures { (ds : Targets) → KnowsTargets texts.now ds →
         (bs : Blocks) → (rows_value rows.now (piece_lines pieces.now)).rows ≡ rows_of bs → CanBePrinted bs →
-        IfOk result (λ html. string_bytes html ≡ layout (ending_bytes default_ending) (document_pieces (document_by T.Tables texts.now ds) bs)) }
+        let d = document_by T.Tables texts.now ds in
+        IfOk result (λ html. string_bytes html ≡ page_layout texts.now.options.now.compile (ending_bytes default_ending) (document_pieces d bs)) }
 {
     let mut printer = Printer {
         page: Page {
-            html: String::with_capacity(alloc.clone()?, room)?,
+            out: Output::new(alloc.clone()?, room)?,
             buffers: TextBuffers::new(alloc.clone()?)?,
             default_ending,
         },
         level: Level::new(Holder::Document, false),
         outer: Vec::new(alloc.clone()?),
         places: places(alloc, rows)?,
-        hidden: 0,
     };
     let mut at = 0;
     for row in rows {
@@ -128,8 +99,8 @@ pub fn print_rows<T: Tables, A: Allocator + Clone>(
         printer.page.fresh()?;
     }
     let Printer { page, .. } = printer;
-    let Page { html, .. } = page;
-    Ok(html)
+    let Page { out, .. } = page;
+    out.finish(&texts.options.compile, default_ending)
 }
 
 /// Whether the last row is the ending of a blank line.

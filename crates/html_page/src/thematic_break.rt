@@ -13,9 +13,9 @@ impl<A: Allocator + Clone> Page<A> {
     /// Prints a thematic break (CommonMark 4.1).
     pub(crate) fn thematic_break(&mut self) -> Result<(), AllocError>
         ensures default { self.new.default_ending ≡ self.old.default_ending }
-        ensures printed { (d : Document) → OnOk result (LaysOut self.old self.new (block_pieces d on_page false false Break)) }
+        ensures printed { (d : Document) → OnOk result (LaysOut d.options.compile self.old self.new (block_pieces d on_page false false Break)) }
     {
         self.fresh()?;
-        self.html.push_str("<hr />")
+        self.say("<hr />")
     }
 }

@@ -6,7 +6,7 @@ use Rattle.html_safe_page.specs.Table.{start_rows, void_rows}
 use Rattle.html_safe_page.specs.SafePage.{Plain, kind, spelled, spell_letter, spell_text, Tag, spell_tag, Items, End, Letter, Void, Element, void_end, spell_before, spell, join, is_tag_of, is_safe, IsSafePage}
 use Rattle.html_safe_page.specs.Closed.{element, void, Closed}
 use Rattle.html_safe_page.proofs.Text.{by_kind, plain_other}
-use Rattle.html_safe_page.proofs.Sound.{tag_append}
+use Rattle.html_safe_page.proofs.Inserted.{spelled_append, put_in}
 
 spell_join : (a b : Items) (after : List ℕ) → spell_before (join a b) after ≡ spell_before a (spell_before b after)
 spell_join End b after = refl
@@ -24,19 +24,6 @@ join_safe (Element tag inside items) b h k =
     let parts = and_parts (is_tag_of start_rows tag) (is_safe inside && is_safe items) h in
     let both = and_parts (is_safe inside) (is_safe items) parts.1 in
     and_from (is_tag_of start_rows tag) (is_safe inside && is_safe (join items b)) parts.0 (and_from (is_safe inside) (is_safe (join items b)) both.0 (join_safe items b both.1 k))
-
-spelled_append : (items : Items) (x y : List ℕ) → spell_before items (x ++ y) ≡ spell_before items x ++ y
-spelled_append End x y = refl
-spelled_append (Letter b items) x y = ap (λ z. spell_letter b ++ z) (spelled_append items x y) ∙ sym (append_assoc (spell_letter b) (spell_before items x) y)
-spelled_append (Void tag items) x y =
-    ap (λ z. 60 ∷ spell_tag tag (void_end ++ (62 ∷ z))) (spelled_append items x y)
-    ∙ ap (λ z. 60 ∷ z) (tag_append tag (void_end ++ (62 ∷ spell_before items x)) y)
-spelled_append (Element tag inside items) x y =
-    let rest = 60 ∷ 47 ∷ (tag.name ++ (62 ∷ spell_before items x)) in
-    ap (λ z. 60 ∷ spell_tag tag (62 ∷ spell_before inside (60 ∷ 47 ∷ (tag.name ++ (62 ∷ z))))) (spelled_append items x y)
-    ∙ ap (λ z. 60 ∷ spell_tag tag (62 ∷ spell_before inside (60 ∷ 47 ∷ z))) (sym (append_assoc tag.name (62 ∷ spell_before items x) y))
-    ∙ ap (λ z. 60 ∷ spell_tag tag (62 ∷ z)) (spelled_append inside rest y)
-    ∙ ap (λ z. 60 ∷ z) (tag_append tag (62 ∷ spell_before inside rest) y)
 
 letters : List ℕ → Items
 letters [] = End
@@ -115,4 +102,5 @@ closed = record {
   void_tag = safe_void;
   tags_around = safe_element;
   in_a_row = safe_append;
+  put_in = put_in;
 }

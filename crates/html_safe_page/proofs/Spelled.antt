@@ -149,7 +149,7 @@ row_spelled row tag ending h k =
 -- ---- tags with the same spelling
 
 abbrev pub is_word_byte : ℕ → Bool
-is_word_byte b = is_plain (kind b) && not (eqb b 32 || eqb b 61 || eqb b 47)
+is_word_byte b = is_plain (kind b) && not (eqb b 32 || eqb b 61 || eqb b 47 || eqb b 0)
 
 abbrev pub is_word : List ℕ → Bool
 is_word [] = false
@@ -180,7 +180,7 @@ abbrev tail : List ℕ → List ℕ
 tail [] = []
 tail (b ∷ bs) = bs
 
-word_bytes : (word : List ℕ) → is_word word ≡ true → list_all is_word_byte word ≡ true
+pub word_bytes : (word : List ℕ) → is_word word ≡ true → list_all is_word_byte word ≡ true
 word_bytes [] h = refl
 word_bytes (b ∷ bs) h = h
 

@@ -29,14 +29,14 @@ pub some_mapped : {A B : Type 0} (f : A → B) (o : Option A) → is_some (optio
 some_mapped f None = refl
 some_mapped f (Some a) = refl
 
-abbrev all_plain : List ℕ → Bool
+abbrev pub all_plain : List ℕ → Bool
 all_plain name = list_all (λ b. is_plain (kind b)) name
 
 -- a byte that isn't plain begins no name
 no_plain : (b p : ℕ) → is_plain (kind b) ≡ false → is_plain (kind p) ≡ true → eqb b p ≡ false
 no_plain b p h k = ne_eqb b p (λ e. true≢false (sym k ∙ ap (λ x. is_plain (kind x)) (sym e) ∙ h))
 
-not_here : {A : Type 0} (b p : ℕ) (o : Option A) → is_plain (kind b) ≡ false → is_plain (kind p) ≡ true → is_some (cond (eqb b p) o None) ≡ false
+pub not_here : {A : Type 0} (b p : ℕ) (o : Option A) → is_plain (kind b) ≡ false → is_plain (kind p) ≡ true → is_some (cond (eqb b p) o None) ≡ false
 not_here b p o h k = ap (λ t. is_some (cond t o None)) (no_plain b p h k)
 
 strip_text : (name text : List ℕ) → all_plain name ≡ true → is_some (strip name text) ≡ is_some (strip name (spell_text text []))
@@ -124,7 +124,7 @@ closes Nowhere ns = false
 closes (Outside r) ns = are_ends r ns
 closes (Inside bytes r) ns = false
 
-ends_first : (f : Items → Items) (r : Rest) (ns : List (List ℕ)) → are_ends (at_first f r) ns ≡ are_ends r ns
+pub ends_first : (f : Items → Items) (r : Rest) (ns : List (List ℕ)) → are_ends (at_first f r) ns ≡ are_ends r ns
 ends_first f (Last items) [] = refl
 ends_first f (Last items) (n ∷ ns) = refl
 ends_first f (Then items name r) [] = refl

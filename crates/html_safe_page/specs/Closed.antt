@@ -20,3 +20,5 @@ pub record Closed : Type 0 where
   pub void_tag : (tag : Tag) → is_tag_of void_rows tag ≡ true → IsSafePage (void tag)
   pub tags_around : (tag : Tag) (inside : List ℕ) → is_tag_of start_rows tag ≡ true → IsSafePage inside → IsSafePage (element tag inside)
   pub in_a_row : (one other : List ℕ) → IsSafePage one → IsSafePage other → IsSafePage (one ++ other)
+  -- one before a tag of another one, where 60 is the byte `<`
+  pub put_in : (before after inner : List ℕ) → IsSafePage (before ++ 60 ∷ after) → IsSafePage inner → IsSafePage (before ++ (inner ++ 60 ∷ after))

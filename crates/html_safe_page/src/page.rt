@@ -14,7 +14,8 @@ pub fn has_one_reading()
     ensures { OneReading }
 {}
 
-/// What safe pages are made of: texts, line endings, void tags, and elements, in a row.
+/// What safe pages are made of: texts, line endings, void tags, and elements, in a row, and one
+/// put before a tag of another one.
 pub fn is_closed()
     ensures { Closed }
 {}

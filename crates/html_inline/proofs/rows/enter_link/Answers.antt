@@ -1,6 +1,7 @@
 use Rattle.std.proofs.Common.{◌≡◌, ◌++◌, List, true, false, string_bytes, sym, ap, ◌∙◌, refl}
 use Rattle.std.specs.Prelude.{codes, map, reverse}
 use Rattle.html_bytes.specs.Meaning.{inline_meaning}
+use Rattle.html_footnotes.specs.Output.{output_view}
 use Rattle.html_inline.specs.declared.stack.OpenPart.{OpenPart}
 use Rattle.html_inline.specs.declared.stack.OpenPart.TheVariants as open_part
 use Rattle.html_inline.specs.Opens.{opened_view, place_linked}
@@ -11,27 +12,27 @@ use Rattle.html_inline.proofs.OpenStack.{entered, entered_silent}
 use Rattle.html_inline.proofs.rows.enter_link.Goals as goal
 
 pub returns-then-is_described : goal.returns-then-is_described
-returns-then-is_described g c = λ definition rows.
+returns-then-is_described g c = λ definition footnotes rows.
     let p = c.args.printing.now in
-    let meaning = inline_meaning p.on.now p.compile.now (g.T.Tables.reference_of p.tables.now) definition in
+    let meaning = inline_meaning p.on.now p.compile.now (g.T.Tables.reference_of p.tables.now) definition footnotes in
     let at = place_linked p.definitions.now in
     let linked = target_linked at c.args.target in
     let view = opened_view meaning at rows in
     let items = c.args.scratch.now.stack.items in
     let h : is_described (map view (reverse items)) ≡ true =
     ap (λ (s : List OpenPart). is_described (map view (reverse s))) (sym c.as_slice.ensures.value) ∙ sym (c.is_described.ensures meaning at rows) ∙ c.if-is_described.true in
-    entered_silent view (link_tag meaning linked) (opened false (codes "</a>")) (string_bytes c.args.out.now) items c.push.new.self.items refl c.in_ok-push.ensures.items h
+    entered_silent view (link_tag meaning linked) (opened false (codes "</a>")) (output_view c.args.out.now) items c.push.new.self.items refl c.in_ok-push.ensures.items h
 
 pub returns : goal.returns
-returns g c = λ definition rows.
+returns g c = λ definition footnotes rows.
     let p = c.args.printing.now in
-    let meaning = inline_meaning p.on.now p.compile.now (g.T.Tables.reference_of p.tables.now) definition in
+    let meaning = inline_meaning p.on.now p.compile.now (g.T.Tables.reference_of p.tables.now) definition footnotes in
     let at = place_linked p.definitions.now in
     let linked = target_linked at c.args.target in
     let view = opened_view meaning at rows in
     let items = c.args.scratch.now.stack.items in
-    let out = string_bytes c.args.out.now in
+    let out = output_view c.args.out.now in
     let h : is_described (map view (reverse items)) ≡ false =
     ap (λ (s : List OpenPart). is_described (map view (reverse s))) (sym c.as_slice.ensures.value) ∙ sym (c.is_described.ensures meaning at rows) ∙ c.if-is_described.false in
     entered view (link_tag meaning linked) (opened false (codes "</a>")) out (string_bytes c.push_link_start.new.out) items c.push-2.new.self.items
-    (open_part.Link) refl c.in_ok-push-2.ensures.items h (c.in_ok-push_link_start.ensures definition ∙ ap (λ linked. out ++ link_tag meaning linked) c.linked_at-linked.ensures)
+    (open_part.Link) refl c.in_ok-push-2.ensures.items h (c.in_ok-push_link_start.ensures definition footnotes ∙ ap (λ linked. out.text ++ link_tag meaning linked) c.linked_at-linked.ensures)

@@ -9,9 +9,9 @@ use Rattle.html_inline.specs.Printed.{is_described, parts_printed}
 use Rattle.html_inline.proofs.rows.push_part.Goals as goal
 
 pub returns-then-is_described-clause-printed : goal.returns-then-is_described-clause-printed
-returns-then-is_described-clause-printed g c = λ definition rows.
+returns-then-is_described-clause-printed g c = λ definition footnotes rows.
     let p = c.args.printing.now in
-    let meaning = inline_meaning p.on.now p.compile.now (g.T.Tables.reference_of p.tables.now) definition in
+    let meaning = inline_meaning p.on.now p.compile.now (g.T.Tables.reference_of p.tables.now) definition footnotes in
     let at = place_linked p.definitions.now in
     let view = opened_view meaning at rows in
     let h : is_described (map view (reverse c.args.scratch.now.stack.items)) ≡ true =
@@ -20,12 +20,12 @@ returns-then-is_described-clause-printed g c = λ definition rows.
     (sym h) c.push_description.ensures
 
 pub returns-else-is_described-clause-printed : goal.returns-else-is_described-clause-printed
-returns-else-is_described-clause-printed g c = λ definition rows.
+returns-else-is_described-clause-printed g c = λ definition footnotes rows.
     let p = c.args.printing.now in
-    let meaning = inline_meaning p.on.now p.compile.now (g.T.Tables.reference_of p.tables.now) definition in
+    let meaning = inline_meaning p.on.now p.compile.now (g.T.Tables.reference_of p.tables.now) definition footnotes in
     let at = place_linked p.definitions.now in
     let view = opened_view meaning at rows in
     let h : is_described (map view (reverse c.args.scratch.now.stack.items)) ≡ false =
     ap (λ (s : List OpenPart). is_described (map view (reverse s))) (sym c.as_slice.ensures.value) ∙ sym (c.is_described.ensures meaning at rows) ∙ c.if-is_described.false in
     subst (λ (t : Bool). OnOk c.push_leaf.result (string_bytes c.push_leaf.new.out ≡ string_bytes c.args.out.now ++ parts_printed meaning t (map (part_shown p.cell) (parts_of c.args.part))))
-    (sym h) (c.push_leaf.ensures definition)
+    (sym h) (c.push_leaf.ensures definition footnotes)

@@ -2,92 +2,112 @@ use Rattle.std.proofs.Common.{◌≡◌, ◌++◌, string_bytes, sym, ap, ◌∙
 use Rattle.std.specs.Prelude.{map, reverse}
 use Rattle.std.specs.List.{fold}
 use Rattle.std.proofs.lemmas.Result.{on_ok_weaker}
+use Rattle.html_bytes.specs.Layout.{with_text}
 use Rattle.html_bytes.specs.Meaning.{inline_meaning}
 use Rattle.inline_leaves.specs.Leaves.{parts_of}
 use Rattle.inline_rows.specs.declared.row.InlineRow.{InlineRow}
 use Rattle.inline_rows.specs.View.{row_view}
+use Rattle.html_footnotes.specs.Output.{output_view}
 use Rattle.html_inline.specs.Opens.{image_linked, opened_view, place_linked}
 use Rattle.html_inline.specs.GfmTable.{part_shown, row_printed_in}
-use Rattle.html_inline.specs.Printed.{is_described, parts_printed, printed_at}
+use Rattle.html_inline.specs.Printed.{call_row, is_described, laid_out, parts_printed, printed_at}
+use Rattle.definition_text.specs.Content.{content_codes}
 use Rattle.definition_text.specs.Encode.{encode}
 use Rattle.html_inline.proofs.OpenStack.{leaf_printed, text_printed}
 use Rattle.html_inline.proofs.rows.push_row.Goals as goal
 
 pub returns-in-Text : goal.returns-in-Text
-returns-in-Text g c = λ definition.
+returns-in-Text g c = λ definition footnotes held.
     let p = c.args.printing.now in
-    let meaning = inline_meaning p.on.now p.compile.now (g.T.Tables.reference_of p.tables.now) definition in
+    let meaning = inline_meaning p.on.now p.compile.now (g.T.Tables.reference_of p.tables.now) definition footnotes in
     let at = place_linked p.definitions.now in
     let view = opened_view meaning at c.args.rows.now in
     let stack = map view (reverse c.args.scratch.now.stack.items) in
-    let out = string_bytes c.args.out.now in
+    let out = output_view c.args.out.now in
     let old = printed_at out stack in
     let row_is = λ (r : InlineRow). fold (row_printed_in p.cell meaning) old (row_view at r) in
     on_ok_weaker c.push_encoded.result
-    (λ (e : string_bytes c.push_encoded.new.out ≡ out ++ encode c.in-Text.text.now). ap (λ x. printed_at x stack) e ∙ sym (text_printed p.cell meaning out stack c.in-Text.text.now) ∙ ap row_is (sym c.in-Text.is))
+    (λ (e : string_bytes c.push_encoded.new.out ≡ out.text ++ encode c.in-Text.text.now).
+    ap (λ x. printed_at (with_text out x) stack) e ∙ sym (text_printed p.cell meaning stack out c.in-Text.text.now) ∙ ap row_is (sym c.in-Text.is))
     c.push_encoded.ensures
 
 pub returns-in-Leaf : goal.returns-in-Leaf
-returns-in-Leaf g c = λ definition.
+returns-in-Leaf g c = λ definition footnotes held.
     let p = c.args.printing.now in
-    let meaning = inline_meaning p.on.now p.compile.now (g.T.Tables.reference_of p.tables.now) definition in
+    let meaning = inline_meaning p.on.now p.compile.now (g.T.Tables.reference_of p.tables.now) definition footnotes in
     let at = place_linked p.definitions.now in
     let view = opened_view meaning at c.args.rows.now in
     let stack = map view (reverse c.args.scratch.now.stack.items) in
-    let out = string_bytes c.args.out.now in
+    let out = output_view c.args.out.now in
     let old = printed_at out stack in
     let row_is = λ (r : InlineRow). fold (row_printed_in p.cell meaning) old (row_view at r) in
     on_ok_weaker c.push_part.result
-    (λ (e : string_bytes c.push_part.new.out ≡ out ++ parts_printed meaning (is_described stack) (map (part_shown p.cell) (parts_of c.in-Leaf.part))).
-    ap (λ s. printed_at (string_bytes c.push_part.new.out) (map view (reverse s.items))) c.push_part.ensures.stack
-    ∙ ap (λ x. printed_at x stack) e ∙ sym (leaf_printed p.cell meaning out stack (parts_of c.in-Leaf.part)) ∙ ap row_is (sym c.in-Leaf.is))
-    (c.push_part.ensures.printed definition c.args.rows.now)
+    (λ (e : string_bytes c.push_part.new.out ≡ out.text ++ parts_printed meaning (is_described stack) (map (part_shown p.cell) (parts_of c.in-Leaf.part))).
+    ap (λ s. printed_at (with_text out (string_bytes c.push_part.new.out)) (map view (reverse s.items))) c.push_part.ensures.stack
+    ∙ ap (λ x. printed_at (with_text out x) stack) e ∙ sym (leaf_printed p.cell meaning stack c.in-Leaf.part out) ∙ ap row_is (sym c.in-Leaf.is))
+    (c.push_part.ensures.printed definition footnotes c.args.rows.now)
 
 pub returns-in-EnterSpan : goal.returns-in-EnterSpan
-returns-in-EnterSpan g c = λ definition.
+returns-in-EnterSpan g c = λ definition footnotes held.
     let p = c.args.printing.now in
-    let meaning = inline_meaning p.on.now p.compile.now (g.T.Tables.reference_of p.tables.now) definition in
+    let meaning = inline_meaning p.on.now p.compile.now (g.T.Tables.reference_of p.tables.now) definition footnotes in
     let at = place_linked p.definitions.now in
     let view = opened_view meaning at c.args.rows.now in
     let stack = map view (reverse c.args.scratch.now.stack.items) in
-    let out = string_bytes c.args.out.now in
+    let out = output_view c.args.out.now in
     let old = printed_at out stack in
     let row_is = λ (r : InlineRow). fold (row_printed_in p.cell meaning) old (row_view at r) in
     on_ok_weaker c.enter_span.result (λ e. e ∙ ap row_is (sym c.in-EnterSpan.is)) (c.enter_span.ensures meaning at c.args.rows.now)
 
 pub returns-in-EnterLink : goal.returns-in-EnterLink
-returns-in-EnterLink g c = λ definition.
+returns-in-EnterLink g c = λ definition footnotes held.
     let p = c.args.printing.now in
-    let meaning = inline_meaning p.on.now p.compile.now (g.T.Tables.reference_of p.tables.now) definition in
+    let meaning = inline_meaning p.on.now p.compile.now (g.T.Tables.reference_of p.tables.now) definition footnotes in
     let at = place_linked p.definitions.now in
     let view = opened_view meaning at c.args.rows.now in
     let stack = map view (reverse c.args.scratch.now.stack.items) in
-    let out = string_bytes c.args.out.now in
+    let out = output_view c.args.out.now in
     let old = printed_at out stack in
     let row_is = λ (r : InlineRow). fold (row_printed_in p.cell meaning) old (row_view at r) in
-    on_ok_weaker c.enter_link.result (λ e. e ∙ ap row_is (sym c.in-EnterLink.is)) (c.enter_link.ensures definition c.args.rows.now)
+    on_ok_weaker c.enter_link.result (λ e. e ∙ ap row_is (sym c.in-EnterLink.is)) (c.enter_link.ensures definition footnotes c.args.rows.now)
 
 pub returns-in-EnterImage : goal.returns-in-EnterImage
-returns-in-EnterImage g c = λ definition.
+returns-in-EnterImage g c = λ definition footnotes held.
     let p = c.args.printing.now in
-    let meaning = inline_meaning p.on.now p.compile.now (g.T.Tables.reference_of p.tables.now) definition in
+    let meaning = inline_meaning p.on.now p.compile.now (g.T.Tables.reference_of p.tables.now) definition footnotes in
     let at = place_linked p.definitions.now in
     let view = opened_view meaning at c.args.rows.now in
     let stack = map view (reverse c.args.scratch.now.stack.items) in
-    let out = string_bytes c.args.out.now in
+    let out = output_view c.args.out.now in
     let old = printed_at out stack in
     let row_is = λ (r : InlineRow). fold (row_printed_in p.cell meaning) old (row_view at r) in
     on_ok_weaker c.enter_image.result (λ e. e ∙ ap row_is (sym c.in-EnterImage.is))
-    (c.enter_image.ensures definition c.args.rows.now (ap (image_linked at) (c.requires ∙ c.in-EnterImage.is)))
+    (c.enter_image.ensures definition footnotes c.args.rows.now (ap (image_linked at) (c.requires ∙ c.in-EnterImage.is)))
 
-pub returns-in-Exit : goal.returns-in-Exit
-returns-in-Exit g c = λ definition.
+pub returns-in-Call : goal.returns-in-Call
+returns-in-Call g c = λ definition footnotes held.
     let p = c.args.printing.now in
-    let meaning = inline_meaning p.on.now p.compile.now (g.T.Tables.reference_of p.tables.now) definition in
+    let meaning = inline_meaning p.on.now p.compile.now (g.T.Tables.reference_of p.tables.now) definition footnotes in
     let at = place_linked p.definitions.now in
     let view = opened_view meaning at c.args.rows.now in
     let stack = map view (reverse c.args.scratch.now.stack.items) in
-    let out = string_bytes c.args.out.now in
+    let out = output_view c.args.out.now in
     let old = printed_at out stack in
     let row_is = λ (r : InlineRow). fold (row_printed_in p.cell meaning) old (row_view at r) in
-    on_ok_weaker c.exit.result (λ e. e ∙ ap row_is (sym c.in-Exit.is)) (c.exit.ensures definition)
+    on_ok_weaker c.push_call.result
+    (λ (e : output_view c.push_call.new.out ≡ laid_out meaning out (call_row meaning (is_described stack) (content_codes c.in-Call.label.now))).
+    ap (λ s. printed_at (output_view c.push_call.new.out) (map view (reverse s.items))) c.push_call.ensures.stack
+    ∙ ap (λ x. printed_at x stack) e ∙ ap row_is (sym c.in-Call.is))
+    (c.push_call.ensures.laid definition footnotes c.args.rows.now held)
+
+pub returns-in-Exit : goal.returns-in-Exit
+returns-in-Exit g c = λ definition footnotes held.
+    let p = c.args.printing.now in
+    let meaning = inline_meaning p.on.now p.compile.now (g.T.Tables.reference_of p.tables.now) definition footnotes in
+    let at = place_linked p.definitions.now in
+    let view = opened_view meaning at c.args.rows.now in
+    let stack = map view (reverse c.args.scratch.now.stack.items) in
+    let out = output_view c.args.out.now in
+    let old = printed_at out stack in
+    let row_is = λ (r : InlineRow). fold (row_printed_in p.cell meaning) old (row_view at r) in
+    on_ok_weaker c.exit.result (λ e. e ∙ ap row_is (sym c.in-Exit.is)) (c.exit.ensures definition footnotes)

@@ -1,8 +1,9 @@
-use Rattle.std.proofs.Common.{◌≡◌, List, [], string_bytes, ap, ◌∙◌, take}
+use Rattle.std.proofs.Common.{◌≡◌, List, [], ap, ◌∙◌, take}
 use Rattle.std.specs.List.{fold}
 use Rattle.std.proofs.lemmas.List.{take_all}
 use Rattle.inline_rows.specs.InlineRows as rows_of
 use Rattle.html_bytes.specs.Meaning.{inline_meaning}
+use Rattle.html_footnotes.specs.Output.{output_view}
 use Rattle.inline_rows.specs.declared.row.InlineRow.{InlineRow}
 use Rattle.inline_rows.specs.View.{rows_view}
 use Rattle.html_inline.specs.Opens.{place_linked, printed_of}
@@ -15,28 +16,28 @@ use Rattle.html_inline.proofs.RowsPrinted.{content_printed}
 use Rattle.html_inline.proofs.rows.push_rows.Goals as goal
 
 pub loop-place-preserved : goal.loop-place-preserved
-loop-place-preserved g c = λ definition.
+loop-place-preserved g c = λ definition footnotes held.
     let p = c.args.printing.now in
-    let meaning = inline_meaning p.on.now p.compile.now (g.T.Tables.reference_of p.tables.now) definition in
+    let meaning = inline_meaning p.on.now p.compile.now (g.T.Tables.reference_of p.tables.now) definition footnotes in
     let at = place_linked p.definitions.now in
     let rows = c.args.rows.now in
-    rows_step p.cell meaning at (printed_at (string_bytes c.args.out.now) [])
-    (printed_of meaning at rows (string_bytes c.loop-place.out) c.loop-place.scratch.stack.items)
-    (printed_of meaning at rows (string_bytes c.push_row.new.out) c.push_row.new.scratch.stack.items)
-    rows c.loop-place.place _ c.loop-place-test.true (c.loop-place.invariant definition) (c.in_ok-push_row.ensures definition)
+    rows_step p.cell meaning at (printed_at (output_view c.args.out.now) [])
+    (printed_of meaning at rows (output_view c.loop-place.out) c.loop-place.scratch.stack.items)
+    (printed_of meaning at rows (output_view c.push_row.new.out) c.push_row.new.scratch.stack.items)
+    rows c.loop-place.place _ c.loop-place-test.true (c.loop-place.invariant definition footnotes held) (c.in_ok-push_row.ensures definition footnotes held)
 
 pub returns : goal.returns
-returns g c = λ definition is rows_are.
+returns g c = λ definition footnotes default is held rows_are.
     let p = c.args.printing.now in
-    let meaning = inline_meaning p.on.now p.compile.now (g.T.Tables.reference_of p.tables.now) definition in
+    let meaning = inline_meaning p.on.now p.compile.now (g.T.Tables.reference_of p.tables.now) definition footnotes in
     let at = place_linked p.definitions.now in
     let rows = c.args.rows.now in
-    let out = string_bytes c.args.out.now in
+    let out = output_view c.args.out.now in
     let whole : take c.loop-place.place rows ≡ rows = take_all c.loop-place.place rows c.loop-place-test.false in
-    ap (λ (q : Printed). q.out)
-    (c.loop-place.invariant definition
+    ap (λ (q : Printed). q.laid)
+    (c.loop-place.invariant definition footnotes held
     ∙ ap (λ (rs : List InlineRow). fold (row_printed_in p.cell meaning) (printed_at out []) (rows_view at rs)) whole
     ∙ ap (λ (rs : List rows_of.InlineRow). fold (row_printed_in p.cell meaning) (printed_at out []) rs) rows_are
     ∙ fold_shown p.cell meaning (printed_at out []) (rows_of.inline_rows (leads_to meaning.definition) is)
     ∙ ap (fold (row_printed meaning) (printed_at out [])) (rows_shown (leads_to meaning.definition) p.cell is)
-    ∙ content_printed meaning (shown p.cell is) out)
+    ∙ content_printed meaning default (shown p.cell is) out)

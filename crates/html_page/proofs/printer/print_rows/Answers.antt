@@ -11,7 +11,10 @@ use Rattle.definition_text.specs.BlockLines.{BlockLine}
 use Rattle.block_rows.specs.Rows.{RowsValue, row_value, piece_lines, piece_line, rows_value, row_size}
 use Rattle.html_page.specs.Printable.{IsPrintableRow}
 use Rattle.html_page.specs.PrinterView.{PrinterView, print_row, print_all, blank_page, ends_blank_rows, rows_html, printer_view}
-use Rattle.html_bytes.specs.Pieces.{Fresh, print}
+use Rattle.std.specs.Result.{IfOk}
+use Rattle.definition_page.specs.Layout.{Laid}
+use Rattle.html_bytes.specs.Layout.{finished, lay}
+use Rattle.html_page.specs.Prints.{page_view, with_fresh}
 use Rattle.html_bytes.specs.Html.{last_piece}
 use Rattle.html_page.specs.declared.printer.Printer.{Printer}
 use Rattle.html_page.proofs.RowsOf.{rows_html_of}
@@ -58,34 +61,37 @@ loop-row-preserved g c =
           ∙ ap (drop (row_size row)) k.left
           ∙ left_more piece_line (row_size row) c.loop-row.at pieces
           ∙ ap (λ n. piece_lines (drop (c.loop-row.at + n) pieces)) (sym c.size.ensures);
-      few = omega (arith, k.few, c.in_ok-row.ensures.few);
       enough = omega (arith, k.enough, c.size.ensures, taken_more rows i (Paragraph 0) c.loop-row-test.true);
     }
 
 pub returns : goal.returns
 returns g c = λ ds has bs rows_are can.
     let d = document c.args.texts.now.options.now (text_tables (g.T.Tables.reference_of c.args.texts.now.tables.now) (g.T.Tables.punctuation_of c.args.texts.now.tables.now)) ds in
+    let o = d.options.compile in
     let rows = c.args.rows.now in
     let all = piece_lines c.args.pieces.now in
     let default = ending_bytes c.args.default_ending in
     let every = (rows_value rows all).rows in
     let start = blank_page every in
     let k = c.loop-row.invariant in
-    let out = string_bytes c.loop-row.printer.page.html in
+    let out = page_view c.loop-row.printer.page in
     let whole : take c.loop-row.row-index rows ≡ rows = take_all c.loop-row.row-index rows c.loop-row-test.false in
     let laid_out : out ≡ (print_all d default start every).out =
     ap (λ (p : PrinterView). p.out) (k.printed ds has ∙ ap (λ (rs : List Row). print_all d default start (rows_value rs all).rows) whole) in
-    let ends = λ (x : List ℕ) (blank : Bool). fold (print default) x (last_piece blank) in
-    let ended : string_bytes c.if-ends_blank.printer.page.html ≡ ends out c.ends_blank.result = elim c.if-ends_blank.branch [
+    let ends = λ (x : Laid) (blank : Bool). fold (lay o default) x (last_piece blank) in
+    let ended : page_view c.if-ends_blank.printer.page ≡ ends out c.ends_blank.result = elim c.if-ends_blank.branch [
       | then-ends_blank+in_ok-fresh w ↦
-          ap (λ (p : Printer _). string_bytes p.page.html) w.printer-is
+          ap (λ (p : Printer _). page_view p.page) w.printer-is
           ∙ w.in_ok-fresh.ensures.printed
-          ∙ ap (λ (e : LineEnding). print (ending_bytes e) out Fresh) k.same_default
+          ∙ ap (λ (e : LineEnding). with_fresh (ending_bytes e) out) k.same_default
           ∙ ap (ends out) (sym w.if-ends_blank.true)
-      | else-ends_blank w ↦ ap (λ (p : Printer _). string_bytes p.page.html) w.printer-is ∙ ap (ends out) (sym w.if-ends_blank.false)
+      | else-ends_blank w ↦ ap (λ (p : Printer _). page_view p.page) w.printer-is ∙ ap (ends out) (sym w.if-ends_blank.false)
     ] in
-    ended
+    subst (λ x. IfOk c.finish.result (λ html. string_bytes html ≡ x))
+    (ap (finished o default)
+    (ended
     ∙ ap (ends out) (c.ends_blank.ensures all)
-    ∙ ap (λ x. ends x (ends_blank_rows every)) laid_out
+    ∙ ap (λ x. ends x (ends_blank_rows every)) laid_out)
     ∙ ap (rows_html d default) rows_are
-    ∙ rows_html_of d default bs can
+    ∙ rows_html_of d default bs can)
+    c.finish.ensures

@@ -1,9 +1,9 @@
 use Rattle.std.proofs.Common.{List, ◌≡◌, ◌≤◌, ◌+◌, length, take, drop}
 use Rattle.markdown_options.specs.LineEndings.{ending_bytes}
 use Rattle.html_bytes.specs.Document.{document}
-use Rattle.definition_inline.specs.Definition.{Definition}
+use Rattle.definition_page.specs.Targets.{Targets}
 use Rattle.definition_page.specs.TextTables.{text_tables}
-use Rattle.html_contents.specs.Texts.{HasDefinitions}
+use Rattle.html_contents.specs.Texts.{KnowsTargets}
 use Rattle.block_rows.specs.Rows.{rows_size, piece_lines, rows_value}
 use Rattle.html_page.specs.PrinterView.{print_all, blank_page, printer_view}
 use Rattle.html_page.proofs.printer.print_rows.Given as goal
@@ -12,9 +12,8 @@ use Rattle.html_page.proofs.printer.print_rows.Given as goal
 abbrev pub invariant-loop-row : goal.invariant-loop-row
 invariant-loop-row g l = record {
   same_default : l.printer.page.default_ending ≡ l.fn.default_ending;
-  printed : (ds : List Definition) → HasDefinitions l.texts.labels.now l.texts.links.now ds →
+  printed : (ds : Targets) → KnowsTargets l.texts ds →
       printer_view l.printer ≡ print_all (document l.texts.options.now (text_tables (g.T.Tables.reference_of l.texts.tables.now) (g.T.Tables.punctuation_of l.texts.tables.now)) ds) (ending_bytes l.fn.default_ending) (blank_page (rows_value l.rows (piece_lines l.pieces)).rows) (rows_value (take l.row-index l.rows) (piece_lines l.pieces)).rows;
   left : (rows_value (take l.row-index l.rows) (piece_lines l.pieces)).left ≡ piece_lines (drop l.at l.pieces);
-  few : l.printer.hidden ≤ l.row-index;
   enough : l.at + rows_size (drop l.row-index l.rows) ≤ length l.pieces;
 }

@@ -1,10 +1,12 @@
-use Rattle.std.proofs.Common.{◌≡◌, ◌++◌, OnOk, Some, ap, sym, subst, ◌∙◌, append_assoc, drop, string_bytes}
-use Rattle.std.specs.Option.{option_map}
+use Rattle.std.proofs.Common.{◌≡◌, ◌∷◌, OnOk, Some, ap, sym, subst, ◌∙◌, drop}
+use Rattle.std.specs.List.{fold}
 use Rattle.definition_text.specs.Content.{content_codes}
-use Rattle.definition_inline.specs.GfmTaskListItem.{check_at, check_size}
+use Rattle.definition_inline.specs.GfmTaskListItem.{check_size}
 use Rattle.definition_inline.specs.Scan.{inlines_from, unindented}
 use Rattle.html_bytes.specs.Document.{context_of, meaning_of}
-use Rattle.html_bytes.specs.InlineHtml.{inline_html, check_html}
+use Rattle.html_bytes.specs.InlineHtml.{inline_pieces}
+use Rattle.html_bytes.specs.Layout.{lay, with_text}
+use Rattle.html_footnotes.specs.Output.{output_view}
 use Rattle.html_contents.specs.Texts.{document_by}
 use Rattle.html_contents.proofs.Checks.{text_alone, text_checked}
 use Rattle.inline_content.specs.View.{content_view, view_at}
@@ -12,20 +14,20 @@ use Rattle.inline_parser.proofs.Views.{codes_left, view_next, after_next}
 use Rattle.html_contents.proofs.texts.Texts.push_checked.Goals as goal
 
 pub returns-in-None : goal.returns-in-None
-returns-in-None g c ds known =
+returns-in-None g c = λ ds known default.
     let texts = c.args.self.now in
     let p = g.T.Tables.punctuation_of texts.tables.now in
     let content = c.args.content in
     let start = c.content_start-start.result.now in
     let d = document_by g.T.Tables texts ds in
     let view = c.content_start-start.ensures.view p in
-    subst (λ text. OnOk c.push_from.result (string_bytes c.push_from.new.out ≡ string_bytes c.args.out.now ++ text))
+    subst (λ text. OnOk c.push_from.result (output_view c.push_from.new.out ≡ fold (lay d.options.compile default) (output_view c.args.out.now) text))
     (text_alone d c.args.first (unindented (content_view p content)) (view_at p content start) (content_codes start) view
     (codes_left p content start c.content_start-start.ensures.place) c.in-None.ensures.read)
-    (c.push_from.ensures ds known)
+    (c.push_from.ensures ds known default)
 
 pub returns-in_ok-push_check-in-Some : goal.returns-in_ok-push_check-in-Some
-returns-in_ok-push_check-in-Some g c ds known =
+returns-in_ok-push_check-in-Some g c = λ ds known default.
     let texts = c.args.self.now in
     let p = g.T.Tables.punctuation_of texts.tables.now in
     let content = c.args.content in
@@ -34,16 +36,15 @@ returns-in_ok-push_check-in-Some g c ds known =
     let d = document_by g.T.Tables texts ds in
     let view = c.content_start-start.ensures.view p in
     let place = c.content_start-start.ensures.place in
-    let out = string_bytes c.args.out.now in
-    let box = check_html texts.options.now.compile check.done in
+    let out = output_view c.args.out.now in
     let after = view_at p content check.after.now in
-    let text = inline_html (meaning_of d) (inlines_from (context_of d) after) in
+    let text = inline_pieces (meaning_of d) (inlines_from (context_of d) after) in
     let next = after_next start check.after.now c.in-Some.ensures.place.after in
     let rest : drop check_size (view_at p content start) ≡ after =
     sym (ap (λ n. drop n (view_at p content start)) c.in-Some.ensures.place.size) ∙ view_next p content start check.after.now place next in
-    subst (λ all. OnOk c.push_from-in-Some.result (string_bytes c.push_from-in-Some.new.out ≡ all))
-    (ap (λ x. x ++ text) c.in_ok-push_check-in-Some.ensures ∙ append_assoc out box text
-    ∙ ap (λ x. out ++ x)
+    subst (λ all. OnOk c.push_from-in-Some.result (output_view c.push_from-in-Some.new.out ≡ all))
+    (ap (λ x. fold (lay d.options.compile default) (with_text out x) text) c.in_ok-push_check-in-Some.ensures
+    ∙ ap (fold (lay d.options.compile default) out)
     (text_checked d c.args.first (unindented (content_view p content)) (view_at p content start) (content_codes start) view
     (codes_left p content start place) check.done after c.in-Some.ensures.read rest))
-    (c.push_from-in-Some.ensures ds known)
+    (c.push_from-in-Some.ensures ds known default)

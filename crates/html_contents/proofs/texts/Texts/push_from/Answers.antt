@@ -11,11 +11,11 @@ use Rattle.html_contents.proofs.texts.Texts.push_from.Goals as goal
 
 -- src/texts.rt:92:5
 pub returns : goal.returns
-returns g c ds known =
+returns g c = λ ds known default.
     let texts = c.args.self.now in
     let is_punctuation = g.T.Tables.punctuation_of texts.tables.now in
     let d = document texts.options.now (text_tables (g.T.Tables.reference_of texts.tables.now) is_punctuation) ds in
-    c.push_rows.ensures (linked_by ds) (inlines_from (context_of d) (view_at is_punctuation c.args.content c.args.start.now))
+    c.push_rows.ensures (linked_by ds.definitions) ds.footnotes default (inlines_from (context_of d) (view_at is_punctuation c.args.content c.args.start.now)) known.has_labels.noted
     (ap (rows_view (place_linked texts.links.now)) c.as_slice.ensures.value
-    ∙ same_rows (place_linked texts.links.now) (linked_at ds) (same_place texts.links.now ds known.leads) c.in_ok-rows.rows.items
+    ∙ same_rows (place_linked texts.links.now) (linked_at ds.definitions) (same_place texts.links.now ds.definitions known.leads) c.in_ok-rows.rows.items
     ∙ c.in_ok-rows.ensures ds known.has_labels)

@@ -1,22 +1,6 @@
-use Rattle.std.proofs.Common.{◌≡◌, ◌++◌, ◌==◌, false, string_bytes, length, codes, sym, ap, ◌∙◌, subst, append_assoc, rules}
-use Rattle.std.specs.Result.{OnOk}
-use Rattle.definition_text.specs.Encode.{encode}
-use Rattle.html_bytes.specs.Document.{document, info_of}
-use Rattle.definition_page.specs.TextTables.{text_tables}
-use Rattle.html_bytes.specs.Html.{class_of}
-use Rattle.html_page.proofs.CodeFencedLemmas.{class_some}
+use Rattle.html_footnotes.specs.Output.{output_view}
+use Rattle.html_page.proofs.Laid.{text_laid}
 use Rattle.html_page.proofs.page.Page.class.Goals as goal
 
 pub returns-clause-printed : goal.returns-clause-printed
-returns-clause-printed g c = λ ds clear.
-    let d = document c.args.texts.now.options.now (text_tables (g.T.Tables.reference_of c.args.texts.now.tables.now) (g.T.Tables.punctuation_of c.args.texts.now.tables.now)) ds in
-    let html = string_bytes c.args.self.now.html in
-    let info = c.args.info.now in
-    let some : (length info == 0) ≡ false = sym c.is_empty.ensures ∙ c.if-is_empty.false in
-    let start = codes " class=\"language-" in
-    let all : string_bytes c.push_info.new.out ++ codes "\"" ≡ html ++ class_of d info =
-    ap (λ x. x ++ codes "\"") (c.in_ok-push_info.ensures ds clear ∙ ap (λ x. x ++ encode (info_of d info)) c.in_ok-push_str.ensures.bytes)
-    ∙ ap (λ x. x ++ codes "\"") (append_assoc html start (encode (info_of d info)))
-    ∙ append_assoc html (start ++ encode (info_of d info)) (codes "\"")
-    ∙ ap (λ x. html ++ x) (sym (class_some d info some)) in
-    subst (λ x. OnOk c.push_str-2.result (string_bytes c.push_str-2.new.self ≡ x)) all (search rules)
+returns-clause-printed g c = λ ds clear. text_laid c.push_class.result (output_view c.args.self.now.out) _ _ (c.push_class.ensures ds clear)

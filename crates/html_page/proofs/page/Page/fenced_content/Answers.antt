@@ -1,4 +1,4 @@
-use Rattle.std.proofs.Common.{◌≡◌, ◌++◌, ◌||◌, if◌then◌else◌, ◌<◌, ◌-◌, Option, Some, string_bytes, length, sym, ap, ◌∙◌, subst, arith}
+use Rattle.std.proofs.Common.{◌≡◌, ◌||◌, if◌then◌else◌, ◌<◌, ◌-◌, Option, Some, length, sym, ap, ◌∙◌, subst, arith}
 use Rattle.std.specs.List.{slice_get}
 use Rattle.std.specs.Result.{OnOk}
 use Rattle.std.proofs.lemmas.List.{length-map}
@@ -8,18 +8,18 @@ use Rattle.markdown_options.specs.LineEndings.{ending_bytes}
 use Rattle.block_rows.specs.declared.row.Piece.{Piece}
 use Rattle.definition_text.specs.Lines.{ending_text}
 use Rattle.definition_text.specs.BlockLines.{own_lines, last_ending}
-use Rattle.html_bytes.specs.Pieces.{Fresh, print}
 use Rattle.html_bytes.specs.Html.{code_of}
 use Rattle.block_rows.specs.Rows.{piece_line, piece_lines}
 use Rattle.block_rows.proofs.OwnLines.{last_piece_ending}
+use Rattle.html_page.specs.Prints.{page_view, with_bytes, with_fresh}
 use Rattle.html_page.proofs.CodeFencedLemmas.{content_ending, content_laid}
 use Rattle.html_page.proofs.page.Page.fenced_content.Goals as goal
 use Rattle.html_page.proofs.page.Page.fenced_content.Goals.{then-top, else-top, then-whole, else-whole}
 
 pub returns-after-whole-clause-printed : goal.returns-after-whole-clause-printed
-returns-after-whole-clause-printed g c =
+returns-after-whole-clause-printed g c = λ options.
     let page = c.args.self.now in
-    let html = string_bytes page.html in
+    let out = page_view page in
     let pieces = c.args.lines.now in
     let ls = piece_lines pieces in
     let e = page.default_ending in
@@ -39,9 +39,9 @@ returns-after-whole-clause-printed g c =
       | then-whole w ↦ w.ending-is ∙ of_last ∙ ap (λ t. if t then last_ending ls else Some e) (sym w.if-whole.true ∙ whole)
       | else-whole w ↦ w.ending-is ∙ ap (λ (d : LineEnding). Some d) c.in_ok-code.ensures.default ∙ ap (λ t. if t then last_ending ls else Some e) (sym w.if-whole.false ∙ whole)
     ] in
-    subst (λ x. OnOk c.end_content.result (string_bytes c.end_content.new.self.html ≡ x))
-    (ap (λ (d : LineEnding). print (ending_bytes d) (string_bytes c.code.new.self.html ++ ending_text c.if-whole.ending) Fresh) c.in_ok-code.ensures.default
-    ∙ ap (λ x. print default (x ++ ending_text c.if-whole.ending) Fresh) c.in_ok-code.ensures.printed
-    ∙ ap (λ (o : Option LineEnding). print default ((html ++ code_of (own_lines ls)) ++ ending_text o) Fresh) ending
-    ∙ sym (content_laid e html top closed ls (subst (λ n. 0 < n) (sym (length-map pieces piece_line)) some)))
+    subst (λ x. OnOk c.end_content.result (page_view c.end_content.new.self ≡ x))
+    (ap (λ (d : LineEnding). with_fresh (ending_bytes d) (with_bytes (ending_text c.if-whole.ending) (page_view c.code.new.self))) c.in_ok-code.ensures.default
+    ∙ ap (λ x. with_fresh default (with_bytes (ending_text c.if-whole.ending) x)) c.in_ok-code.ensures.printed
+    ∙ ap (λ (o : Option LineEnding). with_fresh default (with_bytes (ending_text o) (with_bytes (code_of (own_lines ls)) out))) ending
+    ∙ sym (content_laid options e out top closed ls (subst (λ n. 0 < n) (sym (length-map pieces piece_line)) some)))
     c.end_content.ensures.printed

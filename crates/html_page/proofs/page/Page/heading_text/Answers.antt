@@ -1,11 +1,14 @@
-use Rattle.std.proofs.Common.{◌≡◌, ◌++◌, ◌∙◌, string_bytes, sym, subst, List}
+use Rattle.std.proofs.Common.{◌≡◌, ◌∙◌, sym, subst, List}
 use Rattle.std.proofs.lemmas.List.{length-map}
 use Rattle.std.specs.Result.{OnOk}
+use Rattle.markdown_options.specs.LineEndings.{ending_bytes}
 use Rattle.block_rows.proofs.RowSteps.{no_piece}
 use Rattle.html_bytes.specs.Document.{document, text_of}
 use Rattle.definition_text.specs.BlockLines.{BlockLine, own_lines}
 use Rattle.block_rows.specs.Rows.{piece_line, piece_lines}
 use Rattle.definition_page.specs.TextTables.{text_tables}
+use Rattle.html_footnotes.specs.Output.{output_view}
+use Rattle.html_page.specs.Prints.{layout_after, page_view}
 use Rattle.html_page.specs.Printable.{AreHeadingLines}
 use Rattle.html_page.proofs.Lines.{one_line, several_lines}
 use Rattle.html_page.proofs.page.Page.heading_text.Goals as goal
@@ -14,13 +17,14 @@ pub returns-then-lines-eq1-clause-printed : goal.returns-then-lines-eq1-clause-p
 returns-then-lines-eq1-clause-printed g c = λ ds has fits.
     let d = document c.args.texts.now.options.now (text_tables (g.T.Tables.reference_of c.args.texts.now.tables.now) (g.T.Tables.punctuation_of c.args.texts.now.tables.now)) ds in
     let pieces = c.args.lines.now in
+    let page = c.args.self.now in
     let one = one_line pieces no_piece c.if-lines-eq1.true in
-    let html = string_bytes c.args.self.now.html in
-    subst (λ (ls : List BlockLine). OnOk c.push_line.result (string_bytes c.push_line.new.out ≡ html ++ text_of d (own_lines ls))) (sym one)
-    (c.push_line.ensures ds has (subst (λ (ls : List BlockLine). AreHeadingLines (own_lines ls)) one fits))
+    subst (λ (ls : List BlockLine). OnOk c.push_line.result (output_view c.push_line.new.out ≡ layout_after d.options.compile page.default_ending (page_view page) (text_of d (own_lines ls)))) (sym one)
+    (c.push_line.ensures ds has (subst (λ (ls : List BlockLine). AreHeadingLines (own_lines ls)) one fits) (ending_bytes page.default_ending))
 
 pub returns-else-lines-eq1-clause-printed : goal.returns-else-lines-eq1-clause-printed
 returns-else-lines-eq1-clause-printed g c = λ ds has fits.
     let pieces = c.args.lines.now in
     c.push_text.ensures ds has
     (several_lines (piece_lines pieces) (λ e. c.if-lines-eq1.false (sym (length-map pieces piece_line) ∙ e)) fits)
+    (ending_bytes c.args.self.now.default_ending)

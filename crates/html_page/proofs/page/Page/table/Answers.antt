@@ -1,5 +1,6 @@
-use Rattle.std.proofs.Common.{◌≡◌, ◌++◌, ◌∷◌, ◌-◌, List, sym, ap, ◌∙◌, subst, string_bytes, get_or, take, drop, length}
+use Rattle.std.proofs.Common.{◌≡◌, ◌∷◌, ◌-◌, List, sym, ap, ◌∙◌, subst, get_or, take, drop, length}
 use Rattle.std.specs.Prelude.{codes}
+use Rattle.std.specs.Result.{OnOk}
 use Rattle.std.proofs.lemmas.List.{take_rest}
 use Rattle.markdown_options.specs.declared.line_ending.LineEnding.{LineEnding}
 use Rattle.markdown_options.specs.LineEndings.{ending_bytes}
@@ -9,20 +10,20 @@ use Rattle.definition_page.specs.GfmTable.{line_aligns}
 use Rattle.definition_page.specs.TextTables.{text_tables}
 use Rattle.html_bytes.specs.Document.{document}
 use Rattle.html_bytes.specs.GfmTable.{body_pieces, head_pieces, table_pieces}
-use Rattle.html_bytes.specs.Pieces.{Fresh, print}
 use Rattle.block_rows.proofs.RowSteps.{no_piece}
 use Rattle.block_rows.specs.Rows.{piece_line, piece_lines}
 use Rattle.html_page.specs.Printable.{AreClear}
-use Rattle.html_page.specs.Prints.{layout_after}
-use Rattle.html_page.proofs.GfmTableLemmas.{table_laid, two_lines, last_said}
+use Rattle.html_page.specs.Prints.{layout_after, page_view, with_bytes, with_fresh}
+use Rattle.html_page.proofs.GfmTableLemmas.{table_laid, two_lines}
 use Rattle.html_page.proofs.page.Page.table.Goals as goal
 
 pub returns-clause-printed : goal.returns-clause-printed
 returns-clause-printed g c = λ ds has clear.
     let d = document c.args.texts.now.options.now (text_tables (g.T.Tables.reference_of c.args.texts.now.tables.now) (g.T.Tables.punctuation_of c.args.texts.now.tables.now)) ds in
+    let o = d.options.compile in
     let e = c.args.self.now.default_ending in
     let default = ending_bytes e in
-    let out = string_bytes c.args.self.now.html in
+    let out = page_view c.args.self.now in
     let lines = c.args.lines.now in
     let head = piece_line (get_or lines 0 no_piece) in
     let second = piece_line (get_or lines 1 no_piece) in
@@ -31,35 +32,36 @@ returns-clause-printed g c = λ ds has clear.
     let two : piece_lines lines ≡ head ∷ second ∷ ls = two_lines lines no_piece c.requires in
     let clean : AreClear (head ∷ second ∷ ls) = subst AreClear two clear in
     let same_rows : piece_lines slice ≡ ls = ap piece_lines (take_rest lines 2) in
-    let start = print default (print default out Fresh ++ codes "<table>") Fresh in
-    let first = c.in_ok-fresh.ensures.default in
+    let start = with_fresh default (with_bytes (codes "<table>") (with_fresh default out)) in
+    let first = c.in_ok-say.ensures.default ∙ c.in_ok-fresh.ensures.default in
     let later = c.in_ok-fresh-2.ensures.default ∙ first in
-    let opened = c.in_ok-push_str.ensures.bytes ∙ ap (λ x. x ++ codes "<table>") c.in_ok-fresh.ensures.printed in
+    let opened = c.in_ok-say.ensures.printed ∙ ap (with_bytes (codes "<table>")) c.in_ok-fresh.ensures.printed in
     let started =
     c.in_ok-fresh-2.ensures.printed
-    ∙ ap (λ (x : LineEnding). print (ending_bytes x) (string_bytes c.push_str.new.self) Fresh) first
-    ∙ ap (λ x. print default x Fresh) opened in
+    ∙ ap (λ (x : LineEnding). with_fresh (ending_bytes x) (page_view c.say.new.self)) first
+    ∙ ap (with_fresh default) opened in
     let columns = c.deref.result.now in
     let same_columns = c.deref.ensures.value ∙ c.in_ok-read_delimiters.ensures in
     let headed =
     c.in_ok-table_head.ensures.printed ds has clean.0
-    ∙ ap (λ (x : LineEnding). layout_after x (string_bytes c.fresh-2.new.self.html) (head_pieces d columns head)) later
-    ∙ ap (λ x. layout_after e x (head_pieces d columns head)) started
-    ∙ ap (λ (all : List AlignKind). layout_after e start (head_pieces d all head)) same_columns in
-    let after_head = layout_after e start (head_pieces d (line_aligns second) head) in
+    ∙ ap (λ (x : LineEnding). layout_after o x (page_view c.fresh-2.new.self) (head_pieces d columns head)) later
+    ∙ ap (λ x. layout_after o e x (head_pieces d columns head)) started
+    ∙ ap (λ (all : List AlignKind). layout_after o e start (head_pieces d all head)) same_columns in
+    let after_head = layout_after o e start (head_pieces d (line_aligns second) head) in
     let others = c.deref-2.result.now in
     let same_others = c.deref-2.ensures.value ∙ c.in_ok-read_delimiters.ensures in
     let rows = own_lines (piece_lines slice) in
     let bodied =
     c.in_ok-table_body.ensures.printed ds has (subst AreClear (sym same_rows) clean.1.1)
-    ∙ ap (λ (x : LineEnding). layout_after x (string_bytes c.table_head.new.self.html) (body_pieces d others second.ending rows)) (c.in_ok-table_head.ensures.default ∙ later)
-    ∙ ap (λ x. layout_after e x (body_pieces d others second.ending rows)) headed
-    ∙ ap (λ (all : List AlignKind). layout_after e after_head (body_pieces d all second.ending rows)) same_others
-    ∙ ap (λ (left : List BlockLine). layout_after e after_head (body_pieces d (line_aligns second) second.ending (own_lines left))) same_rows in
+    ∙ ap (λ (x : LineEnding). layout_after o x (page_view c.table_head.new.self) (body_pieces d others second.ending rows)) (c.in_ok-table_head.ensures.default ∙ later)
+    ∙ ap (λ x. layout_after o e x (body_pieces d others second.ending rows)) headed
+    ∙ ap (λ (all : List AlignKind). layout_after o e after_head (body_pieces d all second.ending rows)) same_others
+    ∙ ap (λ (left : List BlockLine). layout_after o e after_head (body_pieces d (line_aligns second) second.ending (own_lines left))) same_rows in
     let closing =
     c.in_ok-fresh-3.ensures.printed
-    ∙ ap (λ (x : LineEnding). print (ending_bytes x) (string_bytes c.table_body.new.self.html) Fresh) (c.in_ok-table_body.ensures.default ∙ c.in_ok-table_head.ensures.default ∙ later)
-    ∙ ap (λ x. print default x Fresh) bodied in
-    last_said c.push_str-2.result (string_bytes c.push_str-2.new.self) (string_bytes c.fresh-3.new.self.html) (codes "</table>") _ c.push_str-2.ensures.bytes
-    (ap (λ x. x ++ codes "</table>") closing ∙ table_laid default d head second ls out
-    ∙ ap (λ (all : List BlockLine). layout_after e out (table_pieces d (own_lines all))) (sym two))
+    ∙ ap (λ (x : LineEnding). with_fresh (ending_bytes x) (page_view c.table_body.new.self)) (c.in_ok-table_body.ensures.default ∙ c.in_ok-table_head.ensures.default ∙ later)
+    ∙ ap (with_fresh default) bodied in
+    subst (λ x. OnOk c.say-2.result (page_view c.say-2.new.self ≡ x))
+    (ap (with_bytes (codes "</table>")) closing ∙ table_laid default d head second ls out
+    ∙ ap (λ (all : List BlockLine). layout_after o e out (table_pieces d (own_lines all))) (sym two))
+    c.say-2.ensures.printed

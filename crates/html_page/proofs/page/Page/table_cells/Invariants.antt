@@ -1,15 +1,15 @@
-use Rattle.std.proofs.Common.{◌≡◌, List, string_bytes, drop}
-use Rattle.definition_inline.specs.Definition.{Definition}
+use Rattle.std.proofs.Common.{◌≡◌, List, drop}
+use Rattle.definition_page.specs.Targets.{Targets}
 use Rattle.definition_page.specs.TextTables.{text_tables}
 use Rattle.definition_block.specs.GfmTable.{line_cells}
 use Rattle.html_bytes.specs.Document.{document}
 use Rattle.html_bytes.specs.GfmTable.{cells_pieces}
-use Rattle.html_contents.specs.Texts.{HasDefinitions}
+use Rattle.html_contents.specs.Texts.{KnowsTargets}
 use Rattle.block_cells.specs.GfmTable.{cells_left}
 use Rattle.block_rows.specs.ParagraphLines.{HaveNoEnding}
 use Rattle.block_rows.specs.Rows.{piece_line}
 use Rattle.html_page.specs.GfmTable.{CellsAreClear}
-use Rattle.html_page.specs.Prints.{layout_after}
+use Rattle.html_page.specs.Prints.{layout_after, page_view}
 use Rattle.html_page.proofs.page.Page.table_cells.Given as goal
 
 -- the cells that are left are still to be printed, in the columns that are left
@@ -17,8 +17,8 @@ abbrev pub invariant-loop-align : goal.invariant-loop-align
 invariant-loop-align g l = record {
   same_default : l.self.default_ending ≡ l.initial.self.default_ending;
   clear : HaveNoEnding (piece_line l.line).codes → CellsAreClear (cells_left l.cells);
-  printed : (ds : List Definition) → HasDefinitions l.texts.labels.now l.texts.links.now ds → HaveNoEnding (piece_line l.line).codes →
+  printed : (ds : Targets) → KnowsTargets l.texts ds → HaveNoEnding (piece_line l.line).codes →
       let d = document l.texts.options.now (text_tables (g.T.Tables.reference_of l.texts.tables.now) (g.T.Tables.punctuation_of l.texts.tables.now)) ds in
-      layout_after l.initial.self.default_ending (string_bytes l.self.html) (cells_pieces d l.name (drop l.align-index l.aligns) (cells_left l.cells))
-      ≡ layout_after l.initial.self.default_ending (string_bytes l.initial.self.html) (cells_pieces d l.name l.aligns (line_cells (piece_line l.line)));
+      layout_after d.options.compile l.initial.self.default_ending (page_view l.self) (cells_pieces d l.name (drop l.align-index l.aligns) (cells_left l.cells))
+      ≡ layout_after d.options.compile l.initial.self.default_ending (page_view l.initial.self) (cells_pieces d l.name l.aligns (line_cells (piece_line l.line)));
 }

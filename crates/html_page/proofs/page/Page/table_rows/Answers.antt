@@ -1,4 +1,4 @@
-use Rattle.std.proofs.Common.{◌≡◌, ◌++◌, ◌∷◌, [], List, Option, sym, ap, ◌∙◌, string_bytes, take, get_or, ◌+◌}
+use Rattle.std.proofs.Common.{◌≡◌, ◌++◌, ◌∷◌, [], List, Option, sym, ap, ◌∙◌, take, get_or, ◌+◌}
 use Rattle.std.specs.List.{flat_map}
 use Rattle.std.proofs.lemmas.List.{map_more}
 use Rattle.markdown_options.specs.declared.line_ending.LineEnding.{LineEnding}
@@ -12,7 +12,7 @@ use Rattle.block_rows.proofs.OwnLines.{last_ending_more}
 use Rattle.block_rows.proofs.RowSteps.{no_piece}
 use Rattle.block_rows.specs.Rows.{piece_line, piece_lines}
 use Rattle.html_bytes.specs.GfmTable.{row_pieces, body_row_pieces}
-use Rattle.html_page.specs.Prints.{layout_after}
+use Rattle.html_page.specs.Prints.{layout_after, page_view, with_bytes}
 use Rattle.html_page.proofs.GfmTableLemmas.{rows_more, clear_at}
 use Rattle.html_page.proofs.page.Page.table_rows.Goals as goal
 
@@ -22,7 +22,7 @@ loop-row-preserved g c =
     let aligns = c.args.aligns.now in
     let i = c.loop-row.row-index in
     let e = c.args.self.now.default_ending in
-    let start = string_bytes c.args.self.now.html in
+    let start = page_view c.args.self.now in
     let before = piece_lines (take i lines) in
     let line : BlockLine = piece_line (get_or lines i no_piece) in
     let k = c.loop-row.invariant in
@@ -32,13 +32,14 @@ loop-row-preserved g c =
       same_default = c.in_ok-table_line.ensures.default ∙ same;
       printed = λ ds has clear.
           let d = document c.args.texts.now.options.now (text_tables (g.T.Tables.reference_of c.args.texts.now.tables.now) (g.T.Tables.punctuation_of c.args.texts.now.tables.now)) ds in
+          let o = d.options.compile in
           let row = row_pieces d (codes "td") aligns line in
-          let so_far = layout_after e start (flat_map (body_row_pieces d aligns) (own_lines before)) in
+          let so_far = layout_after o e start (flat_map (body_row_pieces d aligns) (own_lines before)) in
           c.in_ok-table_line.ensures.printed ds has (clear_at lines i no_piece c.loop-row-test.true clear)
-          ∙ ap (λ (x : LineEnding). layout_after x (string_bytes c.push_ending.new.self.html) row) same
-          ∙ ap (λ x. layout_after e x row) (c.in_ok-push_ending.ensures.printed ∙ ap (λ x. x ++ ending_text c.loop-row.waiting) (k.printed ds has clear))
-          ∙ ap (λ (o : Option LineEnding). layout_after e (so_far ++ ending_text o) row) k.waits
+          ∙ ap (λ (x : LineEnding). layout_after o x (page_view c.push_ending.new.self) row) same
+          ∙ ap (λ x. layout_after o e x row) (c.in_ok-push_ending.ensures.printed ∙ ap (with_bytes (ending_text c.loop-row.waiting)) (k.printed ds has clear))
+          ∙ ap (λ (last : Option LineEnding). layout_after o e (with_bytes (ending_text last) so_far) row) k.waits
           ∙ rows_more (ending_bytes e) d aligns before line start
-          ∙ ap (λ ls. layout_after e start (flat_map (body_row_pieces d aligns) (own_lines ls))) (sym more);
+          ∙ ap (λ ls. layout_after o e start (flat_map (body_row_pieces d aligns) (own_lines ls))) (sym more);
       waits = sym (ap last_ending more ∙ last_ending_more before line);
     }

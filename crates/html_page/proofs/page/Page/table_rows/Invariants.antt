@@ -1,22 +1,22 @@
-use Rattle.std.proofs.Common.{◌≡◌, List, string_bytes, take}
+use Rattle.std.proofs.Common.{◌≡◌, List, take}
 use Rattle.std.specs.List.{flat_map}
-use Rattle.definition_inline.specs.Definition.{Definition}
+use Rattle.definition_page.specs.Targets.{Targets}
 use Rattle.definition_page.specs.TextTables.{text_tables}
 use Rattle.definition_text.specs.BlockLines.{own_lines, last_ending}
 use Rattle.html_bytes.specs.Document.{document}
 use Rattle.html_bytes.specs.GfmTable.{body_row_pieces}
-use Rattle.html_contents.specs.Texts.{HasDefinitions}
+use Rattle.html_contents.specs.Texts.{KnowsTargets}
 use Rattle.block_rows.specs.Rows.{piece_lines}
 use Rattle.html_page.specs.Printable.{AreClear}
-use Rattle.html_page.specs.Prints.{layout_after}
+use Rattle.html_page.specs.Prints.{layout_after, page_view}
 use Rattle.html_page.proofs.page.Page.table_rows.Given as goal
 
 -- the rows so far are printed, and the ending of the last one waits
 abbrev pub invariant-loop-row : goal.invariant-loop-row
 invariant-loop-row g l = record {
   same_default : l.self.default_ending ≡ l.initial.self.default_ending;
-  printed : (ds : List Definition) → HasDefinitions l.texts.labels.now l.texts.links.now ds → AreClear (piece_lines l.rows) →
+  printed : (ds : Targets) → KnowsTargets l.texts ds → AreClear (piece_lines l.rows) →
       let d = document l.texts.options.now (text_tables (g.T.Tables.reference_of l.texts.tables.now) (g.T.Tables.punctuation_of l.texts.tables.now)) ds in
-      string_bytes l.self.html ≡ layout_after l.initial.self.default_ending (string_bytes l.initial.self.html) (flat_map (body_row_pieces d l.aligns) (own_lines (piece_lines (take l.row-index l.rows))));
+      page_view l.self ≡ layout_after d.options.compile l.initial.self.default_ending (page_view l.initial.self) (flat_map (body_row_pieces d l.aligns) (own_lines (piece_lines (take l.row-index l.rows))));
   waits : l.waiting ≡ last_ending (piece_lines (take l.row-index l.rows));
 }

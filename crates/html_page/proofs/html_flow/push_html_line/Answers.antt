@@ -2,11 +2,11 @@ use Rattle.std.proofs.Common.{◌≡◌, ◌++◌, ℕ, ◌<◌, string_bytes, s
 use Rattle.std.specs.Result.{OnOk}
 use Rattle.html_bytes.specs.RawHtml.{raw_html}
 use Rattle.html_page.proofs.Owed.{bytes_owed}
-use Rattle.html_page.proofs.page.Page.html_line.Goals as goal
+use Rattle.html_page.proofs.html_flow.push_html_line.Goals as goal
 
-pub returns-clause-printed : goal.returns-clause-printed
-returns-clause-printed g c = λ owed.
+pub returns : goal.returns
+returns g c = λ owed.
     let text = c.args.text.now in
     let bytes : (k : ℕ) → get_or text k 0 < 256 = λ k. omega (arith, c.type_inv.text k) in
-    subst (λ x. OnOk c.push_html.result (string_bytes c.push_html.new.out ≡ string_bytes c.args.self.now.html ++ raw_html c.args.options.now x))
+    subst (λ x. OnOk c.push_html.result (string_bytes c.push_html.new.out ≡ string_bytes c.args.out.now ++ raw_html c.args.options.now x))
     (sym (bytes_owed owed text bytes)) c.push_html.ensures

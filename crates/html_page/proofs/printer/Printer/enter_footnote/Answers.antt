@@ -1,0 +1,20 @@
+use Rattle.std.proofs.Common.{◌≡◌, [], ap, ◌∙◌, subst, false}
+use Rattle.std.specs.Prelude.{reverse}
+use Rattle.std.specs.Result.{OnOk}
+use Rattle.definition_page.specs.Layout.{Laid}
+use Rattle.html_page.specs.declared.level.Level.{Level}
+use Rattle.html_page.specs.declared.level.Holder.TheVariants as holder
+use Rattle.html_page.specs.Levels.{after_footnote}
+use Rattle.html_page.specs.Prints.{page_view}
+use Rattle.html_page.specs.PrinterView.{printer_at, printer_view, within_at}
+use Rattle.html_page.proofs.printer.Printer.enter_footnote.Goals as goal
+
+pub returns-clause-printed : goal.returns-clause-printed
+returns-clause-printed g c =
+    let p = c.args.self.now in
+    let outer = reverse p.outer.items in
+    let places = reverse p.places.items in
+    subst (λ x. OnOk c.enter_at.result (printer_view c.enter_at.new.self ≡ x))
+    (ap (λ (l : Level). within_at l holder.Footnote false (printer_at (page_view c.start_note.new.self) p.level outer places)) (c.after-around.ensures [])
+    ∙ ap (λ (out : Laid). within_at (after_footnote p.level) holder.Footnote false (printer_at out p.level outer places)) c.in_ok-start_note.ensures.printed)
+    c.enter_at.ensures.printed
