@@ -4,3 +4,4 @@ mod Leaves
 mod MathFlow
 mod GfmTable
 mod Frontmatter
+mod GfmFootnoteDefinition

@@ -1,5 +1,6 @@
 -- What a page unfolds.
 use Rattle.std.specs.Char.{encode_utf8}
+use Rattle.std.specs.Fmt.{digits}
 use Rattle.std.specs.Str.{chars, is_utf8}
 use Rattle.std.specs.Str.Lossy.{utf8_valid_len, utf8_lossy}
 use Rattle.caseless.proofs.Computing.{caseless}
@@ -9,5 +10,5 @@ use Rattle.definition_page.specs.Urls.{href_protocols, src_protocols}
 
 -- `unfolding pages` lets `refl` compute a page
 unfoldable pub pages : Unit {0}
-unfolding encode_utf8 chars is_utf8 utf8_valid_len utf8_lossy caseless raw_names block_names filtered_names href_protocols src_protocols
+unfolding digits encode_utf8 chars is_utf8 utf8_valid_len utf8_lossy caseless raw_names block_names filtered_names href_protocols src_protocols
 pages = tt

@@ -1,5 +1,5 @@
 -- Hard line breaks by spaces (CommonMark 6.7).
-use Rattle.std.specs.Prelude.{◌≡◌, [], ◌∷◌, ◌++◌, codes}
+use Rattle.std.specs.Prelude.{◌≡◌, codes}
 use Rattle.std.proofs.Common.{refl}
 use Rattle.examples_inline.proofs.Computing.{pages}
 use Rattle.examples_inline.specs.Pages.{page}

@@ -5,6 +5,7 @@ mod CodeText
 mod MathText
 mod Attention
 mod GfmAutolinkLiteral
+mod GfmLabelStartFootnote
 mod GfmStrikethrough
 mod GfmTaskListItem
 mod LabelStartLink

@@ -11,6 +11,7 @@ use Rattle.definition_text.specs.BlockLines.{BlockLine, block_line}
 use Rattle.definition_text.specs.InlineCode.{inline_content}
 use Rattle.definition_inline.specs.Scan.{inlines}
 use Rattle.html_bytes.specs.InlineHtml.{inline_html}
+use Rattle.definition_page.specs.Targets.{no_targets}
 use Rattle.definition_page.specs.TextTables.{TextTables}
 use Rattle.html_bytes.specs.Document.{document, context_of, meaning_of}
 use Rattle.definition_page.specs.Html.{html}
@@ -95,6 +96,14 @@ with_literals = record default_options {
   parse = record default_parse_options { constructs = record default_constructs { gfm_autolink_literal = true } };
 }
 
+-- default options with footnotes and tables
+abbrev pub with_footnotes : Options
+with_footnotes = record default_options {
+  parse = record default_parse_options {
+    constructs = record default_constructs { gfm_footnote_definition = true; gfm_label_start_footnote = true; gfm_table = true };
+  };
+}
+
 -- default options with task list items, whose boxes can be changed or not
 abbrev pub with_tasks : Bool → Options
 with_tasks checkable = record default_options {
@@ -107,7 +116,7 @@ with_tasks checkable = record default_options {
 -- the HTML of the content of these lines, before a character of this kind in the text
 abbrev pub lines_html : Kind → List BlockLine → List ℕ
 lines_html after ls =
-    let d = document default_options tables [] in
+    let d = document default_options tables no_targets in
     inline_html (meaning_of d) (inlines (context_of d) (inline_content is_punctuation after ls))
 
 -- the content of one line between characters of these kinds in the text

@@ -1,5 +1,5 @@
 -- The inline structure of a content with another ending in place of each LF.
-use Rattle.std.proofs.Common.{◌≡◌, ℕ, zero, suc, ◌+◌, ◌-◌, List, [], ◌∷◌, ◌++◌, None, Some, Option, Bool, true, false, cond, ◌&&◌, ◌||◌, eqb, refl, sym, ap, ◌∙◌, drop, map}
+use Rattle.std.proofs.Common.{◌≡◌, ℕ, zero, suc, ◌+◌, ◌-◌, List, [], ◌∷◌, ◌++◌, None, Some, Option, Bool, true, false, cond, not, ◌&&◌, ◌||◌, eqb, refl, sym, ap, ◌∙◌, drop, map}
 use Rattle.std.specs.Prelude.{is_some, codes, slice_index_or}
 use Rattle.std.specs.List.{fold, prefix_len}
 use Rattle.std.proofs.Math.ListN.{get_or-map}
@@ -20,18 +20,20 @@ use Rattle.definition_inline.specs.MathText.{math_text_at}
 use Rattle.definition_inline.specs.Autolink.{autolink_at}
 use Rattle.definition_inline.specs.HtmlText.{html_text_at}
 use Rattle.definition_inline.specs.HardBreak.{escaped_break_at, line_end_at, line_spaces_at}
-use Rattle.definition_inline.specs.GfmAutolinkLiteral.{literal_at}
-use Rattle.definition_inline.specs.LabelEnd.{Ended, label_end_at}
+use Rattle.definition_inline.specs.GfmAutolinkLiteral.{literal_at, linked_literals}
+use Rattle.definition_inline.specs.LabelEnd.{Formed, Leads, Calls}
+use Rattle.definition_inline.specs.GfmLabelStartFootnote.{called, call_or_link}
 use Rattle.definition_inline.specs.Attention.{Run, is_marker, run_between, run_size, run_at}
 use Rattle.definition_inline.specs.Spans.{Token, Item, Delimiters, emphasized}
-use Rattle.definition_inline.specs.Scan.{InlineContext, leaf_at, leaf_here, LabelStart, LinkStart, ImageStart, label_start_at, start_more, start_tokens, may_form, label_part, makes_link, Text, text, OpenLabel, Reading, reading, read_tokens, unformed, formed, Step, Next, data_step, ended_step, ended_by, label_end_step, last_step, label_step, run_step, leaf_step, step, and_then, scan, whole_text, inlines, inlines_from, unindented}
+use Rattle.definition_inline.specs.Scan.{InlineContext, leaf_at, leaf_here, LabelStart, LinkStart, ImageStart, starts_image, starts_link, label_start_at, start_more, start_tokens, may_form, label_part, formed_part, formed_at, makes_link, Text, text, OpenLabel, Reading, reading, read_tokens, unformed, formed, Step, Next, data_step, ended_step, ended_by, label_end_step, last_step, label_step, run_step, leaf_step, step, and_then, scan, whole_text, inlines, inlines_from, unindented}
 use Rattle.laws_endings.specs.Endings.{code_with, codes_with}
 use Rattle.laws_endings.specs.Inlines.{inline_code_with, content_with, target_with, inline_with, inlines_with}
 use Rattle.laws_endings.specs.Laws.{InlinesLaw}
 use Rattle.laws_endings.proofs.Codes.{cond-under, same_code, before-with}
-use Rattle.laws_endings.proofs.Leaves.{if_found, or_else-with, same_byte, begins-byte, leaf_at-with}
+use Rattle.laws_endings.proofs.Leaves.{if_found, or_else-with, same_byte, leaf_at-with}
 use Rattle.laws_endings.proofs.Literals.{codes_of-with, literal_at-with}
-use Rattle.laws_endings.proofs.LabelEnds.{begins-two, if_ended, label_end_at-with}
+use Rattle.laws_endings.proofs.LabelEnds.{begins-with, formed_with, if_formed, leading-with, call_or_link-with, called-with}
+use Rattle.laws_endings.proofs.Addresses.{linked-with}
 use Rattle.laws_endings.proofs.Tokens.{token_with, tokens_with, emphasized-with}
 
 -- ---- where no construct begins that holds no other stands no ending
@@ -115,14 +117,19 @@ module _ (e : LineEnding) where
   label_part-with LinkStart target kids = refl
   label_part-with ImageStart target kids = refl
 
-  formed-with : (label : OpenLabel) (target : Target) (inner : Text)
-      → formed (open_with label) (target_with e target) (text_with inner) ≡ text_with (formed label target inner)
-  formed-with label target inner =
+  formed_part-with : (start : LabelStart) (found : Formed) (tokens : List Token)
+      → formed_part start (formed_with e found) (tokens_with e tokens) ≡ inline_with e (formed_part start found tokens)
+  formed_part-with start (Leads end) tokens =
+      ap (label_part start (target_with e end.target)) (emphasized-with e tokens) ∙ label_part-with start end.target (emphasized tokens)
+  formed_part-with start (Calls label) tokens = refl
+
+  formed-with : (label : OpenLabel) (found : Formed) (inner : Text)
+      → formed (open_with label) (formed_with e found) (text_with inner) ≡ text_with (formed label found inner)
+  formed-with label found inner =
       let links = label.outer.holds_link || makes_link label.start inner.holds_link in
       let outer = label.outer.tokens in
-      let part = label_part label.start target (emphasized inner.tokens) in
-      ap (λ kids. text (tokens_with e outer ++ Item (label_part label.start (target_with e target) kids) ∷ []) links) (emphasized-with e inner.tokens)
-      ∙ ap (λ i. text (tokens_with e outer ++ Item i ∷ []) links) (label_part-with label.start target (emphasized inner.tokens))
+      let part = formed_part label.start found inner.tokens in
+      ap (λ i. text (tokens_with e outer ++ Item i ∷ []) links) (formed_part-with label.start found inner.tokens)
       ∙ ap (λ tokens. text tokens links) (sym (map-append (token_with e) outer (Item part ∷ [])))
 
   -- ---- one place
@@ -130,20 +137,32 @@ module _ (e : LineEnding) where
   data_step-with : (code : ℕ) (r : Reading) → data_step code (reading_with r) ≡ step_with (data_step code r)
   data_step-with code r = ap (Next 0) (read_tokens-with (Item (Data code) ∷ []) r)
 
-  ended_step-with : (label : OpenLabel) (others : List OpenLabel) (inner : Text) (found : Option Ended)
-      → ended_step (open_with label) (map open_with others) (text_with inner) (if_ended e found) ≡ step_with (ended_step label others inner found)
+  ended_step-with : (label : OpenLabel) (others : List OpenLabel) (inner : Text) (found : Option Formed)
+      → ended_step (open_with label) (map open_with others) (text_with inner) (if_formed e found) ≡ step_with (ended_step label others inner found)
   ended_step-with label others inner None =
       ap (λ now. Next 0 (read_tokens (Item (Data 93) ∷ []) (reading now (map open_with others)))) (unformed-with label inner)
       ∙ ap (Next 0) (read_tokens-with (Item (Data 93) ∷ []) (reading (unformed label inner) others))
-  ended_step-with label others inner (Some found) =
-      ap (λ now. Next found.size (reading now (map open_with others))) (formed-with label found.target inner)
+  ended_step-with label others inner (Some (Leads end)) =
+      ap (λ now. Next end.size (reading now (map open_with others))) (formed-with label (Leads end) inner)
+  ended_step-with label others inner (Some (Calls called)) =
+      ap (λ now. Next 0 (reading now (map open_with others))) (formed-with label (Calls called) inner)
+
+  starts_image-with : (on : Constructs) (cs : List ℕ) → starts_image on (codes_with e cs) ≡ starts_image on cs
+  starts_image-with on cs =
+      let image : Bool → Bool → Bool = λ begins marked. on.label_start_image && begins && not (on.gfm_label_start_footnote && marked) in
+      ap (λ begins. image begins (begins_with (codes "![^") (codes_with e cs))) (begins-with e (codes "![") cs (refl, (refl, (refl, (refl, refl)))))
+      ∙ ap (image (begins_with (codes "![") cs)) (begins-with e (codes "![^") cs (refl, (refl, (refl, (refl, (refl, (refl, refl)))))))
+
+  starts_link-with : (on : Constructs) (cs : List ℕ) → starts_link on (codes_with e cs) ≡ starts_link on cs
+  starts_link-with on cs =
+      let link : Bool → Bool → Bool = λ begins call. (on.label_start_link && begins) || (on.gfm_label_start_footnote && call) in
+      ap (λ begins. link begins (begins_with (codes "[^") (codes_with e cs))) (begins-with e (codes "[") cs (refl, (refl, refl)))
+      ∙ ap (link (begins_with (codes "[") cs)) (begins-with e (codes "[^") cs (refl, (refl, (refl, (refl, refl)))))
 
   label_start_at-with : (on : Constructs) (cs : List ℕ) → label_start_at on (codes_with e cs) ≡ label_start_at on cs
   label_start_at-with on cs =
-      let link : Bool → Option LabelStart = λ begins. cond (on.label_start_link && begins) (Some LinkStart) None in
-      ap (λ image. cond (on.label_start_image && image) (Some ImageStart) (link (begins_with (codes "[") (codes_with e cs))))
-      (begins-two e 33 91 refl refl refl refl cs)
-      ∙ ap (λ begins. cond (on.label_start_image && begins_with (codes "![") cs) (Some ImageStart) (link begins)) (begins-byte e 91 refl refl cs)
+      ap (λ image. cond image (Some ImageStart) (cond (starts_link on (codes_with e cs)) (Some LinkStart) None)) (starts_image-with on cs)
+      ∙ ap (λ link. cond (starts_image on cs) (Some ImageStart) (cond link (Some LinkStart) None)) (starts_link-with on cs)
 
   prefix-with : (test : ℕ → Bool) → test 13 ≡ test 10 → test 257 ≡ test 10 → (cs : List InlineCode)
       → prefix_len (λ (c : InlineCode). test c.code) (content_with e cs) ≡ prefix_len (λ (c : InlineCode). test c.code) cs
@@ -177,15 +196,24 @@ module _ (e : LineEnding) where
   all_items [] = refl
   all_items (i ∷ is) = ap (λ tokens. Item (inline_with e i) ∷ tokens) (all_items is)
 
-  module _ (context : InlineContext) (same : (label : List ℕ) → context.is_defined (codes_with e label) ≡ context.is_defined label) where
+  module _ (context : InlineContext) (same : (label : List ℕ) → context.is_defined (codes_with e label) ≡ context.is_defined label)
+      (same_call : (label : List ℕ) → context.is_footnote (codes_with e label) ≡ context.is_footnote label) where
+    formed_at-with : (start : LabelStart) (between rest : List ℕ)
+        → formed_at context start (codes_with e between) (codes_with e rest) ≡ if_formed e (formed_at context start between rest)
+    formed_at-with LinkStart between rest =
+        let on = context.options.constructs in
+        ap (call_or_link on context.is_defined (codes_with e between) (codes_with e rest)) (called-with e on context.is_footnote same_call between)
+        ∙ call_or_link-with e context.is_defined same on between rest (called on context.is_footnote between)
+    formed_at-with ImageStart between rest = leading-with e context.is_defined same between rest
+
     ended_by-with : (content : List ℕ) (label : OpenLabel) (inner : Text)
-        → ended_by context (codes_with e content) (open_with label) (text_with inner) ≡ if_ended e (ended_by context content label inner)
+        → ended_by context (codes_with e content) (open_with label) (text_with inner) ≡ if_formed e (ended_by context content label inner)
     ended_by-with content label inner =
         let between = before label.from content in
-        cond-under (if_ended e) (may_form label.start inner.holds_link)
-        (ap (λ t. label_end_at context.is_defined t (drop 1 (codes_with e content))) (before-with e label.from content)
-        ∙ ap (label_end_at context.is_defined (codes_with e between)) (drop-map (code_with e) 1 content)
-        ∙ label_end_at-with e context.is_defined same between (drop 1 content))
+        cond-under (if_formed e) (may_form label.start inner.holds_link)
+        (ap (λ t. formed_at context label.start t (drop 1 (codes_with e content))) (before-with e label.from content)
+        ∙ ap (formed_at context label.start (codes_with e between)) (drop-map (code_with e) 1 content)
+        ∙ formed_at-with label.start between (drop 1 content))
         refl
 
     label_end_step-with : (content : List ℕ) (inner : Text) (labels : List OpenLabel)
@@ -272,12 +300,14 @@ module _ (e : LineEnding) where
     from-with content =
         let empty = reading (text [] false) [] in
         let read = scan context 0 empty content in
-        ap (λ r. emphasized (whole_text r).tokens) (scan-with 0 empty content)
-        ∙ ap (λ (t : Text). emphasized t.tokens) (unformed_all read.now read.open_labels)
-        ∙ emphasized-with e (whole_text read).tokens
+        let linked = linked_literals context.options.constructs in
+        ap (λ r. linked (emphasized (whole_text r).tokens)) (scan-with 0 empty content)
+        ∙ ap (λ (t : Text). linked (emphasized t.tokens)) (unformed_all read.now read.open_labels)
+        ∙ ap linked (emphasized-with e (whole_text read).tokens)
+        ∙ linked-with e context.options.constructs (emphasized (whole_text read).tokens)
 
     pub inlines-with : (content : List InlineCode) → inlines context (content_with e content) ≡ inlines_with e (inlines context content)
     inlines-with content = ap (inlines_from context) (unindented-with content) ∙ from-with (unindented content)
 
 pub inlines_law : InlinesLaw
-inlines_law e context content same = inlines-with e context same content
+inlines_law e context content same same_call = inlines-with e context same same_call content

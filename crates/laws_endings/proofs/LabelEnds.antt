@@ -5,6 +5,7 @@ use Rattle.std.specs.Option.{option_map}
 use Rattle.std.specs.Str.{bytes_eq}
 use Rattle.std.proofs.lemmas.List.{length-map}
 use Rattle.markdown_options.specs.declared.line_ending.LineEnding.{LineEnding}
+use Rattle.markdown_options.specs.declared.configuration.Constructs.{Constructs}
 use Rattle.definition_text.specs.Bytes.{begins_with}
 use Rattle.definition_text.specs.Content.{Part, may_escape}
 use Rattle.definition_inline.specs.Inline.{Resource, Reference}
@@ -13,7 +14,8 @@ use Rattle.definition_inline.specs.Label.{ends_label, is_label, label_at}
 use Rattle.definition_inline.specs.Destination.{destination_at}
 use Rattle.definition_inline.specs.Title.{title_at}
 use Rattle.definition_inline.specs.Resource.{LinkResource, resource_end, with_title, opens_title, after_destination, with_destination, resource_inside, resource_at}
-use Rattle.definition_inline.specs.LabelEnd.{Ended, ended, has_no_bracket, is_label_text, by_text, by_label, by_resource, label_end_at}
+use Rattle.definition_inline.specs.LabelEnd.{Ended, ended, has_no_bracket, is_label_text, by_text, by_label, by_resource, label_end_at, Formed, Leads, Calls, leading}
+use Rattle.definition_inline.specs.GfmLabelStartFootnote.{called, call_or_link}
 use Rattle.laws_endings.specs.Endings.{code_with, codes_with}
 use Rattle.laws_endings.specs.Inlines.{target_with}
 use Rattle.laws_endings.proofs.Codes.{cond-under, same_code, part_with}
@@ -85,7 +87,19 @@ module _ (e : LineEnding) where
       same_code e (λ x. cond (eqb x 40) (resource_inside (after_white (codes_with e cs))) None) c refl refl
       ∙ cond-under if_resource (eqb c 40) (ap resource_inside (after_white-with e cs) ∙ resource_inside-with (after_white cs)) refl
 
-  -- ---- two bytes
+  -- ---- some bytes
+
+  -- bytes that no ending is the same as
+  abbrev pub AreApart : List ℕ → Type 0
+  AreApart [] = true ≡ true
+  AreApart (b ∷ bs) = (eqb b 13 ≡ eqb b 10) × ((eqb b 257 ≡ eqb b 10) × AreApart bs)
+
+  pub begins-with : (text cs : List ℕ) → AreApart text → begins_with text (codes_with e cs) ≡ begins_with text cs
+  begins-with [] cs h = refl
+  begins-with (b ∷ bs) [] h = refl
+  begins-with (b ∷ bs) (c ∷ cs) h =
+      ap (λ same. same && begins_with bs (codes_with e cs)) (same_code e (λ x. eqb b x) c h.0 h.1.0)
+      ∙ ap (λ more. eqb b c && more) (begins-with bs cs h.1.1)
 
   pub begins-two : (a b : ℕ) → eqb a 13 ≡ eqb a 10 → eqb a 257 ≡ eqb a 10 → eqb b 13 ≡ eqb b 10 → eqb b 257 ≡ eqb b 10 → (cs : List ℕ)
       → begins_with (a ∷ b ∷ []) (codes_with e cs) ≡ begins_with (a ∷ b ∷ []) cs
@@ -114,6 +128,13 @@ module _ (e : LineEnding) where
 
   abbrev pub if_ended : Option Ended → Option Ended
   if_ended found = option_map ended_with found
+
+  abbrev pub formed_with : Formed → Formed
+  formed_with (Leads end) = Leads (ended_with end)
+  formed_with (Calls label) = Calls (codes_with e label)
+
+  abbrev pub if_formed : Option Formed → Option Formed
+  if_formed found = option_map formed_with found
 
   module _ (is_defined : List ℕ → Bool) (same : (label : List ℕ) → is_defined (codes_with e label) ≡ is_defined label) where
     by_text-with : (text rest : List ℕ) → by_text is_defined (codes_with e text) (codes_with e rest) ≡ if_ended (by_text is_defined text rest)
@@ -149,3 +170,29 @@ module _ (e : LineEnding) where
         → label_end_at is_defined (codes_with e text) (codes_with e rest) ≡ if_ended (label_end_at is_defined text rest)
     label_end_at-with text rest =
         ap (by_resource is_defined (codes_with e text) (codes_with e rest)) (resource_at-with rest) ∙ by_resource-with text rest (resource_at rest)
+
+    -- ---- calls of footnotes
+
+    leads-with : (found : Option Ended) → option_map Leads (if_ended found) ≡ if_formed (option_map Leads found)
+    leads-with None = refl
+    leads-with (Some end) = refl
+
+    pub leading-with : (text rest : List ℕ) → leading is_defined (codes_with e text) (codes_with e rest) ≡ if_formed (leading is_defined text rest)
+    leading-with text rest = ap (option_map Leads) (label_end_at-with text rest) ∙ leads-with (label_end_at is_defined text rest)
+
+    pub call_or_link-with : (on : Constructs) (text rest : List ℕ) (call : Option (List ℕ))
+        → call_or_link on is_defined (codes_with e text) (codes_with e rest) (if_codes call) ≡ if_formed (call_or_link on is_defined text rest call)
+    call_or_link-with on text rest None = cond-under if_formed on.label_start_link (leading-with text rest) refl
+    call_or_link-with on text rest (Some label) = refl
+
+  pub called-with : (on : Constructs) (is_footnote : List ℕ → Bool) → ((label : List ℕ) → is_footnote (codes_with e label) ≡ is_footnote label)
+      → (text : List ℕ) → called on is_footnote (codes_with e text) ≡ if_codes (called on is_footnote text)
+  called-with on is_footnote same [] = refl
+  called-with on is_footnote same (c ∷ label) =
+      let other = codes_with e label in
+      let may : Bool → Bool = λ is. on.gfm_label_start_footnote && eqb c 94 && is && is_footnote other in
+      let call : Bool → Option (List ℕ) = λ is. cond is (Some other) None in
+      same_code e (λ x. call (on.gfm_label_start_footnote && eqb x 94 && is_label_text other && is_footnote other)) c refl refl
+      ∙ ap (λ is. call (may is)) (is_label_text-with label)
+      ∙ ap (λ is. call (on.gfm_label_start_footnote && eqb c 94 && is_label_text label && is)) (same label)
+      ∙ cond-under if_codes (on.gfm_label_start_footnote && eqb c 94 && is_label_text label && is_footnote label) refl refl

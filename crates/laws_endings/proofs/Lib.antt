@@ -11,6 +11,7 @@ mod Growing
 pub mod Blocks
 pub mod Leaves
 pub mod Literals
+pub mod Addresses
 mod LabelEnds
 mod Tokens
 pub mod Contents

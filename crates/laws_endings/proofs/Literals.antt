@@ -5,21 +5,22 @@ use Rattle.std.specs.Char.{to_ascii_lowercase}
 use Rattle.std.specs.List.{prefix_len, list_all, filter}
 use Rattle.std.specs.Option.{option_map}
 use Rattle.std.proofs.Math.ListN.{get_or-map}
-use Rattle.std.proofs.lemmas.Bool.{and_parts, not-true}
+use Rattle.std.proofs.lemmas.Bool.{and_parts, or_parts, cond_both, eqb-true, eq-eqb, both_ways, false_from_ne_true, not-true}
 use Rattle.std.proofs.lemmas.List.{drop-map, take-map, length-map, map-append, reverse-append}
 use Rattle.markdown_options.specs.declared.line_ending.LineEnding.{LineEnding}
 use Rattle.markdown_options.specs.declared.configuration.Constructs.{Constructs}
 use Rattle.definition_text.specs.declared.beside.Kind.{Kind}
 use Rattle.definition_text.specs.Bytes.{is_letter_or_digit, begins_with}
-use Rattle.definition_text.specs.Content.{is_space}
+use Rattle.definition_text.specs.Columns.{is_white}
+use Rattle.definition_text.specs.Content.{is_eol, is_space}
 use Rattle.definition_text.specs.InlineCode.{InlineCode, codes_of, is_continuation}
 use Rattle.definition_inline.specs.Attention.{is_other}
 use Rattle.definition_inline.specs.Inline.{Www, Protocol, Literal, Leaf, leaf}
-use Rattle.definition_inline.specs.GfmAutolinkLiteral.{is_among, may_precede_www, may_precede_protocol, begins_caselessly, LiteralStart, literal_start, or_start, literal_start_at, is_control, begins_name, ends_label, ends_literal, literal_run, is_trailing, count_of, has_more_closed, is_cut, name_size, cut_more, without_tail, literal_name, domain, low_line_in, has_low_line, named_literal, literal_after, literal_at}
+use Rattle.definition_inline.specs.GfmAutolinkLiteral.{is_among, may_precede_www, may_precede_protocol, begins_caselessly, LiteralStart, literal_start, or_start, www_start, protocol_start, literal_start_at, is_control, begins_name, ends_label, ends_literal, literal_run, is_trailing, count_of, has_more_closed, is_cut, name_size, cut_more, without_tail, literal_name, domain, low_line_in, has_low_line, named_literal, literal_after, literal_at}
 use Rattle.laws_endings.specs.Endings.{code_with, codes_with}
 use Rattle.laws_endings.specs.Inlines.{inline_code_with, content_with}
 use Rattle.laws_endings.proofs.Codes.{cond-under, same_code, prefix_len-with}
-use Rattle.laws_endings.proofs.Leaves.{if_found, begins-byte}
+use Rattle.laws_endings.proofs.Leaves.{if_found, begins-byte, same_byte}
 
 -- a byte that no ending is the same as in lower case
 abbrev pub is_apart : ℕ → Bool
@@ -168,6 +169,69 @@ module _ (e : LineEnding) where
   low_line-with : (cs : List ℕ) → has_low_line (with cs) ≡ has_low_line cs
   low_line-with cs = ap (low_line_in 2) (reverse-with cs) ∙ low-with 2 (reverse cs)
 
+  -- ---- its text has no ending
+
+  abbrev IsKept : List ℕ → Type 0
+  IsKept cs = with cs ≡ cs
+
+  byte_kept : (c : ℕ) (cs : List ℕ) → ends_literal c cs ≡ false → code_with e c ≡ c
+  byte_kept c cs goes =
+      let space = (or_parts (is_space c) (eqb c 60 || (eqb c 93 && ends_label cs)) goes).0 in
+      let lines = (or_parts (is_white c) (is_eol c) space).1 in
+      same_byte e c (or_parts (eqb c 10) (eqb c 13) (or_parts (eqb c 10 || eqb c 13) (eqb c 257) lines).0).0
+
+  run_kept : (cs : List ℕ) → IsKept (literal_run cs)
+  run_kept [] = refl
+  run_kept (c ∷ cs) =
+      cond_both (ends_literal c cs) [] (c ∷ literal_run cs) IsKept (λ _. refl)
+      (λ goes. ap (λ b. b ∷ with (literal_run cs)) (byte_kept c cs goes) ∙ ap (λ l. c ∷ l) (run_kept cs))
+
+  tail_kept : (k : ℕ) (cs : List ℕ) → IsKept cs → IsKept (without_tail k cs)
+  tail_kept zero [] h = refl
+  tail_kept (suc k) [] h = refl
+  tail_kept zero (c ∷ cs) h =
+      cond_both (is_cut c cs) (without_tail (cut_more c cs) cs) (c ∷ cs) IsKept (λ _. tail_kept (cut_more c cs) cs (ap (drop 1) h)) (λ _. h)
+  tail_kept (suc k) (c ∷ cs) h = tail_kept k cs (ap (drop 1) h)
+
+  reverse_kept : (cs : List ℕ) → IsKept cs → IsKept (reverse cs)
+  reverse_kept cs h = sym (reverse-with cs) ∙ ap reverse h
+
+  name_kept : (cs : List ℕ) → IsKept (literal_name cs)
+  name_kept cs =
+      let run = literal_run cs in
+      reverse_kept (without_tail 0 (reverse run)) (tail_kept 0 (reverse run) (reverse_kept run (run_kept cs)))
+
+  begun_kept : (text cs : List ℕ) → list_all is_apart text ≡ true → begins_caselessly text cs ≡ true → IsKept (take (length text) cs)
+  begun_kept [] cs apart h = refl
+  begun_kept (t ∷ ts) [] apart h = refl
+  begun_kept (t ∷ ts) (c ∷ cs) apart h =
+      let small = to_ascii_lowercase t in
+      let aparts = and_parts (is_apart t) (list_all is_apart ts) apart in
+      let parts = and_parts (eqb small (to_ascii_lowercase c)) (begins_caselessly ts cs) h in
+      let no_feed = not-true (eqb small 10) (and_parts (not (eqb small 10)) (not (eqb small 13) && not (eqb small 257)) aparts.0).0 in
+      let byte : eqb c 10 ≡ false =
+      false_from_ne_true (eqb c 10) (λ at. both_ways (eqb small 10) no_feed (eq-eqb small 10 (eqb-true small (to_ascii_lowercase c) parts.0 ∙ ap to_ascii_lowercase (eqb-true c 10 at)))) in
+      ap (λ b. b ∷ with (take (length ts) cs)) (same_byte e c byte) ∙ ap (λ l. c ∷ l) (begun_kept ts cs aparts.1 parts.1)
+
+  abbrev StartKept : List ℕ → Option LiteralStart → Type 0
+  StartKept cs None = true ≡ true
+  StartKept cs (Some start) = IsKept (take start.size cs)
+
+  kept_or : (cs : List ℕ) (a b : Option LiteralStart) → StartKept cs a → StartKept cs b → StartKept cs (or_start a b)
+  kept_or cs None b p q = q
+  kept_or cs (Some start) b p q = p
+
+  start_kept : (previous : Option ℕ) (cs : List ℕ) → StartKept cs (literal_start_at previous cs)
+  start_kept previous cs =
+      kept_or cs (www_start previous cs) (protocol_start previous cs)
+      (cond_both (may_precede_www previous && begins_caselessly (codes "www.") cs) (Some (literal_start Www 4)) None (StartKept cs)
+      (λ h. begun_kept (codes "www.") cs refl (and_parts (may_precede_www previous) (begins_caselessly (codes "www.") cs) h).1) (λ _. refl))
+      (cond_both (not (may_precede_protocol previous)) None _ (StartKept cs) (λ _. refl)
+      (λ _. cond_both (begins_caselessly (codes "http://") cs) (Some (literal_start Protocol 7)) _ (StartKept cs)
+      (λ h. begun_kept (codes "http://") cs refl h)
+      (λ _. cond_both (begins_caselessly (codes "https://") cs) (Some (literal_start Protocol 8)) None (StartKept cs)
+      (λ h. begun_kept (codes "https://") cs refl h) (λ _. refl))))
+
   -- ---- the leaf
 
   module _ (start : LiteralStart) where
@@ -186,8 +250,9 @@ module _ (e : LineEnding) where
         ∙ low_line-with (domain kind (take size after)))
 
     named-with : (content : List InlineCode) (other last : InlineCode) (name : List ℕ) → other.after ≡ last.after
+        → IsKept (take start.size (codes_of content)) → IsKept name
         → named_literal start (content_with e content) other (with name) ≡ if_found e (named_literal start content last name)
-    named-with content other last name h =
+    named-with content other last name h front_kept kept =
         let n = start.size in
         let after = drop n content in
         let front = take n (codes_of content) in
@@ -198,13 +263,14 @@ module _ (e : LineEnding) where
         (ap (take n) (codes_of-with content) ∙ take-map (code_with e) n (codes_of content))
         ∙ ap (λ size. made (test last.after (content_with e after) size) (with front ++ with name) size) (length-map name (code_with e))
         ∙ ap (λ t. made t (with front ++ with name) (length name)) (test-with last.after after (length name))
-        ∙ ap (λ text. made is text (length name)) (sym (map-append (code_with e) front name))
+        ∙ ap (λ text. made is (text ++ with name) (length name)) front_kept
+        ∙ ap (λ text. made is (front ++ text) (length name)) kept
         ∙ cond-under (if_found e) is refl refl
 
-  after-with : (c : InlineCode) (cs : List InlineCode) (found : Option LiteralStart)
+  after-with : (c : InlineCode) (cs : List InlineCode) (found : Option LiteralStart) → StartKept (codes_of (c ∷ cs)) found
       → literal_after (inline_code_with e c) (content_with e cs) found ≡ if_found e (literal_after c cs found)
-  after-with c cs None = refl
-  after-with c cs (Some start) =
+  after-with c cs None k = refl
+  after-with c cs (Some start) k =
       let n = start.size in
       let all = content_with e (c ∷ cs) in
       let other = slice_index_or all (n - 1) (inline_code_with e c) in
@@ -212,6 +278,7 @@ module _ (e : LineEnding) where
       ap (named_literal start all other)
       (ap (λ l. literal_name (drop n l)) (codes_of-with (c ∷ cs)) ∙ ap literal_name (drop-map (code_with e) n (codes_of (c ∷ cs))) ∙ name-with (drop n (codes_of (c ∷ cs))))
       ∙ named-with start (c ∷ cs) other last (literal_name (drop n (codes_of (c ∷ cs)))) (ap (λ (x : InlineCode). x.after) (get_or-map (inline_code_with e) (c ∷ cs) (n - 1) c))
+      k (name_kept (drop n (codes_of (c ∷ cs))))
 
   pub literal_at-with : (on : Constructs) (content : List InlineCode) → literal_at on (content_with e content) ≡ if_found e (literal_at on content)
   literal_at-with on [] = refl
@@ -219,5 +286,5 @@ module _ (e : LineEnding) where
       cond-under (if_found e) on.gfm_autolink_literal
       (ap (literal_after (inline_code_with e c) (content_with e cs))
       (ap (literal_start_at (option_map (code_with e) c.previous)) (codes_of-with (c ∷ cs)) ∙ start-with c.previous (codes_of (c ∷ cs)))
-      ∙ after-with c cs (literal_start_at c.previous (codes_of (c ∷ cs))))
+      ∙ after-with c cs (literal_start_at c.previous (codes_of (c ∷ cs))) (start_kept c.previous (codes_of (c ∷ cs))))
       refl

@@ -11,11 +11,11 @@ use Rattle.definition_text.specs.Content.{line_ending_code, is_space}
 use Rattle.definition_inline.specs.Definition.{Definition as LinkDefinition, definition}
 use Rattle.definition_inline.specs.LabelMatch.{is_word, word_folded, normal_label, place_of}
 use Rattle.definition_block.specs.Blocks.{Block, Paragraph, Heading, Break, IndentedCode, FencedCode, Html, Table, Definition, Holds, Items, Ending, Blank, Blocks, Nil, Cons}
-use Rattle.definition_block.specs.Definitions.{block_definitions, definitions}
+use Rattle.definition_block.specs.Definitions.{block_definitions, definitions, container_footnotes, block_footnotes, footnotes}
 use Rattle.definition_block.specs.Tree.{blocks}
 use Rattle.definition_page.specs.Targets.{spaced, document_definitions}
 use Rattle.laws_endings.specs.Endings.{code_with, codes_with, definition_with, block_with, blocks_with}
-use Rattle.laws_endings.specs.Laws.{LabelsLaw, DefinitionsLaw}
+use Rattle.laws_endings.specs.Laws.{LabelsLaw, DefinitionsLaw, FootnotesLaw}
 use Rattle.laws_endings.proofs.Codes.{same_code}
 use Rattle.laws_endings.proofs.Leaves.{same_byte}
 use Rattle.laws_endings.proofs.Blocks.{blocks_law}
@@ -117,6 +117,31 @@ module _ (e : LineEnding) where
         ap (λ ds. ds ++ definitions (blocks_with e bs)) (block_definitions-with b)
         ∙ ap (λ ds. map (definition_with e) (block_definitions b) ++ ds) (definitions-with bs)
         ∙ sym (map-append (definition_with e) (block_definitions b) (definitions bs))
+
+  -- ---- footnotes
+
+  mutual
+    block_footnotes-with : (b : Block) → block_footnotes (block_with e b) ≡ block_footnotes b
+    block_footnotes-with (Paragraph ls) = refl
+    block_footnotes-with (Heading rank ls) = refl
+    block_footnotes-with Break = refl
+    block_footnotes-with (IndentedCode ls) = refl
+    block_footnotes-with (FencedCode info closed ls) = refl
+    block_footnotes-with (Html ls) = refl
+    block_footnotes-with (Table ls) = refl
+    block_footnotes-with (Definition label destination title) = refl
+    block_footnotes-with (Holds c kids) = ap (λ labels. labels ++ container_footnotes c) (footnotes-with kids)
+    block_footnotes-with (Items items) = footnotes-with items
+    block_footnotes-with (Ending ending) = refl
+    block_footnotes-with (Blank ending) = refl
+
+    footnotes-with : (bs : Blocks) → footnotes (blocks_with e bs) ≡ footnotes bs
+    footnotes-with Nil = refl
+    footnotes-with (Cons b bs) =
+        ap (λ labels. labels ++ footnotes (blocks_with e bs)) (block_footnotes-with b) ∙ ap (λ labels. block_footnotes b ++ labels) (footnotes-with bs)
+
+pub footnotes_law : FootnotesLaw
+footnotes_law e on before text p = ap footnotes (blocks_law e on before text p) ∙ footnotes-with e (blocks on before text)
 
 pub labels_law : LabelsLaw
 labels_law e label labels =

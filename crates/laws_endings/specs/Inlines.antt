@@ -3,7 +3,7 @@ use Rattle.std.specs.Prelude.{List, map}
 use Rattle.std.specs.Option.{option_map}
 use Rattle.markdown_options.specs.declared.line_ending.LineEnding.{LineEnding}
 use Rattle.definition_text.specs.InlineCode.{InlineCode, inline_code}
-use Rattle.definition_inline.specs.Inline.{Target, Resource, Reference, Inline, Data, Escape, Character, Code, Math, Autolink, Literal, Html, EscapedBreak, TrailingBreak, LineEnd, Emphasis, Strong, Strikethrough, Link, Image, Inlines, Nil, Cons}
+use Rattle.definition_inline.specs.Inline.{Target, Resource, Reference, Inline, Data, Escape, Character, Code, Math, Autolink, Literal, Html, EscapedBreak, TrailingBreak, LineEnd, Emphasis, Strong, Strikethrough, Link, Image, Call, Inlines, Nil, Cons}
 use Rattle.laws_endings.specs.Endings.{code_with, codes_with}
 
 -- a code of a content, between the same kinds
@@ -27,7 +27,7 @@ abbrev mutual
   inline_with e (Code text) = Code text
   inline_with e (Math text) = Math text
   inline_with e (Autolink is_email text) = Autolink is_email (codes_with e text)
-  inline_with e (Literal kind text) = Literal kind (codes_with e text)
+  inline_with e (Literal kind text) = Literal kind text
   inline_with e (Html html) = Html (codes_with e html)
   inline_with e EscapedBreak = EscapedBreak
   inline_with e TrailingBreak = TrailingBreak
@@ -37,6 +37,7 @@ abbrev mutual
   inline_with e (Strikethrough kids) = Strikethrough (inlines_with e kids)
   inline_with e (Link target kids) = Link (target_with e target) (inlines_with e kids)
   inline_with e (Image target kids) = Image (target_with e target) (inlines_with e kids)
+  inline_with e (Call label) = Call (codes_with e label)
 
   pub inlines_with : LineEnding → Inlines → Inlines
   inlines_with e Nil = Nil

@@ -7,6 +7,7 @@ use Rattle.definition_text.specs.declared.beside.Kind.{Kind}
 use Rattle.definition_text.specs.declared.beside.Kind.TheVariants.{Whitespace, Other}
 use Rattle.markdown_options.specs.declared.line_ending.LineEnding.TheVariants.{CarriageReturnLineFeed}
 use Rattle.definition_text.specs.Lines.{lines}
+use Rattle.definition_block.specs.Definitions.{footnotes}
 use Rattle.definition_block.specs.Tree.{blocks}
 use Rattle.definition_text.specs.InlineCode.{InlineCode, first_kind}
 use Rattle.definition_inline.specs.LabelMatch.{first_match}
@@ -35,16 +36,23 @@ DefinitionsLaw =
     (e : LineEnding) (on : Constructs) (before : Kind) (text : List ℕ) → HasNoReturn text
     → document_definitions (blocks on before (with_ending e text)) ≡ map (definition_with e) (document_definitions (blocks on before text))
 
+-- the footnote definitions of the text with an ending in place of each LF have the labels of the text's, in the same order
+abbrev pub FootnotesLaw : Type 0
+FootnotesLaw =
+    (e : LineEnding) (on : Constructs) (before : Kind) (text : List ℕ) → HasNoReturn text
+    → footnotes (blocks on before (with_ending e text)) ≡ footnotes (blocks on before text)
+
 -- a label matches the same one of some labels, whichever ending stands in it and in them
 abbrev pub LabelsLaw : Type 0
 LabelsLaw = (e : LineEnding) (label : List ℕ) (labels : List (List ℕ)) → first_match (codes_with e label) (map (codes_with e) labels) ≡ first_match label labels
 
 -- the inline structure of a content with an ending in place of each LF is the content's, with that ending in place of each LF of its parts,
--- where a label is defined whichever ending stands in it
+-- where a label is defined, and a footnote is called, whichever ending stands in the label
 abbrev pub InlinesLaw : Type 0
 InlinesLaw =
     (e : LineEnding) (context : InlineContext) (content : List InlineCode)
     → ((label : List ℕ) → context.is_defined (codes_with e label) ≡ context.is_defined label)
+    → ((label : List ℕ) → context.is_footnote (codes_with e label) ≡ context.is_footnote label)
     → inlines context (content_with e content) ≡ inlines_with e (inlines context content)
 
 -- the first two bytes of a character of three

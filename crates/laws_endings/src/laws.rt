@@ -1,5 +1,5 @@
 //! Laws of a text with another line ending in place of each LF.
-ghost use Rattle.laws_endings.specs.Laws.{EndingLinesLaw, BlocksLaw, DefinitionsLaw, LabelsLaw, InlinesLaw, CutCharacterLaw};
+ghost use Rattle.laws_endings.specs.Laws.{EndingLinesLaw, BlocksLaw, DefinitionsLaw, FootnotesLaw, LabelsLaw, InlinesLaw, CutCharacterLaw};
 
 /// A text without CR, in which an ending stands in place of each LF, has the text's lines, each
 /// with that ending in place of its own.
@@ -22,14 +22,20 @@ pub fn definitions_law()
     ensures { DefinitionsLaw }
 {}
 
+/// Its footnote definitions have the labels of the text's, in the same order.
+#[tactic(auto, using(crate::proofs::Matching::footnotes_law))]
+pub fn footnotes_law()
+    ensures { FootnotesLaw }
+{}
+
 /// A label matches the same one of some labels, whichever ending stands in it and in them.
 pub fn labels_law()
     ensures { LabelsLaw }
 {}
 
 /// The inline structure of a content, in which an ending stands in place of each LF, is the
-/// content's, with that ending in place of each LF of its parts: where labels are defined
-/// whichever ending stands in them.
+/// content's, with that ending in place of each LF of its parts: where labels are defined, and
+/// footnotes are called, whichever ending stands in the labels.
 #[tactic(auto, using(crate::proofs::Contents::inlines_law))]
 pub fn inlines_law()
     ensures { InlinesLaw }

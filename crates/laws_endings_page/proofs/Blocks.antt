@@ -1,5 +1,5 @@
 -- What the blocks of a page print, with another line ending in place of each LF.
-use Rattle.std.proofs.Common.{◌≡◌, ℕ, ◌+◌, Bool, true, false, true≢false, cond, eqb, not, ◌||◌, List, [], ◌∷◌, ◌++◌, Option, None, Some, refl, sym, ap, ◌∙◌, subst, arith, map, flat_map, append-nil}
+use Rattle.std.proofs.Common.{◌≡◌, ℕ, ◌+◌, Bool, true, false, true≢false, cond, eqb, not, ◌||◌, List, [], ◌∷◌, ◌++◌, Option, None, Some, refl, sym, ap, ◌∙◌, subst, arith, map, flat_map, append-nil, ◌⊎◌}
 use Rattle.std.specs.Prelude.{codes}
 use Rattle.std.specs.Option.{option_map}
 use Rattle.std.proofs.lemmas.Bool.{cond_both, ne_eqb}
@@ -15,19 +15,21 @@ use Rattle.definition_block.specs.declared.align_kind.AlignKind.{AlignKind}
 use Rattle.definition_block.specs.declared.align_kind.AlignKind.TheVariants as kind
 use Rattle.definition_page.specs.GfmTable.{TableRow, Table as TableOf, align_attributes, cell_pieces, cells_pieces, row_pieces, ending_piece, body_row_pieces, head_pieces, body_pieces, table_pieces}
 use Rattle.definition_page.specs.Tags.{Words, Number, Attribute, attribute, tag, bare_tag}
-use Rattle.definition_page.specs.Pieces.{Piece, Void, Says, Eol, Fresh}
-use Rattle.definition_page.specs.InlinePieces.{Meaning, raw_html, element, inline_pieces}
+use Rattle.definition_page.specs.Pieces.{Piece, Void, Says, Eol, Fresh, NoteStart, NoteEnd}
+use Rattle.definition_page.specs.InlinePieces.{Meaning, raw_html, element, inline_counts, inline_pieces}
 use Rattle.definition_page.specs.Page.{Block, Paragraph, Heading, Break, IndentedCode, FencedCode, Html, Table, Definition, Quote, ItemList, Item, Footnote, Ending, Blank, Blocks, Nil, Cons}
 use Rattle.definition_page.specs.BlockPieces.{checkable_attributes, done_attributes, check_pieces, Place, inside, code_line, html_line, says, heading_name, info_attributes, start_attributes, list_tag, is_silent, last_shown, ends_plainly, fresh_unless, fenced_pieces, block_pieces, children_pieces}
 use Rattle.laws_endings.specs.Endings.{with_ending, ending_with, if_ending_with, codes_with, line_with, lines_with}
 use Rattle.laws_endings.specs.Inlines.{inlines_with}
 use Rattle.laws_endings_reads.proofs.Each.{Each, WhereSome, each_filter, each_map}
 use Rattle.laws_endings_reads.proofs.Fits.{Plain}
-use Rattle.laws_endings_reads.proofs.InlineReads.{AreFit}
+use Rattle.laws_endings_reads.proofs.Parts.{AreFit}
 use Rattle.laws_endings_reads.proofs.BlockReads.{IsFed, LineFits, LinesFit}
 use Rattle.laws_endings_page.proofs.Bytes.{IsNoFeed, decimal_no_feed, with-append, kept, encode-with}
 use Rattle.laws_endings_page.proofs.Saids.{plains_no_feed, codes-kept, SaidWith, SaidsWith, says_more, says_one, says_append, words-kept, raw-kept}
-use Rattle.laws_endings_page.proofs.Printed.{LinkedFits, BytesWith, AttributesWith, attribute-with, more_attributes, PiecesWith, no_pieces, append-with, more-with, said-with, void_piece-with, eol_piece-with, fresh_piece-with, element-with, saids-with, linked_with, inlines-with}
+use Rattle.laws_endings_page.specs.Laws.{HaveNoFeeds}
+use Rattle.laws_endings_page.proofs.Pieces.{BytesWith, AttributesWith, attribute-with, more_attributes, PiecesWith, no_pieces, append-with, more-with, said-with, void_piece-with, eol_piece-with, fresh_piece-with, element-with, saids-with, note_start-with, note_end-with}
+use Rattle.laws_endings_page.proofs.Printed.{LinkedFits, linked_with, counts-with, inlines-with}
 use Rattle.laws_endings_page.proofs.GfmTable.{RowFits, TableFits, row_with, table_with}
 use Rattle.laws_endings_page.proofs.Pages.{page_block_with, page_blocks_with, InfoFits, PageBlockFits, PageFits}
 
@@ -61,7 +63,7 @@ module _ (e : LineEnding) where
 
   module _ (m : Meaning) (other : List ℕ → Option Linked)
       (leads : (label : List ℕ) → other (codes_with e label) ≡ option_map (linked_with e) (m.definition label))
-      (fits : (label : List ℕ) → WhereSome LinkedFits (m.definition label)) where
+      (fits : (label : List ℕ) → WhereSome LinkedFits (m.definition label)) (notes : (m.footnotes ≡ []) ⊎ HaveNoFeeds m.compile) where
     abbrev m' : Meaning
     m' = record m { definition = other }
 
@@ -105,15 +107,15 @@ module _ (e : LineEnding) where
         (attribute-with e (codes "start") (Number number ∷ []) (Number number ∷ []) refl
         (says_one e (Number number) (Number number) (sym (kept e _ (decimal_no_feed number))))) refl)
 
-    list-with : (number : Option ℕ) (inside' inside : List Piece) → PiecesWith e inside' inside
-        → PiecesWith e (element (list_tag number) inside') (element (list_tag number) inside)
-    list-with None inside' inside p = element-with e (codes "ul") [] [] inside' inside refl refl p
+    list-with : (number : Option ℕ) (inside' inside : List Piece) → PiecesWith e m.compile inside' inside
+        → PiecesWith e m.compile (element (list_tag number) inside') (element (list_tag number) inside)
+    list-with None inside' inside p = element-with e m.compile (codes "ul") [] [] inside' inside refl refl p
     list-with (Some number) inside' inside p =
-        element-with e (codes "ol") (start_attributes number) (start_attributes number) inside' inside refl (start-attributes number) p
+        element-with e m.compile (codes "ol") (start_attributes number) (start_attributes number) inside' inside refl (start-attributes number) p
 
-    bare-with : (name : List ℕ) (inside' inside : List Piece) → BytesWith e name name → PiecesWith e inside' inside
-        → PiecesWith e (element (bare_tag name) inside') (element (bare_tag name) inside)
-    bare-with name inside' inside p q = element-with e name [] [] inside' inside p refl q
+    bare-with : (name : List ℕ) (inside' inside : List Piece) → BytesWith e name name → PiecesWith e m.compile inside' inside
+        → PiecesWith e m.compile (element (bare_tag name) inside') (element (bare_tag name) inside)
+    bare-with name inside' inside p q = element-with e m.compile name [] [] inside' inside p refl q
 
     -- ---- siblings
 
@@ -140,65 +142,67 @@ module _ (e : LineEnding) where
     ends_plainly-with tight (Some (Paragraph check is)) = refl
     ends_plainly-with tight (Some b) = refl
 
-    pub fresh_unless-with : (said : Bool) → PiecesWith e (fresh_unless said) (fresh_unless said)
-    fresh_unless-with true = no_pieces e
-    fresh_unless-with false = fresh_piece-with e
+    pub fresh_unless-with : (said : Bool) → PiecesWith e m.compile (fresh_unless said) (fresh_unless said)
+    fresh_unless-with true = no_pieces e m.compile
+    fresh_unless-with false = fresh_piece-with e m.compile
 
     -- ---- blocks
 
-    fresh-then : (others ones : List Piece) → PiecesWith e others ones → PiecesWith e (Fresh ∷ others) (Fresh ∷ ones)
-    fresh-then others ones p = more-with e Fresh Fresh others ones (fresh_piece-with e) p
+    fresh-then : (others ones : List Piece) → PiecesWith e m.compile others ones → PiecesWith e m.compile (Fresh ∷ others) (Fresh ∷ ones)
+    fresh-then others ones p = more-with e m.compile Fresh Fresh others ones (fresh_piece-with e m.compile) p
 
-    eol_unless : (said : Bool) → PiecesWith e (cond said [] (Eol ∷ [])) (cond said [] (Eol ∷ []))
-    eol_unless true = no_pieces e
-    eol_unless false = eol_piece-with e
+    eol_unless : (said : Bool) → PiecesWith e m.compile (cond said [] (Eol ∷ [])) (cond said [] (Eol ∷ []))
+    eol_unless true = no_pieces e m.compile
+    eol_unless false = eol_piece-with e m.compile
 
-    code-says : (ls : List BlockLine) → LinesFit ls → PiecesWith e (says (flat_map code_line (lines_with e ls))) (says (flat_map code_line ls))
-    code-says ls p = saids-with e (flat_map code_line (lines_with e ls)) (flat_map code_line ls) (code_lines-with ls p)
+    code-says : (ls : List BlockLine) → LinesFit ls → PiecesWith e m.compile (says (flat_map code_line (lines_with e ls))) (says (flat_map code_line ls))
+    code-says ls p = saids-with e m.compile (flat_map code_line (lines_with e ls)) (flat_map code_line ls) (code_lines-with ls p)
 
     fenced-with : (place : Place) (is_closed : Bool) (ls : List BlockLine) → LinesFit ls
-        → PiecesWith e (fenced_pieces place is_closed (lines_with e ls)) (fenced_pieces place is_closed ls)
-    fenced-with place is_closed [] p = no_pieces e
+        → PiecesWith e m.compile (fenced_pieces place is_closed (lines_with e ls)) (fenced_pieces place is_closed ls)
+    fenced-with place is_closed [] p = no_pieces e m.compile
     fenced-with place is_closed (line ∷ ls) p =
         let all' = says (flat_map code_line (lines_with e (line ∷ ls))) in
         let all = says (flat_map code_line (line ∷ ls)) in
         let eol : List Piece = cond (place.top || is_closed) [] (Eol ∷ []) in
-        append-with e (all' ++ eol) (all ++ eol) (Fresh ∷ []) (Fresh ∷ [])
-        (append-with e all' all eol eol (code-says (line ∷ ls) p) (eol_unless (place.top || is_closed))) (fresh_piece-with e)
+        append-with e m.compile (all' ++ eol) (all ++ eol) (Fresh ∷ []) (Fresh ∷ [])
+        (append-with e m.compile all' all eol eol (code-says (line ∷ ls) p) (eol_unless (place.top || is_closed))) (fresh_piece-with e m.compile)
 
     ending-with : (place : Place) (before : Option Block) (ending : LineEnding) (silent : Bool) → IsFed (Some ending)
-        → PiecesWith e (cond silent [] (Says (Words (ending_bytes (ending_with e ending))) ∷ [])) (cond silent [] (Says (Words (ending_bytes ending)) ∷ []))
-    ending-with place before ending true f = no_pieces e
+        → PiecesWith e m.compile (cond silent [] (Says (Words (ending_bytes (ending_with e ending))) ∷ []))
+        (cond silent [] (Says (Words (ending_bytes ending)) ∷ []))
+    ending-with place before ending true f = no_pieces e m.compile
     ending-with place before LineFeed false f =
-        said-with e (Words (ending_bytes e)) (Words (ending_bytes LineFeed)) (ending-words (Some LineFeed) tt)
+        said-with e m.compile (Words (ending_bytes e)) (Words (ending_bytes LineFeed)) (ending-words (Some LineFeed) tt)
     ending-with place before CarriageReturn false f = absurd (true≢false f)
     ending-with place before CarriageReturnLineFeed false f = absurd (true≢false f)
 
-    text-with : (is : Inlines) → AreFit is → PiecesWith e (inline_pieces m' (inlines_with e is)) (inline_pieces m is)
-    text-with is p = inlines-with e m other leads fits is p
+    text-with : (is : Inlines) → AreFit is → PiecesWith e m.compile (inline_pieces m' (inlines_with e is)) (inline_pieces m is)
+    text-with is p = inlines-with e m other leads fits notes is p
 
     abbrev box_attributes : Bool → Bool → List Attribute
     box_attributes checkable done = attribute (codes "type") (codes "checkbox") ∷ checkable_attributes checkable ++ done_attributes done
 
     box-with : (checkable done : Bool)
-        → PiecesWith e (Void (tag (codes "input") (box_attributes checkable done)) ∷ []) (Void (tag (codes "input") (box_attributes checkable done)) ∷ [])
-    box-with true true = void_piece-with e (codes "input") (box_attributes true true) (box_attributes true true) refl refl
-    box-with true false = void_piece-with e (codes "input") (box_attributes true false) (box_attributes true false) refl refl
-    box-with false true = void_piece-with e (codes "input") (box_attributes false true) (box_attributes false true) refl refl
-    box-with false false = void_piece-with e (codes "input") (box_attributes false false) (box_attributes false false) refl refl
+        → PiecesWith e m.compile (Void (tag (codes "input") (box_attributes checkable done)) ∷ [])
+        (Void (tag (codes "input") (box_attributes checkable done)) ∷ [])
+    box-with true true = void_piece-with e m.compile (codes "input") (box_attributes true true) (box_attributes true true) refl refl
+    box-with true false = void_piece-with e m.compile (codes "input") (box_attributes true false) (box_attributes true false) refl refl
+    box-with false true = void_piece-with e m.compile (codes "input") (box_attributes false true) (box_attributes false true) refl refl
+    box-with false false = void_piece-with e m.compile (codes "input") (box_attributes false false) (box_attributes false false) refl refl
 
-    check-with : (check : Option Bool) → PiecesWith e (check_pieces m.compile check) (check_pieces m.compile check)
-    check-with None = no_pieces e
+    check-with : (check : Option Bool) → PiecesWith e m.compile (check_pieces m.compile check) (check_pieces m.compile check)
+    check-with None = no_pieces e m.compile
     check-with (Some done) = box-with m.compile.gfm_task_list_item_checkable done
 
     checked-with : (check : Option Bool) (is : Inlines) → AreFit is
-        → PiecesWith e (check_pieces m.compile check ++ inline_pieces m' (inlines_with e is)) (check_pieces m.compile check ++ inline_pieces m is)
+        → PiecesWith e m.compile (check_pieces m.compile check ++ inline_pieces m' (inlines_with e is)) (check_pieces m.compile check ++ inline_pieces m is)
     checked-with check is p =
-        append-with e (check_pieces m.compile check) (check_pieces m.compile check) (inline_pieces m' (inlines_with e is)) (inline_pieces m is)
+        append-with e m.compile (check_pieces m.compile check) (check_pieces m.compile check) (inline_pieces m' (inlines_with e is)) (inline_pieces m is)
         (check-with check) (text-with is p)
 
-    paragraph-with : (tight : Bool) (ps' ps : List Piece) → PiecesWith e ps' ps
-        → PiecesWith e (cond tight ps' (Fresh ∷ element (bare_tag (codes "p")) ps')) (cond tight ps (Fresh ∷ element (bare_tag (codes "p")) ps))
+    paragraph-with : (tight : Bool) (ps' ps : List Piece) → PiecesWith e m.compile ps' ps
+        → PiecesWith e m.compile (cond tight ps' (Fresh ∷ element (bare_tag (codes "p")) ps')) (cond tight ps (Fresh ∷ element (bare_tag (codes "p")) ps))
     paragraph-with true ps' ps p = p
     paragraph-with false ps' ps p =
         fresh-then (element (bare_tag (codes "p")) ps') (element (bare_tag (codes "p")) ps) (bare-with (codes "p") ps' ps refl p)
@@ -210,67 +214,79 @@ module _ (e : LineEnding) where
     align-with kind.Center = refl
     align-with kind.None = refl
 
-    end-with : (ending : Option LineEnding) → IsFed ending → PiecesWith e (ending_piece (if_ending_with e ending) ∷ []) (ending_piece ending ∷ [])
-    end-with ending f = said-with e (Words (ending_text (if_ending_with e ending))) (Words (ending_text ending)) (ending-words ending f)
+    end-with : (ending : Option LineEnding) → IsFed ending → PiecesWith e m.compile (ending_piece (if_ending_with e ending) ∷ []) (ending_piece ending ∷ [])
+    end-with ending f = said-with e m.compile (Words (ending_text (if_ending_with e ending))) (Words (ending_text ending)) (ending-words ending f)
 
     module _ (name : List ℕ) (same : BytesWith e name name) where
-      cell-with : (align : AlignKind) (is : Inlines) → AreFit is → PiecesWith e (cell_pieces m' name align (inlines_with e is)) (cell_pieces m name align is)
+      cell-with : (align : AlignKind) (is : Inlines) → AreFit is
+          → PiecesWith e m.compile (cell_pieces m' name align (inlines_with e is)) (cell_pieces m name align is)
       cell-with align is p =
           let ps' = inline_pieces m' (inlines_with e is) in
           let ps = inline_pieces m is in
           fresh-then (element (tag name (align_attributes align)) ps') (element (tag name (align_attributes align)) ps)
-          (element-with e name (align_attributes align) (align_attributes align) ps' ps same (align-with align) (text-with is p))
+          (element-with e m.compile name (align_attributes align) (align_attributes align) ps' ps same (align-with align) (text-with is p))
+
+      -- the calls in cells that aren't printed
+      more_cells : (cells : List Inlines) → PiecesWith e m.compile (flat_map (inline_counts m') (map (inlines_with e) cells)) (flat_map (inline_counts m) cells)
+      more_cells [] = no_pieces e m.compile
+      more_cells (c ∷ cs) =
+          append-with e m.compile (inline_counts m' (inlines_with e c)) (inline_counts m c) (flat_map (inline_counts m') (map (inlines_with e) cs))
+          (flat_map (inline_counts m) cs) (counts-with e m other leads fits notes c) (more_cells cs)
 
       cells-with : (aligns : List AlignKind) (cells : List Inlines) → Each AreFit cells
-          → PiecesWith e (cells_pieces m' name aligns (map (inlines_with e) cells)) (cells_pieces m name aligns cells)
-      cells-with [] cells p = no_pieces e
+          → PiecesWith e m.compile (cells_pieces m' name aligns (map (inlines_with e) cells)) (cells_pieces m name aligns cells)
+      cells-with [] cells p = more_cells cells
       cells-with (align ∷ aligns) [] p =
-          append-with e (cell_pieces m' name align NoText) (cell_pieces m name align NoText) (cells_pieces m' name aligns []) (cells_pieces m name aligns [])
+          append-with e m.compile (cell_pieces m' name align NoText) (cell_pieces m name align NoText) (cells_pieces m' name aligns [])
+          (cells_pieces m name aligns [])
           (cell-with align NoText tt) (cells-with aligns [] tt)
       cells-with (align ∷ aligns) (c ∷ cs) p =
-          append-with e (cell_pieces m' name align (inlines_with e c)) (cell_pieces m name align c)
+          append-with e m.compile (cell_pieces m' name align (inlines_with e c)) (cell_pieces m name align c)
           (cells_pieces m' name aligns (map (inlines_with e) cs)) (cells_pieces m name aligns cs) (cell-with align c p.0) (cells-with aligns cs p.1)
 
-      row-with : (aligns : List AlignKind) (row : TableRow) → RowFits row → PiecesWith e (row_pieces m' name aligns (row_with e row)) (row_pieces m name aligns row)
+      row-with : (aligns : List AlignKind) (row : TableRow) → RowFits row
+          → PiecesWith e m.compile (row_pieces m' name aligns (row_with e row)) (row_pieces m name aligns row)
       row-with aligns row p =
           let ps' = cells_pieces m' name aligns (map (inlines_with e) row.cells) in
           let ps = cells_pieces m name aligns row.cells in
           fresh-then (element (bare_tag (codes "tr")) (ps' ++ Fresh ∷ [])) (element (bare_tag (codes "tr")) (ps ++ Fresh ∷ []))
           (bare-with (codes "tr") (ps' ++ Fresh ∷ []) (ps ++ Fresh ∷ []) refl
-          (append-with e ps' ps (Fresh ∷ []) (Fresh ∷ []) (cells-with aligns row.cells p.0) (fresh_piece-with e)))
+          (append-with e m.compile ps' ps (Fresh ∷ []) (Fresh ∷ []) (cells-with aligns row.cells p.0) (fresh_piece-with e m.compile)))
 
     rows-with : (aligns : List AlignKind) (rows : List TableRow) → Each RowFits rows
-        → PiecesWith e (flat_map (body_row_pieces m' aligns) (map (row_with e) rows)) (flat_map (body_row_pieces m aligns) rows)
-    rows-with aligns [] p = no_pieces e
+        → PiecesWith e m.compile (flat_map (body_row_pieces m' aligns) (map (row_with e) rows)) (flat_map (body_row_pieces m aligns) rows)
+    rows-with aligns [] p = no_pieces e m.compile
     rows-with aligns (row ∷ rows) p =
-        append-with e (body_row_pieces m' aligns (row_with e row)) (body_row_pieces m aligns row)
+        append-with e m.compile (body_row_pieces m' aligns (row_with e row)) (body_row_pieces m aligns row)
         (flat_map (body_row_pieces m' aligns) (map (row_with e) rows)) (flat_map (body_row_pieces m aligns) rows)
-        (append-with e (row_pieces m' (codes "td") aligns (row_with e row)) (row_pieces m (codes "td") aligns row)
-        (ending_piece (if_ending_with e row.ending) ∷ []) (ending_piece row.ending ∷ []) (row-with (codes "td") refl aligns row p.0) (end-with row.ending p.0.1))
+        (append-with e m.compile (row_pieces m' (codes "td") aligns (row_with e row)) (row_pieces m (codes "td") aligns row)
+        (ending_piece (if_ending_with e row.ending) ∷ []) (ending_piece row.ending ∷ [])
+        (row-with (codes "td") refl aligns row p.0) (end-with row.ending p.0.1))
         (rows-with aligns rows p.1)
 
     body-with : (aligns : List AlignKind) (ending : Option LineEnding) (rows : List TableRow) → IsFed ending → Each RowFits rows
-        → PiecesWith e (body_pieces m' aligns (if_ending_with e ending) (map (row_with e) rows)) (body_pieces m aligns ending rows)
-    body-with aligns ending [] f p = no_pieces e
+        → PiecesWith e m.compile (body_pieces m' aligns (if_ending_with e ending) (map (row_with e) rows)) (body_pieces m aligns ending rows)
+    body-with aligns ending [] f p = no_pieces e m.compile
     body-with aligns ending (row ∷ rows) f p =
         let ps' = flat_map (body_row_pieces m' aligns) (map (row_with e) (row ∷ rows)) in
         let ps = flat_map (body_row_pieces m aligns) (row ∷ rows) in
-        append-with e (ending_piece (if_ending_with e ending) ∷ []) (ending_piece ending ∷ [])
+        append-with e m.compile (ending_piece (if_ending_with e ending) ∷ []) (ending_piece ending ∷ [])
         (element (bare_tag (codes "tbody")) (ps' ++ Fresh ∷ [])) (element (bare_tag (codes "tbody")) (ps ++ Fresh ∷ [])) (end-with ending f)
         (bare-with (codes "tbody") (ps' ++ Fresh ∷ []) (ps ++ Fresh ∷ []) refl
-        (append-with e ps' ps (Fresh ∷ []) (Fresh ∷ []) (rows-with aligns (row ∷ rows) p) (fresh_piece-with e)))
+        (append-with e m.compile ps' ps (Fresh ∷ []) (Fresh ∷ []) (rows-with aligns (row ∷ rows) p) (fresh_piece-with e m.compile)))
 
-    head-with : (aligns : List AlignKind) (head : TableRow) → RowFits head → PiecesWith e (head_pieces m' aligns (row_with e head)) (head_pieces m aligns head)
+    head-with : (aligns : List AlignKind) (head : TableRow) → RowFits head
+        → PiecesWith e m.compile (head_pieces m' aligns (row_with e head)) (head_pieces m aligns head)
     head-with aligns head p =
         let ps' = row_pieces m' (codes "th") aligns (row_with e head) in
         let ps = row_pieces m (codes "th") aligns head in
         let end' = ending_piece (if_ending_with e head.ending) in
         let end = ending_piece head.ending in
         bare-with (codes "thead") (ps' ++ end' ∷ Fresh ∷ []) (ps ++ end ∷ Fresh ∷ []) refl
-        (append-with e ps' ps (end' ∷ Fresh ∷ []) (end ∷ Fresh ∷ []) (row-with (codes "th") refl aligns head p)
-        (append-with e (end' ∷ []) (end ∷ []) (Fresh ∷ []) (Fresh ∷ []) (end-with head.ending p.1) (fresh_piece-with e)))
+        (append-with e m.compile ps' ps (end' ∷ Fresh ∷ []) (end ∷ Fresh ∷ []) (row-with (codes "th") refl aligns head p)
+        (append-with e m.compile (end' ∷ []) (end ∷ []) (Fresh ∷ []) (Fresh ∷ []) (end-with head.ending p.1) (fresh_piece-with e m.compile)))
 
-    table-printed : (t : TableOf) → TableFits t → PiecesWith e (table_pieces m' (table_with e t)) (table_pieces m t)
+    table-printed : (t : TableOf) → TableFits t → PiecesWith e m.compile (table_pieces m' (table_with e t)) (table_pieces m t)
     table-printed t p =
         let head' = head_pieces m' t.aligns (row_with e t.head) in
         let head = head_pieces m t.aligns t.head in
@@ -281,12 +297,13 @@ module _ (e : LineEnding) where
         fresh-then (element (bare_tag (codes "table")) (Fresh ∷ all')) (element (bare_tag (codes "table")) (Fresh ∷ all))
         (bare-with (codes "table") (Fresh ∷ all') (Fresh ∷ all) refl
         (fresh-then all' all
-        (append-with e (head' ++ body') (head ++ body) (Fresh ∷ []) (Fresh ∷ [])
-        (append-with e head' head body' body (head-with t.aligns t.head p.0) (body-with t.aligns t.ending t.rows p.1 p.2)) (fresh_piece-with e))))
+        (append-with e m.compile (head' ++ body') (head ++ body) (Fresh ∷ []) (Fresh ∷ [])
+        (append-with e m.compile head' head body' body (head-with t.aligns t.head p.0) (body-with t.aligns t.ending t.rows p.1 p.2))
+        (fresh_piece-with e m.compile))))
 
     mutual
       block-with : (place : Place) (before : Option Block) (b : Block) → PageBlockFits e b
-          → PiecesWith e (block_pieces m' place (sibling_with before) (page_block_with e b)) (block_pieces m place before b)
+          → PiecesWith e m.compile (block_pieces m' place (sibling_with before) (page_block_with e b)) (block_pieces m place before b)
       block-with place before (Paragraph check is) p =
           paragraph-with place.tight (check_pieces m.compile check ++ inline_pieces m' (inlines_with e is)) (check_pieces m.compile check ++ inline_pieces m is)
           (checked-with check is p)
@@ -296,7 +313,7 @@ module _ (e : LineEnding) where
           fresh-then (element (bare_tag (heading_name rank)) ps') (element (bare_tag (heading_name rank)) ps)
           (bare-with (heading_name rank) ps' ps (heading-kept rank) (text-with is p))
       block-with place before Break p =
-          let hr = Void (bare_tag (codes "hr")) ∷ [] in fresh-then hr hr (void_piece-with e (codes "hr") [] [] refl refl)
+          let hr = Void (bare_tag (codes "hr")) ∷ [] in fresh-then hr hr (void_piece-with e m.compile (codes "hr") [] [] refl refl)
       block-with place before (IndentedCode ls) p =
           let all' = says (flat_map code_line (lines_with e ls)) ++ Fresh ∷ [] in
           let all = says (flat_map code_line ls) ++ Fresh ∷ [] in
@@ -305,8 +322,8 @@ module _ (e : LineEnding) where
           fresh-then (element (bare_tag (codes "pre")) code') (element (bare_tag (codes "pre")) code)
           (bare-with (codes "pre") code' code refl
           (bare-with (codes "code") all' all refl
-          (append-with e (says (flat_map code_line (lines_with e ls))) (says (flat_map code_line ls)) (Fresh ∷ []) (Fresh ∷ []) (code-says ls p)
-          (fresh_piece-with e))))
+          (append-with e m.compile (says (flat_map code_line (lines_with e ls))) (says (flat_map code_line ls)) (Fresh ∷ []) (Fresh ∷ []) (code-says ls p)
+          (fresh_piece-with e m.compile))))
       block-with place before (FencedCode info is_closed ls) p =
           let all' = fenced_pieces place is_closed (lines_with e ls) in
           let all = fenced_pieces place is_closed ls in
@@ -314,53 +331,57 @@ module _ (e : LineEnding) where
           let code = element (tag (codes "code") (info_attributes info)) all in
           let pre' = element (bare_tag (codes "pre")) code' in
           let pre = element (bare_tag (codes "pre")) code in
-          append-with e (Fresh ∷ pre') (Fresh ∷ pre) (fresh_unless is_closed) (fresh_unless is_closed)
+          append-with e m.compile (Fresh ∷ pre') (Fresh ∷ pre) (fresh_unless is_closed) (fresh_unless is_closed)
           (fresh-then pre' pre
           (bare-with (codes "pre") code' code refl
-          (element-with e (codes "code") (info_attributes info) (info_attributes info) all' all refl (info-with info p.0)
+          (element-with e m.compile (codes "code") (info_attributes info) (info_attributes info) all' all refl (info-with info p.0)
           (fenced-with place is_closed ls p.1))))
           (fresh_unless-with is_closed)
       block-with place before (Html ls) p =
           fresh-then (says (flat_map (html_line m.compile) (lines_with e ls))) (says (flat_map (html_line m.compile) ls))
-          (saids-with e (flat_map (html_line m.compile) (lines_with e ls)) (flat_map (html_line m.compile) ls) (html_lines-with ls p))
+          (saids-with e m.compile (flat_map (html_line m.compile) (lines_with e ls)) (flat_map (html_line m.compile) ls) (html_lines-with ls p))
       block-with place before (Table t) p = table-printed t p
-      block-with place before Definition p = no_pieces e
+      block-with place before Definition p = no_pieces e m.compile
       block-with place before (Quote kids) p =
           let kids' = children_pieces m' (inside false) None (page_blocks_with e kids) in
           let ps = children_pieces m (inside false) None kids in
           fresh-then (element (bare_tag (codes "blockquote")) (kids' ++ Fresh ∷ [])) (element (bare_tag (codes "blockquote")) (ps ++ Fresh ∷ []))
           (bare-with (codes "blockquote") (kids' ++ Fresh ∷ []) (ps ++ Fresh ∷ []) refl
-          (append-with e kids' ps (Fresh ∷ []) (Fresh ∷ []) (children-with (inside false) None kids p) (fresh_piece-with e)))
+          (append-with e m.compile kids' ps (Fresh ∷ []) (Fresh ∷ []) (children-with (inside false) None kids p) (fresh_piece-with e m.compile)))
       block-with place before (ItemList number loose items) p =
           let items' = children_pieces m' (inside (not loose)) None (page_blocks_with e items) in
           let ps = children_pieces m (inside (not loose)) None items in
           fresh-then (element (list_tag number) (items' ++ Eol ∷ [])) (element (list_tag number) (ps ++ Eol ∷ []))
           (list-with number (items' ++ Eol ∷ []) (ps ++ Eol ∷ [])
-          (append-with e items' ps (Eol ∷ []) (Eol ∷ []) (children-with (inside (not loose)) None items p) (eol_piece-with e)))
+          (append-with e m.compile items' ps (Eol ∷ []) (Eol ∷ []) (children-with (inside (not loose)) None items p) (eol_piece-with e m.compile)))
       block-with place before (Item kids) p =
           let kids' = children_pieces m' (inside place.tight) None (page_blocks_with e kids) in
           let ps = children_pieces m (inside place.tight) None kids in
           let end = fresh_unless (ends_plainly place.tight (last_shown None kids)) in
           let same : ends_plainly place.tight (last_shown None (page_blocks_with e kids)) ≡ ends_plainly place.tight (last_shown None kids) =
           ap (ends_plainly place.tight) (last_shown-with None kids) ∙ ends_plainly-with place.tight (last_shown None kids) in
-          subst (λ plainly. PiecesWith e (Fresh ∷ element (bare_tag (codes "li")) (kids' ++ fresh_unless plainly))
+          subst (λ plainly. PiecesWith e m.compile (Fresh ∷ element (bare_tag (codes "li")) (kids' ++ fresh_unless plainly))
           (Fresh ∷ element (bare_tag (codes "li")) (ps ++ end)))
           (sym same)
           (fresh-then (element (bare_tag (codes "li")) (kids' ++ end)) (element (bare_tag (codes "li")) (ps ++ end))
           (bare-with (codes "li") (kids' ++ end) (ps ++ end) refl
-          (append-with e kids' ps end end (children-with (inside place.tight) None kids p)
+          (append-with e m.compile kids' ps end end (children-with (inside place.tight) None kids p)
           (fresh_unless-with (ends_plainly place.tight (last_shown None kids))))))
-      block-with place before (Footnote label kids) p = no_pieces e
+      block-with place before (Footnote label kids) p =
+          let kids' = children_pieces m' (inside false) None (page_blocks_with e kids) in
+          let ps = children_pieces m (inside false) None kids in
+          more-with e m.compile NoteStart NoteStart (kids' ++ NoteEnd ∷ []) (ps ++ NoteEnd ∷ []) (note_start-with e m.compile)
+          (append-with e m.compile kids' ps (NoteEnd ∷ []) (NoteEnd ∷ []) (children-with (inside false) None kids p) (note_end-with e m.compile))
       block-with place before (Ending ending) p =
-          subst (λ silent. PiecesWith e (cond silent [] (Says (Words (ending_bytes (ending_with e ending))) ∷ []))
+          subst (λ silent. PiecesWith e m.compile (cond silent [] (Says (Words (ending_bytes (ending_with e ending))) ∷ []))
           (cond (is_silent place before) [] (Says (Words (ending_bytes ending)) ∷ [])))
           (sym (is_silent-with place before)) (ending-with place before ending (is_silent place before) p)
-      block-with place before (Blank ending) p = no_pieces e
+      block-with place before (Blank ending) p = no_pieces e m.compile
 
       pub children-with : (place : Place) (before : Option Block) (bs : Blocks) → PageFits e bs
-          → PiecesWith e (children_pieces m' place (sibling_with before) (page_blocks_with e bs)) (children_pieces m place before bs)
-      children-with place before Nil p = no_pieces e
+          → PiecesWith e m.compile (children_pieces m' place (sibling_with before) (page_blocks_with e bs)) (children_pieces m place before bs)
+      children-with place before Nil p = no_pieces e m.compile
       children-with place before (Cons b bs) p =
-          append-with e (block_pieces m' place (sibling_with before) (page_block_with e b)) (block_pieces m place before b)
+          append-with e m.compile (block_pieces m' place (sibling_with before) (page_block_with e b)) (block_pieces m place before b)
           (children_pieces m' place (Some (page_block_with e b)) (page_blocks_with e bs)) (children_pieces m place (Some b) bs)
           (block-with place before b p.0) (children-with place (Some b) bs p.1)

@@ -1,9 +1,10 @@
 -- Printed bytes with another line ending in place of each LF.
-use Rattle.std.proofs.Common.{◌≡◌, ℕ, zero, suc, ◌+◌, ◌-◌, ◌/◌, ◌%◌, Bool, true, false, cond, eqb, ltb, ◌||◌, ◌&&◌, List, [], ◌∷◌, ◌++◌, Option, None, Some, refl, sym, ap, ◌∙◌, arith, length, decimal, append-nil, flat_map}
+use Rattle.std.proofs.Common.{◌≡◌, ℕ, zero, suc, ◌+◌, ◌-◌, ◌/◌, ◌%◌, Bool, true, false, cond, not, eqb, ltb, ◌||◌, ◌&&◌, List, [], ◌∷◌, ◌++◌, Option, None, Some, refl, sym, ap, ◌∙◌, arith, length, decimal, append-nil, flat_map}
 use Rattle.std.specs.Prelude.{codes, slice_get}
 use Rattle.std.specs.Fmt.{digit_glyph, digits, digits_onto}
+use Rattle.std.specs.List.{list_all}
 use Rattle.std.proofs.lemmas.Grind.{flat_map-append}
-use Rattle.std.proofs.lemmas.Bool.{cond_both, cond-false, both_ways, false_from_ne_true, eqb-true, ne_eqb}
+use Rattle.std.proofs.lemmas.Bool.{and_parts, cond_both, cond-false, both_ways, false_from_ne_true, eqb-true, ne_eqb, not-true}
 use Rattle.markdown_options.specs.declared.line_ending.LineEnding.{LineEnding}
 use Rattle.markdown_options.specs.declared.line_ending.LineEnding.TheVariants.{CarriageReturnLineFeed, CarriageReturn, LineFeed}
 use Rattle.markdown_options.specs.declared.configuration.CompileOptions.{CompileOptions}
@@ -21,6 +22,13 @@ abbrev pub IsNoFeed : ℕ → Type 0
 IsNoFeed b = eqb b 10 ≡ false
 
 -- ---- bytes that hold no LF
+
+-- of given bytes it is tested
+pub given_no_feed : (bs : List ℕ) → list_all (λ b. not (eqb b 10)) bs ≡ true → Each IsNoFeed bs
+given_no_feed [] h = tt
+given_no_feed (b ∷ bs) h =
+    let parts = and_parts (not (eqb b 10)) (list_all (λ x. not (eqb x 10)) bs) h in
+    (not-true (eqb b 10) parts.0, given_no_feed bs parts.1)
 
 digit_no_feed : (upper : Bool) (d : ℕ) → IsNoFeed (digit_glyph upper d)
 digit_no_feed upper d =

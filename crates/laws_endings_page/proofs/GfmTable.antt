@@ -1,5 +1,5 @@
 -- Tables of a page with another line ending in place of each LF (GFM 4.10).
-use Rattle.std.proofs.Common.{◌≡◌, ℕ, Bool, false, List, [], ◌∷◌, refl, ap, ◌∙◌, drop, map}
+use Rattle.std.proofs.Common.{◌≡◌, ℕ, Bool, false, List, [], ◌∷◌, refl, ap, ◌∙◌, map}
 use Rattle.std.proofs.lemmas.Bool.{cond_both}
 use Rattle.markdown_options.specs.declared.line_ending.LineEnding.{LineEnding}
 use Rattle.definition_text.specs.BlockLines.{BlockLine}
@@ -7,14 +7,14 @@ use Rattle.definition_text.specs.Columns.{is_blank}
 use Rattle.definition_text.specs.Content.{may_escape}
 use Rattle.definition_text.specs.declared.beside.Kind.{Kind}
 use Rattle.definition_text.specs.declared.beside.Kind.TheVariants.{Punctuation}
-use Rattle.definition_inline.specs.Inline.{Inline, Data, Escape, Character, Code, Math, Autolink, Literal, Html, EscapedBreak, TrailingBreak, LineEnd, Emphasis, Strong, Strikethrough, Link, Image, Inlines, Nil, Cons}
+use Rattle.definition_inline.specs.Inline.{Inline, Data, Escape, Character, Code, Math, Autolink, Literal, Html, EscapedBreak, TrailingBreak, LineEnd, Emphasis, Strong, Strikethrough, Link, Image, Call, Inlines, Nil, Cons}
 use Rattle.definition_block.specs.GfmTable.{Cell, in_first_cell, is_bar, parts, without_blank_first, without_blank_last, line_cells}
 use Rattle.definition_page.specs.GfmTable.{TableRow, Table, escapes_bar, cell_code, part_in_cell, in_cell, head_line, delimiter_line}
 use Rattle.laws_endings.specs.Endings.{if_ending_with, line_with, lines_with}
 use Rattle.laws_endings.specs.Inlines.{target_with, inline_with, inlines_with}
 use Rattle.laws_endings_reads.proofs.Each.{Each}
 use Rattle.laws_endings_reads.proofs.Fits.{Plain}
-use Rattle.laws_endings_reads.proofs.InlineReads.{IsFit, AreFit}
+use Rattle.laws_endings_reads.proofs.Parts.{IsFit, AreFit}
 use Rattle.laws_endings_reads.proofs.BlockReads.{IsFed, LineFits, LinesFit}
 
 -- ---- what is fit
@@ -48,6 +48,7 @@ mutual
   part_fits (Strikethrough kids) p = in_cell_fits kids p
   part_fits (Link target kids) p = (p.0, in_cell_fits kids p.1)
   part_fits (Image target kids) p = (p.0, in_cell_fits kids p.1)
+  part_fits (Call label) p = tt
 
   pub in_cell_fits : (is : Inlines) → AreFit is → AreFit (in_cell is)
   in_cell_fits Nil p = tt
@@ -130,6 +131,7 @@ module _ (e : LineEnding) where
     part-with (Strikethrough kids) = ap Strikethrough (in_cell-with kids)
     part-with (Link target kids) = ap (Link (target_with e target)) (in_cell-with kids)
     part-with (Image target kids) = ap (Image (target_with e target)) (in_cell-with kids)
+    part-with (Call label) = refl
 
     pub in_cell-with : (is : Inlines) → in_cell (inlines_with e is) ≡ inlines_with e (in_cell is)
     in_cell-with Nil = refl

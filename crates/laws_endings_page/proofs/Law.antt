@@ -1,5 +1,5 @@
 -- With an ending in place of each LF, a text prints its page with that ending.
-use Rattle.std.proofs.Common.{◌≡◌, ℕ, zero, suc, ◌<◌, Bool, true, false, cond, eqb, ◌||◌, not, List, [], ◌∷◌, ◌++◌, Option, None, Some, refl, sym, ap, ◌∙◌, arith, map, drop, length, slice_index_or, All}
+use Rattle.std.proofs.Common.{◌≡◌, ℕ, zero, suc, ◌<◌, Bool, true, false, cond, eqb, ◌||◌, not, List, [], ◌∷◌, ◌++◌, Option, None, Some, refl, sym, ap, ◌∙◌, arith, map, drop, length, slice_index_or, All, inl, inr, ◌⊎◌}
 use Rattle.std.specs.Prelude.{◌≢◌, is_some, unwrap_or}
 use Rattle.std.specs.Option.{option_map}
 use Rattle.std.proofs.Math.ListN.{get_or-map}
@@ -7,6 +7,7 @@ use Rattle.std.proofs.lemmas.Bool.{cond_both, ne_eqb, eqb-true, eq-eqb, or_left,
 use Rattle.std.proofs.lemmas.List.Elements.{All-tail, All-drop}
 use Rattle.markdown_options.specs.declared.line_ending.LineEnding.{LineEnding}
 use Rattle.markdown_options.specs.declared.line_ending.LineEnding.TheVariants.{LineFeed}
+use Rattle.markdown_options.specs.declared.configuration.CompileOptions.{CompileOptions}
 use Rattle.markdown_options.specs.declared.configuration.Options.{Options}
 use Rattle.markdown_options.specs.LineEndings.{ending_bytes}
 use Rattle.definition_text.specs.declared.beside.Kind.{Kind}
@@ -16,12 +17,14 @@ use Rattle.definition_inline.specs.Inline.{linked}
 use Rattle.definition_inline.specs.Definition.{Definition}
 use Rattle.definition_inline.specs.LabelMatch.{normal_label, place_of, first_match}
 use Rattle.definition_block.specs.Tree as tree
-use Rattle.definition_block.specs.Definitions.{block_definitions, definitions}
+use Rattle.definition_block.specs.Definitions.{block_definitions, definitions, footnotes}
 use Rattle.definition_block.specs.Lists.{grouped}
 use Rattle.definition_page.specs.TextTables.{TextTables}
-use Rattle.definition_page.specs.Targets.{spaced, document_definitions, labels_of, no_definition, linked_at, linked_by, is_label_of}
+use Rattle.definition_page.specs.Targets.{spaced, document_definitions, labels_of, no_definition, linked_at, linked_by, is_label_of, targets, is_footnote_of}
 use Rattle.definition_page.specs.Page.{Page}
-use Rattle.definition_page.specs.Pieces.{layout}
+use Rattle.definition_page.specs.Pieces.{Piece}
+use Rattle.definition_page.specs.Layout.{Laid, laid, note_of, page_layout}
+use Rattle.definition_page.specs.GfmFootnoteDefinition.{section_pieces}
 use Rattle.definition_page.specs.InlinePieces.{Meaning}
 use Rattle.definition_page.specs.BlockPieces.{at_top, fresh_unless, children_pieces}
 use Rattle.definition_page.specs.DocumentPieces.{pieces, default_ending}
@@ -30,15 +33,18 @@ use Rattle.laws_endings.specs.Endings.{with_ending, if_ending_with, text_line_wi
 use Rattle.laws_endings.specs.Laws.{HasNoReturn}
 use Rattle.laws_endings.proofs.Lines.{ending_lines_law, lines_after-byte}
 use Rattle.laws_endings.proofs.Blocks.{blocks_law}
-use Rattle.laws_endings.proofs.Matching.{normal_label-with, normal_labels-with, labels_law, definitions_law}
-use Rattle.laws_endings_page.specs.Laws.{EndingPageLaw}
+use Rattle.laws_endings.proofs.Matching.{normal_label-with, normal_labels-with, labels_law, definitions_law, footnotes_law}
+use Rattle.laws_endings_page.specs.Laws.{HaveNoFeeds, FootnotesHoldNoFeed, EndingPageLaw}
 use Rattle.laws_endings_reads.proofs.Each.{Each, each-append, each-drop, each_map, WhereSome}
 use Rattle.laws_endings_reads.proofs.Characters.{AreWhole, whole-drop, IsTextByte, utf8_spelled}
 use Rattle.laws_endings_reads.proofs.Fits.{Single, Plain, TitleFits}
 use Rattle.laws_endings_reads.proofs.BlockReads.{BlockFits, BlocksFit, blocks_fit}
 use Rattle.laws_endings_reads.proofs.TextLines.{ByteFits, text_lines_fit}
 use Rattle.laws_endings_page.proofs.Marks.{without_mark-with, kind_before-with}
-use Rattle.laws_endings_page.proofs.Printed.{LinkedFits, append-with, linked_with}
+use Rattle.laws_endings_page.proofs.Pieces.{PiecesWith, append-with, laid_out, printed_with}
+use Rattle.laws_endings_page.proofs.GfmFootnoteDefinition.{section-with}
+use Rattle.laws_endings_page.proofs.NoFootnotes.{no_footnotes}
+use Rattle.laws_endings_page.proofs.Printed.{LinkedFits, linked_with}
 use Rattle.laws_endings_page.proofs.Pages.{grouped_fits, grouped-with, page_blocks_with, read_blocks-with, read_blocks_fit, ends_blank-with}
 use Rattle.laws_endings_page.proofs.Blocks.{children-with, fresh_unless-with}
 
@@ -121,28 +127,46 @@ module _ (e : LineEnding) (ds : List Definition) where
 
 -- ---- the page of children of a document
 
-module _ (e : LineEnding) (tables : TextTables) (options : Options) (bs : tree.Blocks) (fit : BlocksFit bs) where
+-- pieces that print the same with this ending are a page that is the same with it
+page_layout-with : (e : LineEnding) (options : CompileOptions) (others ones : List Piece) → PiecesWith e options others ones
+    → page_layout options (ending_bytes e) others ≡ with_ending e (page_layout options (ending_bytes LineFeed) ones)
+page_layout-with e options others ones p =
+    let both = p.1 (laid [] [] [] []) (inl refl) in
+    let l = laid_out e options (laid [] [] [] []) ones in
+    let end : Laid → List ℕ = λ x. printed_with e options x.text (section_pieces options (map (note_of x.notes) x.called)) in
+    ap end both.0 ∙ (section-with e options l.notes l.called both.1).0 l.text
+
+module _ (e : LineEnding) (tables : TextTables) (options : Options) (bs : tree.Blocks) (fit : BlocksFit bs)
+    (notes : (footnotes bs ≡ []) ⊎ HaveNoFeeds options.compile) where
   abbrev ds : List Definition
   ds = document_definitions bs
 
   abbrev other_ds : List Definition
   other_ds = map (definition_with e) ds
 
+  abbrev labels : List (List ℕ)
+  labels = footnotes bs
+
   abbrev reading_by : (List ℕ → Bool) → Reading
-  reading_by is_defined = record { options = options.parse; tables = tables; is_defined = is_defined }
+  reading_by is_defined = record { options = options.parse; tables = tables; is_defined = is_defined; is_footnote = is_footnote_of labels }
 
   abbrev meaning_by : List Definition → Meaning
-  meaning_by all = record { on = options.parse.constructs; compile = options.compile; names = tables.names; definition = linked_by all }
+  meaning_by all =
+      record { on = options.parse.constructs; compile = options.compile; names = tables.names; definition = linked_by all; footnotes = labels }
 
   abbrev read_here : tree.Blocks → (List ℕ → Bool) → Bool → List ℕ → List ℕ
   read_here all is_defined blank default =
-      layout default (children_pieces (meaning_by other_ds) at_top None (read_blocks (reading_by is_defined) on_page all) ++ fresh_unless (not blank))
+      page_layout options.compile default (children_pieces (meaning_by other_ds) at_top None (read_blocks (reading_by is_defined) on_page all)
+      ++ fresh_unless (not blank))
 
   ds_fit : Each DefinitionIs ds
   ds_fit = each_map DefinitionIs DefinitionIs spaced (definitions bs) spaced_fits (definitions_fit bs fit)
 
-  page-with : layout (ending_bytes e) (pieces tables options (page_with tables options.parse other_ds (blocks_with e bs)))
-      ≡ with_ending e (layout (ending_bytes LineFeed) (pieces tables options (page_with tables options.parse ds bs)))
+  same_call : (label : List ℕ) → is_footnote_of labels (codes_with e label) ≡ is_footnote_of labels label
+  same_call label = ap (λ normal. is_some (place_of normal (map normal_label labels))) (normal_label-with e label)
+
+  page-with : page_layout options.compile (ending_bytes e) (pieces tables options (page_with tables options.parse (targets other_ds labels) (blocks_with e bs)))
+      ≡ with_ending e (page_layout options.compile (ending_bytes LineFeed) (pieces tables options (page_with tables options.parse (targets ds labels) bs)))
   page-with =
       let r = reading_by (is_label_of ds) in
       let all = grouped bs in
@@ -155,10 +179,14 @@ module _ (e : LineEnding) (tables : TextTables) (options : Options) (bs : tree.B
       ap (λ is_defined. read_here (grouped (blocks_with e bs)) is_defined blank' default) (same_labels e ds)
       ∙ ap (λ items. read_here items (is_label_of ds) blank' default) (grouped-with e bs)
       ∙ ap (λ blank. read_here (blocks_with e all) (is_label_of ds) blank default) (ends_blank-with e false bs)
-      ∙ ap (λ blocks. layout default (children_pieces (meaning_by other_ds) at_top None blocks ++ end)) (read_blocks-with e r (same_label e ds) on_page all fits)
-      ∙ append-with e (children_pieces (meaning_by other_ds) at_top None (page_blocks_with e page)) (children_pieces m at_top None page) end end
-      (children-with e m (linked_by other_ds) (leads-with e ds) (leads_fit ds ds_fit) at_top None page (read_blocks_fit e r (same_label e ds) on_page all fits))
-      (fresh_unless-with e m (linked_by other_ds) (leads-with e ds) (leads_fit ds ds_fit) (not (ends_blank false bs))) []
+      ∙ ap (λ blocks. page_layout options.compile default (children_pieces (meaning_by other_ds) at_top None blocks ++ end))
+      (read_blocks-with e r (same_label e ds) same_call on_page all fits)
+      ∙ page_layout-with e options.compile (children_pieces (meaning_by other_ds) at_top None (page_blocks_with e page) ++ end)
+      (children_pieces m at_top None page ++ end)
+      (append-with e options.compile (children_pieces (meaning_by other_ds) at_top None (page_blocks_with e page)) (children_pieces m at_top None page) end end
+      (children-with e m (linked_by other_ds) (leads-with e ds) (leads_fit ds ds_fit) notes at_top None page
+      (read_blocks_fit e r (same_label e ds) same_call on_page all fits))
+      (fresh_unless-with e m (linked_by other_ds) (leads-with e ds) (leads_fit ds ds_fit) notes (not (ends_blank false bs))))
 
 -- ---- the first ending of a text
 
@@ -222,15 +250,20 @@ unmarked P text p q = cond_both (has_mark text) (drop 3 text) text P (λ _. q) (
 
 -- a text without byte order mark, after a character of this kind
 module _ (e : LineEnding) (tables : TextTables) (options : Options) (kind : Kind) (text : List ℕ) (bytes : Each ByteFits text) (whole : AreWhole text)
-    (no_return : HasNoReturn text) (feed : (first_line text).ending ≡ Some LineFeed) where
-  abbrev laid : List ℕ → Page → List ℕ
-  laid default page = layout default (pieces tables options page)
+    (no_return : HasNoReturn text) (feed : (first_line text).ending ≡ Some LineFeed) (fit : FootnotesHoldNoFeed options) where
+  abbrev printed : List ℕ → Page → List ℕ
+  printed default page = page_layout options.compile default (pieces tables options page)
 
   abbrev bs : tree.Blocks
   bs = tree.blocks options.parse.constructs kind text
 
-  abbrev page_by : List Definition → tree.Blocks → Page
-  page_by ds all = page_with tables options.parse ds all
+  abbrev page_by : List Definition → List (List ℕ) → tree.Blocks → Page
+  page_by ds labels all = page_with tables options.parse (targets ds labels) all
+
+  -- a page without footnotes, or texts without LF around them
+  notes_by : (has : Bool) → options.parse.constructs.gfm_footnote_definition ≡ has → (footnotes bs ≡ []) ⊎ HaveNoFeeds options.compile
+  notes_by true h = inr (fit h)
+  notes_by false h = inl (no_footnotes options.parse.constructs kind text h)
 
   other_default : default_ending options (with_ending e text) ≡ ending_bytes e
   other_default =
@@ -240,29 +273,34 @@ module _ (e : LineEnding) (tables : TextTables) (options : Options) (kind : Kind
   own_default : default_ending options text ≡ ending_bytes LineFeed
   own_default = ap (λ ending. ending_bytes (unwrap_or ending options.compile.default_line_ending)) feed
 
-  printed-with : layout (default_ending options (with_ending e text)) (pieces tables options (read_after kind tables options.parse (with_ending e text)))
-      ≡ with_ending e (layout (default_ending options text) (pieces tables options (read_after kind tables options.parse text)))
+  printed-with : printed (default_ending options (with_ending e text)) (read_after kind tables options.parse (with_ending e text))
+      ≡ with_ending e (printed (default_ending options text) (read_after kind tables options.parse text))
   printed-with =
       let on = options.parse.constructs in
       let all = tree.blocks on kind (with_ending e text) in
-      let ds' = map (definition_with e) (document_definitions bs) in
-      ap (λ default. laid default (page_by (document_definitions all) all)) other_default
-      ∙ ap (λ ds. laid (ending_bytes e) (page_by ds all)) (definitions_law e on kind text no_return)
-      ∙ ap (λ blocks. laid (ending_bytes e) (page_by ds' blocks)) (blocks_law e on kind text no_return)
-      ∙ page-with e tables options bs (blocks_fit on kind text (text_lines_fit text bytes whole))
-      ∙ sym (ap (λ default. with_ending e (laid default (page_by (document_definitions bs) bs))) own_default)
+      let ds = document_definitions bs in
+      let ds' = map (definition_with e) ds in
+      let default = ending_bytes e in
+      ap (λ other. printed other (page_by (document_definitions all) (footnotes all) all)) other_default
+      ∙ ap (λ others. printed default (page_by others (footnotes all) all)) (definitions_law e on kind text no_return)
+      ∙ ap (λ labels. printed default (page_by ds' labels all)) (footnotes_law e on kind text no_return)
+      ∙ ap (λ blocks. printed default (page_by ds' (footnotes bs) blocks)) (blocks_law e on kind text no_return)
+      ∙ page-with e tables options bs (blocks_fit on kind text (text_lines_fit text bytes whole)) (notes_by on.gfm_footnote_definition refl)
+      ∙ sym (ap (λ other. with_ending e (printed other (page_by ds (footnotes bs) bs))) own_default)
 
 pub ending_page_law : EndingPageLaw
-ending_page_law e tables text options h =
+ending_page_law e tables text options h fit =
     let s = utf8_spelled text h.0 in
     let bytes = bytes_fit text h.2 h.3 s.bytes in
     let rest = without_mark text in
     let kind = kind_before_text text in
     let rest_bytes = unmarked (Each ByteFits) text bytes (each-drop ByteFits 3 text bytes) in
     let feeds = feed_held text h.1.0 h.1.1 h.1.2 in
-    ap (λ t. layout (default_ending options t) (pieces tables options (read_after (kind_before_text (with_ending e text)) tables options.parse t)))
+    ap (λ t. page_layout options.compile (default_ending options t)
+    (pieces tables options (read_after (kind_before_text (with_ending e text)) tables options.parse t)))
     (without_mark-with e text)
-    ∙ ap (λ k. layout (default_ending options (with_ending e rest)) (pieces tables options (read_after k tables options.parse (with_ending e rest))))
+    ∙ ap (λ k. page_layout options.compile (default_ending options (with_ending e rest))
+    (pieces tables options (read_after k tables options.parse (with_ending e rest))))
     (kind_before-with e text)
     ∙ printed-with e tables options kind rest rest_bytes (unmarked AreWhole text s.whole (whole-drop 3 text s.whole))
-    (unmarked HasNoReturn text h.2 (All-drop (λ b. b ≢ 13) 3 text h.2)) (first_feed rest rest_bytes (feed_after text (has_mark text) refl feeds))
+    (unmarked HasNoReturn text h.2 (All-drop (λ b. b ≢ 13) 3 text h.2)) (first_feed rest rest_bytes (feed_after text (has_mark text) refl feeds)) fit

@@ -1,9 +1,14 @@
 mod Bytes
 mod Saids
+mod Pieces
+mod ParagraphEnds
+mod GfmLabelStartFootnote
+mod GfmFootnoteDefinition
 mod Printed
 mod GfmTable
 mod Pages
 mod Blocks
 mod Marks
+mod NoFootnotes
 pub mod Law
 pub mod Rows

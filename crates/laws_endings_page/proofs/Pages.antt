@@ -25,7 +25,7 @@ use Rattle.definition_inline.specs.Inline.{Inlines}
 use Rattle.definition_page.specs.GfmTable.{TableRow, Table, head_line, delimiter_line, body_lines, line_aligns, in_cell}
 use Rattle.definition_page.specs.Page as page
 use Rattle.definition_page.specs.Page.{cons_ending, cons_blank}
-use Rattle.definition_page.specs.Read.{Reading, Standing, in_container, in_item, next_standing, checked_paragraph, read_paragraph, read_cell, read_row, read_table, read_text, info_text, code_lines, without_ending, after_code, list_number, read_block, read_blocks, is_blank_ending, ends_blank}
+use Rattle.definition_page.specs.Read.{Reading, Standing, context_of, in_container, in_item, next_standing, checked_paragraph, read_paragraph, read_cell, read_row, read_table, read_text, info_text, code_lines, without_ending, after_code, list_number, read_block, read_blocks, is_blank_ending, ends_blank}
 use Rattle.laws_endings.specs.Endings.{with_ending, ending_with, if_ending_with, codes_with, line_with, lines_with, block_with, blocks_with}
 use Rattle.laws_endings.specs.Inlines.{inline_code_with, inlines_with, content_with}
 use Rattle.laws_endings.proofs.Codes.{cond-under}
@@ -40,7 +40,8 @@ use Rattle.laws_endings_reads.proofs.Each.{Each, each-append, each-drop, each_ma
 use Rattle.laws_endings_reads.proofs.Characters.{Begins, continues_one, AreWhole}
 use Rattle.laws_endings_reads.proofs.Neighbours.{kinds-with, kinds-kept, alike_unindented, alike_from, alike_inlines}
 use Rattle.laws_endings_reads.proofs.Fits.{Single, Plain}
-use Rattle.laws_endings_reads.proofs.InlineReads.{AreFit, dropped_codes, from_fits, inlines_fit}
+use Rattle.laws_endings_reads.proofs.Parts.{AreFit}
+use Rattle.laws_endings_reads.proofs.InlineReads.{dropped_codes, from_fits, inlines_fit}
 use Rattle.laws_endings_reads.proofs.BlockReads.{IsFed, WholeBefore, LineFits, LinesFit, BlockFits, BlocksFit, line_singles, join_fits, own_fit}
 use Rattle.laws_endings_page.proofs.Bytes.{IsNoFeed}
 use Rattle.laws_endings_page.proofs.GfmTable.{RowFits, TableFits, in_cell_fits, CellFits, cells_fit, head_fits, delimiters_fit, head-with, delimiters-with, row_with, table_with, in_cell-with}
@@ -362,16 +363,17 @@ module _ (e : LineEnding) where
   code_lines_fit : (top is_closed : Bool) (ls : List BlockLine) → LinesFit ls → LinesFit (code_lines top is_closed ls)
   code_lines_fit top is_closed ls p = cond_both (top || is_closed) ls (own_lines ls) LinesFit (λ _. p) (λ _. own_fit ls p)
 
-  module _ (r : Reading) (same : (label : List ℕ) → r.is_defined (codes_with e label) ≡ r.is_defined label) where
+  module _ (r : Reading) (same : (label : List ℕ) → r.is_defined (codes_with e label) ≡ r.is_defined label)
+      (same_call : (label : List ℕ) → r.is_footnote (codes_with e label) ≡ r.is_footnote label) where
     abbrev context : InlineContext
-    context = record { options = r.options; names = r.tables.names; is_defined = r.is_defined }
+    context = context_of r
 
     text-with : (ls : List BlockLine) → LinesFit ls → read_text r (lines_with e ls) ≡ inlines_with e (read_text r ls)
     text-with ls h =
         let p = r.tables.is_punctuation in
         let content = inline_content p Whitespace ls in
         alike_inlines context (inline_content p Whitespace (lines_with e ls)) (content_with e content) (content-with p ls h)
-        ∙ inlines-with e context same content
+        ∙ inlines-with e context same same_call content
 
     text_fits : (ls : List BlockLine) → LinesFit ls → AreFit (read_text r ls)
     text_fits ls h = inlines_fit context (inline_content r.tables.is_punctuation Whitespace ls) (content_fits r.tables.is_punctuation ls h)
@@ -379,7 +381,7 @@ module _ (e : LineEnding) where
     -- what is read of contents that are the same but for their endings
     from-same : (other content : List InlineCode) → AreAlike other (content_with e content)
         → inlines_from context other ≡ inlines_with e (inlines_from context content)
-    from-same other content h = alike_from context other (content_with e content) h ∙ from-with e context same content
+    from-same other content h = alike_from context other (content_with e content) h ∙ from-with e context same same_call content
 
     codes-same : (other content : List InlineCode) → AreAlike other (content_with e content) → codes_of other ≡ codes_with e (codes_of content)
     codes-same other content h = alike_codes other (content_with e content) h ∙ codes_of-with e content
@@ -430,7 +432,7 @@ module _ (e : LineEnding) where
         let all = map code_byte c.codes in
         let content = with_kinds p None c.before c.after all in
         let kept = kinds-kept e p None c.before c.after all refl (plains_no_feed all (each_map Plain Plain code_byte c.codes space_plain h)) in
-        let read = alike_inlines context content (content_with e content) kept ∙ inlines-with e context same content in
+        let read = alike_inlines context content (content_with e content) kept ∙ inlines-with e context same same_call content in
         ap in_cell read ∙ in_cell-with e (inlines context content)
 
     cells-with : (cs : List Cell) → Each CellFits cs → map (read_cell r) cs ≡ map (inlines_with e) (map (read_cell r) cs)

@@ -10,7 +10,7 @@ use Rattle.markdown_options.specs.declared.configuration.CompileOptions.{Compile
 use Rattle.definition_text.specs.Columns.{is_white, indent, bare, is_byte, bytes_of}
 use Rattle.definition_text.specs.Content.{is_eol}
 use Rattle.definition_text.specs.Encode.{plain, encode}
-use Rattle.definition_inline.specs.Inline.{Inline, Data, Escape, Character, Code, Math, Autolink, Literal, Html, EscapedBreak, TrailingBreak, LineEnd, Emphasis, Strong, Strikethrough, Link, Image, Inlines, Nil, Cons, Leaf, leaf, or_else}
+use Rattle.definition_inline.specs.Inline.{Inline, Data, Escape, Character, Code, Math, Autolink, Literal, Html, EscapedBreak, TrailingBreak, LineEnd, Emphasis, Strong, Strikethrough, Link, Image, Call, Inlines, Nil, Cons, Leaf, leaf, or_else}
 use Rattle.definition_inline.specs.CharacterEscape.{escape_at}
 use Rattle.definition_inline.specs.CharacterReference.{reference_at}
 use Rattle.definition_inline.specs.HardBreak.{line_end_at}
@@ -25,7 +25,8 @@ use Rattle.laws_endings.proofs.Leaves.{found_with, if_found, or_else-with, same_
 use Rattle.laws_endings.proofs.Contents.{or_none, end_none}
 use Rattle.laws_endings_reads.proofs.Each.{Each, each-append, each-drop, each_filter}
 use Rattle.laws_endings_reads.proofs.Fits.{Single, Plain}
-use Rattle.laws_endings_reads.proofs.InlineReads.{IsFit, AreFit, LeafFits, BeginsFit, begin_or, escape_fits, reference_fits, line_end_fits}
+use Rattle.laws_endings_reads.proofs.Parts.{IsFit, AreFit}
+use Rattle.laws_endings_reads.proofs.InlineReads.{LeafFits, BeginsFit, begin_or, escape_fits, reference_fits, line_end_fits}
 use Rattle.laws_endings_page.proofs.Bytes.{IsNoFeed, filtered_no_feed, with-append, kept, plain-with, encode-with, eol-with}
 
 pub plain_no_feed : (c : ℕ) → Plain c → IsNoFeed c
@@ -252,7 +253,7 @@ module _ (e : LineEnding) where
       part_says-with (Code text) p = text_says text p
       part_says-with (Math text) p = text_says text p
       part_says-with (Autolink is_email text) p = says_one (Words (codes_with e text)) (Words text) (words-codes text (plains_no_feed text p))
-      part_says-with (Literal kind text) p = says_one (Words (codes_with e text)) (Words text) (words-codes text (plains_no_feed text p))
+      part_says-with (Literal kind text) p = text_says text p
       part_says-with (Html html) p = html_says-with html p
       part_says-with EscapedBreak p = refl
       part_says-with TrailingBreak p = refl
@@ -262,6 +263,7 @@ module _ (e : LineEnding) where
       part_says-with (Strikethrough kids) p = description-with kids p
       part_says-with (Link target kids) p = description-with kids p.1
       part_says-with (Image target kids) p = description-with kids p.1
+      part_says-with (Call label) p = refl
 
       pub description-with : (is : Inlines) → AreFit is → SaidsWith (description options (inlines_with e is)) (description options is)
       description-with Nil p = refl

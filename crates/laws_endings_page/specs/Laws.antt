@@ -1,8 +1,10 @@
 -- The law of the page of a text with another line ending in place of each LF.
-use Rattle.std.specs.Prelude.{◌≡◌, ◌≢◌, ℕ, List, Contains, All, IsUtf8}
+use Rattle.std.specs.Prelude.{◌≡◌, ◌≢◌, ℕ, true, List, [], Option, String, Contains, All, IsUtf8}
 use Rattle.markdown_options.specs.declared.line_ending.LineEnding.{LineEnding}
+use Rattle.markdown_options.specs.declared.configuration.CompileOptions.{CompileOptions}
 use Rattle.markdown_options.specs.declared.configuration.Options.{Options}
 use Rattle.definition_page.specs.TextTables.{TextTables}
+use Rattle.definition_page.specs.GfmLabelStartFootnote.{text_or}
 use Rattle.definition_page.specs.Html.{html}
 use Rattle.laws_endings.specs.Endings.{with_ending}
 use Rattle.laws_endings.specs.Laws.{HasNoReturn}
@@ -11,8 +13,24 @@ use Rattle.laws_endings.specs.Laws.{HasNoReturn}
 abbrev pub EndsInFeeds : List ℕ → Type 0
 EndsInFeeds text = IsUtf8 text × Contains text 10 × HasNoReturn text × All (λ b. b ≢ 38) text
 
+-- a text of the options, where it is given, holds no LF
+abbrev pub HasNoFeed : {A : Type 0} → Option (String A) → Type 0
+HasNoFeed text = All (λ b. b ≢ 10) (text_or text [])
+
+-- what the options say around footnotes holds no LF
+pub record HaveNoFeeds (options : CompileOptions) : Type 0 where
+  pub heading : HasNoFeed options.gfm_footnote_label
+  pub heading_name : HasNoFeed options.gfm_footnote_label_tag_name
+  pub heading_attributes : HasNoFeed options.gfm_footnote_label_attributes
+  pub way_back : HasNoFeed options.gfm_footnote_back_label
+  pub id_prefix : HasNoFeed options.gfm_footnote_clobber_prefix
+
+-- where footnotes can be defined, what the options say around them holds no LF
+abbrev pub FootnotesHoldNoFeed : Options → Type 0
+FootnotesHoldNoFeed options = options.parse.constructs.gfm_footnote_definition ≡ true → HaveNoFeeds options.compile
+
 -- with an ending in place of each LF, a text prints its page with that ending in place of each LF
 abbrev pub EndingPageLaw : Type 0
 EndingPageLaw =
-    (e : LineEnding) (tables : TextTables) (text : List ℕ) (options : Options) → EndsInFeeds text
+    (e : LineEnding) (tables : TextTables) (text : List ℕ) (options : Options) → EndsInFeeds text → FootnotesHoldNoFeed options
     → html tables (with_ending e text) options ≡ with_ending e (html tables text options)

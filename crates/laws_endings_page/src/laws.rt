@@ -3,7 +3,8 @@ ghost use Rattle.laws_endings_page.specs.Laws.{EndingPageLaw};
 ghost use Rattle.laws_endings_page.specs.Refused.{RefusedRows};
 
 /// A text in UTF-8 that has an LF, no CR and no `&`, with an ending in place of each LF, prints its
-/// page with that ending in place of each LF.
+/// page with that ending in place of each LF. Where footnotes can be defined, what the options say
+/// around them holds no LF, either.
 #[tactic(auto, using(crate::proofs::Law::ending_page_law))]
 pub fn ending_page_law()
     ensures { EndingPageLaw }

@@ -3,6 +3,7 @@ use Rattle.std.proofs.Common.{◌≡◌, ℕ, suc, zero, ◌+◌, ◌-◌, Bool,
 use Rattle.std.specs.Prelude.{codes}
 use Rattle.std.specs.Char.{is_ascii_punctuation}
 use Rattle.std.specs.List.{prefix_len}
+use Rattle.std.specs.Option.{option_map}
 use Rattle.std.proofs.lemmas.Bool.{cond_both, cond-false, and_parts}
 use Rattle.markdown_options.specs.declared.configuration.Constructs.{Constructs}
 use Rattle.definition_text.specs.Columns.{is_white, indent}
@@ -10,7 +11,7 @@ use Rattle.definition_text.specs.Bytes.{begins_with, after_all}
 use Rattle.definition_text.specs.Content.{Part, before, up_to, is_eol}
 use Rattle.definition_text.specs.Runs.{run, after_run}
 use Rattle.definition_text.specs.InlineCode.{InlineCode, codes_of}
-use Rattle.definition_inline.specs.Inline.{Target, Resource, Reference, Inline, Data, Escape, Character, Code, Math, Autolink, Literal, Html, EscapedBreak, TrailingBreak, LineEnd, Emphasis, Strong, Strikethrough, Link, Image, Inlines, Nil, Cons, followed_by, Leaf, leaf, or_else}
+use Rattle.definition_inline.specs.Inline.{Target, Inline, Data, Escape, Autolink, Literal, EscapedBreak, TrailingBreak, LineEnd, Inlines, Nil, Cons, followed_by, Leaf, leaf, or_else}
 use Rattle.definition_inline.specs.CharacterEscape.{escape_at}
 use Rattle.definition_inline.specs.CharacterReference.{reference_form, reference_after, reference_of, reference_at}
 use Rattle.definition_inline.specs.CodeText.{run_of, raw_part, raw_leaf, raw_at, code_text_at}
@@ -23,47 +24,21 @@ use Rattle.definition_inline.specs.Resource.{LinkResource, resource_end, with_ti
 use Rattle.definition_inline.specs.Label.{label_at}
 use Rattle.definition_inline.specs.Destination.{destination_at}
 use Rattle.definition_inline.specs.Title.{title_at}
-use Rattle.definition_inline.specs.LabelEnd.{Ended, by_text, by_label, by_resource, label_end_at}
+use Rattle.definition_inline.specs.LabelEnd.{Ended, by_text, by_label, by_resource, label_end_at, Formed, Leads, Calls, leading}
+use Rattle.definition_inline.specs.GfmLabelStartFootnote.{called, call_or_link}
 use Rattle.definition_inline.specs.Attention.{Run, is_marker, run_at}
 use Rattle.definition_inline.specs.Pairing.{Pair, pairs}
 use Rattle.definition_inline.specs.Spans.{Token, Item, Delimiters, runs_of, Span, IsEmphasis, IsStrong, IsStrikethrough, span_of, SpanRow, Holds, Opens, Closes, bytes_taken, run_rows, rows_from, OpenSpan, Nest, nest, spanned, leave, nest_row, emphasized}
 use Rattle.definition_inline.specs.GfmAutolinkLiteral.{LiteralStart, literal_start_at, literal_name, literal_after, literal_at}
-use Rattle.definition_inline.specs.Scan.{InlineContext, leaf_at, leaf_here, LabelStart, LinkStart, ImageStart, label_start_at, start_tokens, may_form, label_part, Text, text, OpenLabel, Reading, reading, read_tokens, unformed, formed, Step, Next, data_step, ended_step, ended_by, label_end_step, last_step, label_step, run_step, leaf_step, step, and_then, scan, whole_text, inlines, inlines_from, unindented}
+use Rattle.definition_inline.specs.Scan.{InlineContext, leaf_at, leaf_here, LabelStart, LinkStart, ImageStart, label_start_at, start_tokens, may_form, label_part, formed_part, formed_at, Text, text, OpenLabel, Reading, reading, read_tokens, unformed, formed, Step, Next, data_step, ended_step, ended_by, label_end_step, last_step, label_step, run_step, leaf_step, step, and_then, scan, whole_text, inlines, spans_from, inlines_from, unindented}
 use Rattle.laws_endings.proofs.Contents.{no_ending_here}
 use Rattle.laws_endings_reads.specs.Kinds.{may_mark}
 use Rattle.laws_endings_reads.proofs.Each.{Each, each-append, each-take, each-drop, each_map, each_same, WhereSome, where_passed}
 use Rattle.laws_endings_reads.proofs.Neighbours.{marker_marks}
 use Rattle.laws_endings_reads.proofs.LiteralTexts.{name_plain, StartPlain, start_plain}
+use Rattle.laws_endings_reads.proofs.Parts.{TargetFits, IsFit, AreFit}
+use Rattle.laws_endings_reads.proofs.Addresses.{linked_fits}
 use Rattle.laws_endings_reads.proofs.Fits.{Single, Plain, each_plain, no_ending_by, plain_byte, all_passed, Apart, before_apart, after_all_apart, after_byte_apart, apart_from, white_fits, PartFits, title_fits, DestinationFits, destination_fits, TitleFits, code_text_fits}
-
--- where something leads: a destination without line endings, and a title
-abbrev pub TargetFits : Target → Type 0
-TargetFits (Resource destination title) = Each Plain destination × TitleFits title
-TargetFits (Reference label) = Unit {0}
-
--- parts of such codes, and no character reference
-abbrev mutual
-  pub IsFit : Inline → Type 0
-  IsFit (Data b) = Plain b
-  IsFit (Escape b) = Plain b
-  IsFit (Character bytes) = true ≡ false
-  IsFit (Code text) = Each Plain text
-  IsFit (Math text) = Each Plain text
-  IsFit (Autolink is_email text) = Each Plain text
-  IsFit (Literal kind text) = Each Plain text
-  IsFit (Html html) = Each Single html
-  IsFit EscapedBreak = Unit {0}
-  IsFit TrailingBreak = Unit {0}
-  IsFit (LineEnd code) = Single code
-  IsFit (Emphasis kids) = AreFit kids
-  IsFit (Strong kids) = AreFit kids
-  IsFit (Strikethrough kids) = AreFit kids
-  IsFit (Link target kids) = TargetFits target × AreFit kids
-  IsFit (Image target kids) = TargetFits target × AreFit kids
-
-  pub AreFit : Inlines → Type 0
-  AreFit Nil = Unit {0}
-  AreFit (Cons i is) = IsFit i × AreFit is
 
 -- ---- resources
 
@@ -103,6 +78,14 @@ resource_fits (c ∷ cs) p =
 abbrev EndedFits : Option Ended → Type 0
 EndedFits o = WhereSome (λ (found : Ended). TargetFits found.target) o
 
+-- what a `]` forms
+abbrev FormedIs : Formed → Type 0
+FormedIs (Leads end) = TargetFits end.target
+FormedIs (Calls label) = Unit {0}
+
+abbrev FormedFits : Option Formed → Type 0
+FormedFits o = WhereSome FormedIs o
+
 module _ (is_defined : List ℕ → Bool) where
   by_text_fits : (text rest : List ℕ) → EndedFits (by_text is_defined text rest)
   by_text_fits text rest = where_passed (λ (found : Ended). TargetFits found.target) _ _ tt
@@ -117,6 +100,19 @@ module _ (is_defined : List ℕ → Bool) where
 
   ended_fits : (text rest : List ℕ) → Each Single rest → EndedFits (label_end_at is_defined text rest)
   ended_fits text rest p = by_resource_fits text rest (resource_at rest) (resource_fits rest p)
+
+  leads_fit : (o : Option Ended) → EndedFits o → FormedFits (option_map Leads o)
+  leads_fit None p = tt
+  leads_fit (Some end) p = p
+
+  leading_fits : (text rest : List ℕ) → Each Single rest → FormedFits (leading is_defined text rest)
+  leading_fits text rest p = leads_fit (label_end_at is_defined text rest) (ended_fits text rest p)
+
+  call_or_link_fits : (on : Constructs) (text rest : List ℕ) (call : Option (List ℕ)) → Each Single rest
+      → FormedFits (call_or_link on is_defined text rest call)
+  call_or_link_fits on text rest None p =
+      cond_both on.label_start_link (leading is_defined text rest) None FormedFits (λ _. leading_fits text rest p) (λ _. tt)
+  call_or_link_fits on text rest (Some label) p = tt
 
 -- ---- constructs that hold no other
 
@@ -352,11 +348,14 @@ unformed_fits label inner h p =
     let start = start_tokens label.start in
     each-append TokenFits label.outer.tokens (start ++ inner.tokens) h (each-append TokenFits start inner.tokens (start_fits label.start) p)
 
-formed_fits : (label : OpenLabel) (target : Target) (inner : Text) → LabelFits label → TargetFits target → TextFits inner → TextFits (formed label target inner)
-formed_fits label target inner h t p =
-    let kids = emphasized inner.tokens in
-    each-append TokenFits label.outer.tokens (Item (label_part label.start target kids) ∷ []) h
-    (label_part_fits label.start target kids t (emphasized_fits inner.tokens p), tt)
+formed_part_fits : (start : LabelStart) (found : Formed) (tokens : List Token) → FormedIs found → Each TokenFits tokens → IsFit (formed_part start found tokens)
+formed_part_fits start (Leads end) tokens h p = label_part_fits start end.target (emphasized tokens) h (emphasized_fits tokens p)
+formed_part_fits start (Calls label) tokens h p = tt
+
+formed_fits : (label : OpenLabel) (found : Formed) (inner : Text) → LabelFits label → FormedIs found → TextFits inner → TextFits (formed label found inner)
+formed_fits label found inner h q p =
+    each-append TokenFits label.outer.tokens (Item (formed_part label.start found inner.tokens) ∷ []) h
+    (formed_part_fits label.start found inner.tokens q p, tt)
 
 -- ---- places
 
@@ -366,18 +365,24 @@ read_fits more r h p = (each-append TokenFits r.now.tokens more p.0 h, p.1)
 bracket_fits : Each TokenFits (Item (Data 93) ∷ [])
 bracket_fits = (((refl, refl), refl), tt)
 
-ended_step_fits : (label : OpenLabel) (others : List OpenLabel) (inner : Text) (found : Option Ended) → LabelFits label → Each LabelFits others
-    → TextFits inner → EndedFits found → StepFits (ended_step label others inner found)
+ended_step_fits : (label : OpenLabel) (others : List OpenLabel) (inner : Text) (found : Option Formed) → LabelFits label → Each LabelFits others
+    → TextFits inner → FormedFits found → StepFits (ended_step label others inner found)
 ended_step_fits label others inner None h hs p q =
     read_fits (Item (Data 93) ∷ []) (reading (unformed label inner) others) bracket_fits (unformed_fits label inner h p, hs)
-ended_step_fits label others inner (Some found) h hs p q = (formed_fits label found.target inner h q p, hs)
+ended_step_fits label others inner (Some found) h hs p q = (formed_fits label found inner h q p, hs)
 
 module _ (context : InlineContext) where
-  ended_by_fits : (content : List ℕ) (label : OpenLabel) (inner : Text) → Each Single content → EndedFits (ended_by context content label inner)
+  formed_at_fits : (start : LabelStart) (between rest : List ℕ) → Each Single rest → FormedFits (formed_at context start between rest)
+  formed_at_fits LinkStart between rest p =
+      let on = context.options.constructs in
+      call_or_link_fits context.is_defined on between rest (called on context.is_footnote between) p
+  formed_at_fits ImageStart between rest p = leading_fits context.is_defined between rest p
+
+  ended_by_fits : (content : List ℕ) (label : OpenLabel) (inner : Text) → Each Single content → FormedFits (ended_by context content label inner)
   ended_by_fits content label inner p =
       let between = before label.from content in
-      cond_both (may_form label.start inner.holds_link) (label_end_at context.is_defined between (drop 1 content)) None EndedFits
-      (λ _. ended_fits context.is_defined between (drop 1 content) (each-drop Single 1 content p)) (λ _. tt)
+      cond_both (may_form label.start inner.holds_link) (formed_at context label.start between (drop 1 content)) None FormedFits
+      (λ _. formed_at_fits label.start between (drop 1 content) (each-drop Single 1 content p)) (λ _. tt)
 
   label_end_fits : (content : List ℕ) (inner : Text) (open_labels : List OpenLabel) → Each Single content → TextFits inner → Each LabelFits open_labels
       → StepFits (label_end_step context content inner open_labels)
@@ -463,7 +468,8 @@ module _ (context : InlineContext) where
   from_fits content p =
       let r = scan context 0 (reading (text [] false) []) content in
       let h : ReadingFits r = scan_fits 0 (reading (text [] false) []) content p (tt, tt) in
-      emphasized_fits (whole_text r).tokens (whole_fits r.now r.open_labels h.0 h.1)
+      linked_fits context.options.constructs (spans_from context content)
+      (emphasized_fits (whole_text r).tokens (whole_fits r.now r.open_labels h.0 h.1))
 
   pub inlines_fit : (content : List InlineCode) → Each Single (codes_of content) → AreFit (inlines context content)
   inlines_fit content p =

@@ -13,6 +13,7 @@ use Rattle.definition_text.specs.InlineCode.{InlineCode, inline_code, codes_of, 
 use Rattle.definition_inline.specs.GfmStrikethrough.{is_tilde}
 use Rattle.definition_inline.specs.Attention.{Run, is_marker, run_between, run_size, run_at}
 use Rattle.definition_inline.specs.Inline.{or_else}
+use Rattle.definition_inline.specs.GfmAutolinkLiteral.{linked_literals}
 use Rattle.definition_inline.specs.Scan.{InlineContext, leaf_at, leaf_here, text, Reading, reading, Step, Next, leaf_step, step, and_then, scan, whole_text, inlines, inlines_from, unindented}
 use Rattle.definition_inline.specs.Spans.{emphasized}
 use Rattle.laws_endings.specs.Endings.{code_with, codes_with}
@@ -122,7 +123,7 @@ module _ (context : InlineContext) where
   alike_scan (suc k) r (a ∷ rest) (b ∷ bs) h = alike_scan k r rest bs h.1
 
   pub alike_from : (one other : List InlineCode) → AreAlike one other → inlines_from context one ≡ inlines_from context other
-  alike_from one other h = ap (λ r. emphasized (whole_text r).tokens) (alike_scan 0 (reading (text [] false) []) one other h)
+  alike_from one other h = ap (λ r. linked_literals context.options.constructs (emphasized (whole_text r).tokens)) (alike_scan 0 (reading (text [] false) []) one other h)
 
   pub alike_inlines : (one other : List InlineCode) → AreAlike one other → inlines context one ≡ inlines context other
   alike_inlines one other h = alike_from (unindented one) (unindented other) (alike_unindented one other h)

@@ -4,6 +4,8 @@ use Rattle.std.specs.Prelude.{codes}
 use Rattle.std.proofs.lemmas.Bool.{cond-false}
 use Rattle.std.proofs.lemmas.List.{append-nil}
 use Rattle.markdown_options.specs.declared.line_ending.LineEnding.{LineEnding}
+use Rattle.markdown_options.specs.LineEndings.{ending_bytes}
+use Rattle.markdown_options.specs.declared.configuration.CompileOptions.{CompileOptions}
 use Rattle.markdown_options.specs.declared.configuration.Options.{Options}
 use Rattle.definition_text.specs.declared.beside.Kind.{Kind}
 use Rattle.definition_text.specs.declared.beside.Kind.TheVariants.{Whitespace}
@@ -12,32 +14,54 @@ use Rattle.definition_text.specs.Lines.{has_mark, kind_before_text}
 use Rattle.definition_text.specs.BlockLines.{BlockLine, block_line}
 use Rattle.definition_text.specs.InlineCode.{inline_content}
 use Rattle.definition_block.specs.Tree.{Paragraph, ended, blocks}
+use Rattle.definition_inline.specs.Scan.{inlines}
+use Rattle.definition_page.specs.Layout.{laid}
+use Rattle.definition_page.specs.Targets.{no_targets}
 use Rattle.definition_page.specs.TextTables.{TextTables}
 use Rattle.html_bytes.specs.Document.{Document, document, context_of, meaning_of, text_of}
 use Rattle.html_bytes.specs.Html.{default_ending, blocks_html, marked_html}
+use Rattle.html_bytes.specs.Layout.{finished}
+use Rattle.html_bytes.specs.Pieces.{Piece, Bytes}
+use Rattle.html_bytes.proofs.SameLayout.{add, add_nil}
 use Rattle.html_bytes.proofs.SamePage.{html_is}
+use Rattle.html_bytes.proofs.WithoutCalls.{AddsBytes, adds_append, without_calls}
 use Rattle.laws_visible.proofs.PlainText.{content_codes}
 use Rattle.laws_inline.specs.Escaped.{escaped, IsTrimmedLine}
-use Rattle.laws_inline.proofs.Escaped.{escape_law}
+use Rattle.laws_inline.proofs.Escaped.{escape_law, escaped_calls_nothing}
 use Rattle.laws_escape.specs.EscapedPage.{EscapedPageLaw}
 use Rattle.laws_escape.proofs.Paragraph.{one_paragraph}
 use Rattle.laws_escape.proofs.EscapedLine.{Begins, begins_nothing, escaped_in_line, no_mark}
 
--- what a document of one paragraph prints
-paragraph_html : (tables : TextTables) (options : Options) (ending : LineEnding) (ls : List BlockLine)
-    → blocks_html tables options ending (ended (Paragraph ls) None) ≡ codes "<p>" ++ text_of (document options tables []) ls ++ codes "</p>"
-paragraph_html tables options ending ls =
-    let text = text_of (document options tables []) ls in
-    append-nil ((codes "<p>" ++ text) ++ codes "</p>") ∙ append_assoc (codes "<p>") text (codes "</p>")
+-- a text in the tags of a paragraph, and nothing after it
+paragraph_adds : (options : CompileOptions) (default : List ℕ) (text : List Piece) (said : List ℕ) → AddsBytes options default text said
+    → AddsBytes options default (text ++ Bytes (codes "</p>") ∷ [] ++ Bytes [] ∷ [] ++ []) (said ++ codes "</p>")
+paragraph_adds options default text said adds l =
+    let ended = text ++ Bytes (codes "</p>") ∷ [] in
+    let all = said ++ codes "</p>" in
+    let here = adds_append options default text (Bytes (codes "</p>") ∷ []) said (codes "</p>") adds (λ l. refl) in
+    let more = adds_append options default ended (Bytes [] ∷ []) all [] here (λ l. refl) in
+    adds_append options default (ended ++ Bytes [] ∷ []) [] (all ++ []) [] more (λ l. sym (add_nil l)) l
+    ∙ ap (add l) (append-nil (all ++ []) ∙ append-nil all)
+
+-- what a document of one paragraph prints, where its text adds these bytes
+paragraph_html : (tables : TextTables) (options : Options) (ending : LineEnding) (ls : List BlockLine) (said : List ℕ)
+    → AddsBytes options.compile (ending_bytes ending) (text_of (document options tables no_targets) ls) said
+    → blocks_html tables options ending (ended (Paragraph ls) None) ≡ codes "<p>" ++ said ++ codes "</p>"
+paragraph_html tables options ending ls said adds =
+    let default = ending_bytes ending in
+    let text = text_of (document options tables no_targets) ls in
+    ap (finished options.compile default) (paragraph_adds options.compile default text said adds (laid (codes "<p>") [] [] []))
+    ∙ sym (append_assoc (codes "<p>") said (codes "</p>"))
 
 -- what the paragraph of an escaped line says
-line_says : (d : Document) (line : List ℕ) (before : Kind) → d.options.parse.constructs.character_escape ≡ true → IsTrimmedLine line
-    → text_of d (block_line (escaped line) None before ∷ []) ≡ encode line
-line_says d line before on h =
+line_says : (d : Document) (options : CompileOptions) (default line : List ℕ) (before : Kind) → d.options.parse.constructs.character_escape ≡ true
+    → IsTrimmedLine line → AddsBytes options default (text_of d (block_line (escaped line) None before ∷ [])) (encode line)
+line_says d options default line before on h l =
     let ls = block_line (escaped line) None before ∷ [] in
     let content = inline_content d.tables.is_punctuation Whitespace ls in
-    let same = content_codes d.tables.is_punctuation Whitespace ls (escaped_in_line line h.0) in
-    escape_law (context_of d) (meaning_of d) content line on h (same ∙ append-nil (escaped line ++ []) ∙ append-nil (escaped line))
+    let same = content_codes d.tables.is_punctuation Whitespace ls (escaped_in_line line h.0) ∙ append-nil (escaped line ++ []) ∙ append-nil (escaped line) in
+    without_calls options default (meaning_of d) (inlines (context_of d) content) (escaped_calls_nothing (context_of d) content line on h same) l
+    ∙ ap (add l) (escape_law (context_of d) (meaning_of d) content line on h same)
 
 -- the blocks of an escaped line
 its_blocks : (options : Options) (before : Kind) (line : List ℕ) → Begins (escaped line)
@@ -53,8 +77,8 @@ marked_page : (tables : TextTables) (line : List ℕ) (options : Options) (befor
 marked_page tables line options before on h begins =
     let ending = default_ending options (escaped line) in
     ap (blocks_html tables options ending) (its_blocks options before line begins)
-    ∙ paragraph_html tables options ending (block_line (escaped line) None before ∷ [])
-    ∙ ap (λ text. codes "<p>" ++ text ++ codes "</p>") (line_says (document options tables []) line before on h)
+    ∙ paragraph_html tables options ending (block_line (escaped line) None before ∷ []) (encode line)
+    (line_says (document options tables no_targets) options.compile (ending_bytes ending) line before on h)
 
 pub escaped_page_law : EscapedPageLaw
 escaped_page_law tables [] options on some h unmarked = absurd (some refl)

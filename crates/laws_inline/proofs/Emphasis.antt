@@ -5,12 +5,12 @@ use Rattle.std.proofs.lemmas.Bool.{cond_both}
 use Rattle.std.proofs.lemmas.List.Elements.{All-nil, All-cons}
 use Rattle.markdown_options.specs.declared.configuration.ParseOptions.{ParseOptions}
 use Rattle.definition_text.specs.InlineCode.{InlineCode, codes_of}
-use Rattle.definition_inline.specs.Inline.{Target, Inline, Data, Leaf}
-use Rattle.definition_inline.specs.LabelEnd.{Ended}
+use Rattle.definition_inline.specs.Inline.{Inline, Data, Leaf}
+use Rattle.definition_inline.specs.LabelEnd.{Formed}
 use Rattle.definition_inline.specs.Attention.{Run, is_marker, run_between, run_at}
 use Rattle.definition_inline.specs.Pairing.{Pair, pairs}
-use Rattle.definition_inline.specs.Spans.{Token, Item, Delimiters, runs_of, Holds, run_rows, rows_from, nested, emphasized}
-use Rattle.definition_inline.specs.Scan.{InlineContext, leaf_here, LabelStart, label_start_at, start_bytes, start_tokens, label_part, Text, text, OpenLabel, Reading, reading, read_tokens, unformed, formed, Step, Next, data_step, ended_step, ended_by, label_end_step, last_step, label_step, run_step, leaf_step, step, and_then, scan, whole_text}
+use Rattle.definition_inline.specs.Spans.{Token, Item, Delimiters, runs_of, Holds, run_rows, rows_from, nested}
+use Rattle.definition_inline.specs.Scan.{InlineContext, leaf_here, LabelStart, label_start_at, start_bytes, start_tokens, formed_part, Text, text, OpenLabel, Reading, reading, read_tokens, unformed, formed, Step, Next, data_step, ended_step, ended_by, label_end_step, last_step, label_step, run_step, leaf_step, step, and_then, scan, whole_text}
 use Rattle.laws_inline.specs.Emphasis.{Front, front_of, RunOfItsNeighbours, StandsIn, RunsOfTheContent, rows_by, with_runs, SpansOfRuns}
 use Rattle.laws_inline.proofs.Each.{Each, each-append, each_map}
 
@@ -74,15 +74,14 @@ module _ (context : InlineContext) (whole : List InlineCode) where
       each-append Stands label.outer.tokens (start_tokens label.start ++ inner.tokens) h
       (each-append Stands (start_tokens label.start) inner.tokens (start_stands label.start) p)
 
-  formed_stands : (label : OpenLabel) (target : Target) (inner : Text) → LabelStands label → TextStands (formed label target inner)
-  formed_stands label target inner h =
-      each-append Stands label.outer.tokens (Item (label_part label.start target (emphasized inner.tokens)) ∷ []) h (tt, tt)
+  formed_stands : (label : OpenLabel) (found : Formed) (inner : Text) → LabelStands label → TextStands (formed label found inner)
+  formed_stands label found inner h = each-append Stands label.outer.tokens (Item (formed_part label.start found inner.tokens) ∷ []) h (tt, tt)
 
-  end_stands : (label : OpenLabel) (others : List OpenLabel) (inner : Text) (found : Option Ended) → LabelStands label → Each LabelStands others
+  end_stands : (label : OpenLabel) (others : List OpenLabel) (inner : Text) (found : Option Formed) → LabelStands label → Each LabelStands others
       → TextStands inner → StepStands (ended_step label others inner found)
   end_stands label others inner None h hs p =
       read_stands (Item (Data 93) ∷ []) (reading (unformed label inner) others) (tt, tt) (unformed_stands label inner h p, hs)
-  end_stands label others inner (Some found) h hs p = (formed_stands label found.target inner h, hs)
+  end_stands label others inner (Some found) h hs p = (formed_stands label found inner h, hs)
 
   label_end_stands : (content : List ℕ) (inner : Text) (open_labels : List OpenLabel) → TextStands inner → Each LabelStands open_labels
       → StepStands (label_end_step context content inner open_labels)

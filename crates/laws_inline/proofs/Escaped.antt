@@ -1,10 +1,11 @@
 -- An escaped line prints itself as text.
 use Rattle.std.proofs.Common.{inl, inr, ◌≡◌, ◌+◌, ◌<◌, ℕ, Bool, true, false, cond, not, ◌&&◌, ◌||◌, List, [], ◌∷◌, ◌++◌, map, Option, None, Some, refl, sym, ap, ◌∙◌, length, get_or, drop, arith, subst, append_assoc}
 use Rattle.std.specs.Prelude.{◌==◌, nat_lt, nat_le, codes}
-use Rattle.std.specs.List.{list_all, flat_map, prefix_len}
+use Rattle.std.specs.List.{list_all, list_any, flat_map, prefix_len}
 use Rattle.std.specs.Char.{is_ascii_punctuation, to_ascii_lowercase}
 use Rattle.std.proofs.lemmas.Bool.{cases_Bool, cond-true, cond-false, cond_both, both_ways, and_parts, or_parts, or_from, eqb-true, ne_eqb, ltb-false, not-true}
 use Rattle.std.proofs.lemmas.Grind.{common_steps}
+use Rattle.std.proofs.lemmas.List.{append-nil, map-append}
 use Rattle.markdown_options.specs.declared.configuration.Constructs.{Constructs}
 use Rattle.definition_text.specs.Columns.{is_white, indent, bare}
 use Rattle.definition_text.specs.Bytes.{begins_with}
@@ -12,7 +13,7 @@ use Rattle.definition_text.specs.Runs.{run}
 use Rattle.definition_text.specs.Content.{is_eol}
 use Rattle.definition_text.specs.Encode.{encoded_byte, encode}
 use Rattle.definition_text.specs.InlineCode.{InlineCode, codes_of}
-use Rattle.definition_inline.specs.Inline.{Inline, Data, Escape, Leaf, leaf, or_else}
+use Rattle.definition_inline.specs.Inline.{Inline, Data, Escape, Nil, Cons, Leaf, leaf, or_else}
 use Rattle.definition_inline.specs.CharacterEscape.{escape_at}
 use Rattle.definition_inline.specs.CharacterReference.{reference_after, reference_form, reference_of, reference_at}
 use Rattle.definition_inline.specs.CodeText.{raw_at, code_text_at}
@@ -23,14 +24,17 @@ use Rattle.definition_inline.specs.HtmlText.{html_text_at}
 use Rattle.definition_inline.specs.HardBreak.{ends_inner_line, ends_here, line_end_at, escaped_break_at, line_spaces_at}
 use Rattle.definition_inline.specs.Attention.{is_marker, run_at}
 use Rattle.definition_inline.specs.Spans.{Token, Item, emphasized}
-use Rattle.definition_inline.specs.GfmAutolinkLiteral.{begins_caselessly}
+use Rattle.definition_inline.specs.GfmAutolinkLiteral.{begins_caselessly, parts_from, followed, with_literals, linked_literals}
+use Rattle.definition_inline.specs.GfmLabelStartFootnote.{starts_call}
 use Rattle.definition_inline.proofs.GfmAutolinkLiteral.{HasNoStart, no_literal}
-use Rattle.definition_inline.specs.Scan.{InlineContext, leaf_at, leaf_here, label_start_at, text, Reading, reading, read_tokens, Next, data_step, label_end_step, step, scan, whole_text}
+use Rattle.definition_inline.specs.Scan.{InlineContext, leaf_at, leaf_here, starts_image, starts_link, label_start_at, text, Reading, reading, read_tokens, Next, data_step, label_end_step, step, scan, whole_text, inlines}
 use Rattle.html_bytes.specs.InlineHtml.{InlineMeaning, part_html, inline_html}
 use Rattle.definition_inline.proofs.Scanning.{scan_step, step_leaf, step_last}
-use Rattle.laws_visible.proofs.InlineParts.{read_nothing, white_codes, html_of_parts}
+use Rattle.html_bytes.proofs.WithoutCalls.{part_calls, has_calls}
+use Rattle.laws_visible.proofs.InlineParts.{read_nothing, white_codes, parts_alone, html_followed, calls_followed}
 use Rattle.laws_visible.proofs.PlainText.{and_no, bare_white, bare_other}
-use Rattle.laws_inline.specs.Escaped.{escaped, is_line_byte, begins_with_space, ends_with_space, EscapeLaw}
+use Rattle.laws_inline.specs.Escaped.{escaped, is_line_byte, begins_with_space, ends_with_space, IsTrimmedLine, EscapeLaw}
+use Rattle.laws_inline.proofs.Each.{Each, each-append}
 
 -- ---- a byte that isn't ASCII punctuation begins nothing
 
@@ -138,9 +142,16 @@ module _ (context : InlineContext) (b : ℕ) (off : is_ascii_punctuation b ≡ f
 
   no_start : (rest : List ℕ) → label_start_at constructs (b ∷ rest) ≡ None
   no_start rest =
-      let image : begins_with (codes "![") (b ∷ rest) ≡ false = no_and (33 == b) _ (other_way b 33 off refl) in
-      let link : begins_with (codes "[") (b ∷ rest) ≡ false = no_and (91 == b) _ (other_way b 91 off refl) in
-      cond-false _ _ _ (and_no constructs.label_start_image _ image) ∙ cond-false _ _ _ (and_no constructs.label_start_link _ link)
+      let image = begins_with (codes "![") (b ∷ rest) in
+      let bracket = begins_with (codes "[") (b ∷ rest) in
+      let no_image : starts_image constructs (b ∷ rest) ≡ false =
+      no_and (constructs.label_start_image && image) _ (and_no constructs.label_start_image image (no_and (33 == b) _ (other_way b 33 off refl))) in
+      let no_call : starts_call constructs (b ∷ rest) ≡ false =
+      and_no constructs.gfm_label_start_footnote (begins_with (codes "[^") (b ∷ rest)) (no_and (91 == b) _ (other_way b 91 off refl)) in
+      let no_link : starts_link constructs (b ∷ rest) ≡ false =
+      or_from (constructs.label_start_link && bracket) (starts_call constructs (b ∷ rest))
+      (and_no constructs.label_start_link bracket (no_and (91 == b) _ (other_way b 91 off refl))) no_call in
+      cond-false (starts_image constructs (b ∷ rest)) _ _ no_image ∙ cond-false (starts_link constructs (b ∷ rest)) _ _ no_link
 
 -- ---- spaces in an escaped line
 
@@ -316,6 +327,46 @@ module _ (context : InlineContext) (on : context.options.constructs.character_es
           ∙ more cs (ap (drop 1) e) ∙ read_more (Item (Data b)) (tokens_of bs) r
           ∙ ap (λ i. read_tokens (Item i ∷ tokens_of bs) r) (sym (data_part b off))
 
+-- ---- addresses: an escaped line has no `@` of its own
+
+-- parts after others
+followed-append : (is js : List Inline) → followed is (followed js Nil) ≡ followed (is ++ js) Nil
+followed-append [] js = refl
+followed-append (i ∷ is) js = ap (Cons i) (followed-append is js)
+
+abbrev HasNoAt : List ℕ → Type 0
+HasNoAt bytes = Each (λ b. (b == 64) ≡ false) bytes
+
+no_addresses : (before run : List ℕ) → HasNoAt run → parts_from 0 before run ≡ map Data (before ++ run)
+no_addresses before [] h = ap (map Data) (sym (append-nil before))
+no_addresses before (b ∷ bs) h =
+    cond-false (b == 64) _ _ h.0 ∙ no_addresses (before ++ b ∷ []) bs h.1 ∙ ap (map Data) (append_assoc before (b ∷ []) bs)
+
+-- a run of text, and the parts after it
+literals_escaped : (run bytes : List ℕ) → HasNoAt run → with_literals run (followed (map part_of bytes) Nil) ≡ followed (map Data run ++ map part_of bytes) Nil
+literals_escaped run [] h = ap (λ is. followed is Nil) (no_addresses [] run h ∙ sym (append-nil (map Data run)))
+literals_escaped run (b ∷ bs) h =
+    let others = map part_of bs in
+    elim (cases_Bool (is_ascii_punctuation b)) [
+      | inl on ↦
+          ap (λ i. with_literals run (Cons i (followed others Nil))) (escape_part b on)
+          ∙ ap (λ is. followed is (Cons (Escape b) (with_literals [] (followed others Nil)))) (no_addresses [] run h)
+          ∙ ap (λ is. followed (map Data run) (Cons (Escape b) is)) (literals_escaped [] bs tt)
+          ∙ followed-append (map Data run) (Escape b ∷ others)
+          ∙ ap (λ i. followed (map Data run ++ i ∷ others) Nil) (sym (escape_part b on))
+      | inr off ↦
+          ap (λ i. with_literals run (Cons i (followed others Nil))) (data_part b off)
+          ∙ literals_escaped (run ++ b ∷ []) bs (each-append (λ b. (b == 64) ≡ false) run (b ∷ []) h (other b 64 off refl, tt))
+          ∙ ap (λ is. followed (is ++ others) Nil) (map-append Data run (b ∷ []))
+          ∙ ap (λ is. followed is Nil) (append_assoc (map Data run) (Data b ∷ []) others)
+          ∙ ap (λ i. followed (map Data run ++ i ∷ others) Nil) (sym (data_part b off))
+    ]
+
+linked_escaped : (on : Constructs) (bytes : List ℕ) → linked_literals on (followed (map part_of bytes) Nil) ≡ followed (map part_of bytes) Nil
+linked_escaped on bytes =
+    let is = followed (map part_of bytes) Nil in
+    cond_both on.gfm_autolink_literal (with_literals [] is) is (λ x. x ≡ is) (λ _. literals_escaped [] bytes tt) (λ _. refl)
+
 -- ---- what it prints
 
 no_white_first : (bytes : List ℕ) → list_all is_line_byte bytes ≡ true → begins_with_space bytes ≡ false → prefix_len is_white (escaped bytes) ≡ 0
@@ -338,14 +389,36 @@ module _ (meaning : InlineMeaning) where
   html_of_bytes (b ∷ bs) =
       ap (λ x. x ++ flat_map (part_html meaning) (map part_of bs)) (html_of_byte b) ∙ ap (λ x. encoded_byte b ++ x) (html_of_bytes bs)
 
-  html_of_tokens : (bytes : List ℕ) → inline_html meaning (emphasized (tokens_of bytes)) ≡ encode bytes
-  html_of_tokens bytes = html_of_parts meaning (map part_of bytes) ∙ html_of_bytes bytes
-
-pub escape_law : EscapeLaw
-escape_law context meaning content bytes on line e =
+-- the inline structure of an escaped line
+escaped_structure : (context : InlineContext) (content : List InlineCode) (bytes : List ℕ) → context.options.constructs.character_escape ≡ true
+    → IsTrimmedLine bytes
+    → codes_of content ≡ escaped bytes → inlines context content ≡ followed (map part_of bytes) Nil
+escaped_structure context content bytes on line e =
+    let constructs = context.options.constructs in
     let start = prefix_len (λ (c : InlineCode). is_white c.code) content in
     let none : start ≡ 0 = white_codes content ∙ ap (prefix_len is_white) e ∙ no_white_first bytes line.0 line.1 in
     let r : Reading = reading (text [] false) [] in
     let read : scan context 0 r content ≡ read_tokens (tokens_of bytes) r = scan_escaped context on bytes content r line.0 line.2 e in
-    ap (λ n. inline_html meaning (emphasized (whole_text (scan context 0 r (drop n content))).tokens)) none
-    ∙ ap (λ x. inline_html meaning (emphasized (whole_text x).tokens)) read ∙ html_of_tokens meaning bytes
+    ap (λ n. linked_literals constructs (emphasized (whole_text (scan context 0 r (drop n content))).tokens)) none
+    ∙ ap (λ x. linked_literals constructs (emphasized (whole_text x).tokens)) read
+    ∙ ap (linked_literals constructs) (parts_alone (map part_of bytes))
+    ∙ linked_escaped constructs bytes
+
+pub escape_law : EscapeLaw
+escape_law context meaning content bytes on line e =
+    ap (inline_html meaning) (escaped_structure context content bytes on line e) ∙ html_followed meaning (map part_of bytes) ∙ html_of_bytes meaning bytes
+
+-- no byte of it is a call
+byte_calls_nothing : (b : ℕ) → part_calls (part_of b) ≡ false
+unfolding part_of
+byte_calls_nothing b = cond_both (is_ascii_punctuation b) (Escape b) (Data b) (λ i. part_calls i ≡ false) (λ _. refl) (λ _. refl)
+
+bytes_call_nothing : (bytes : List ℕ) → list_any part_calls (map part_of bytes) ≡ false
+bytes_call_nothing [] = refl
+bytes_call_nothing (b ∷ bs) = or_from (part_calls (part_of b)) (list_any part_calls (map part_of bs)) (byte_calls_nothing b) (bytes_call_nothing bs)
+
+-- an escaped line calls no footnote
+pub escaped_calls_nothing : (context : InlineContext) (content : List InlineCode) (bytes : List ℕ) → context.options.constructs.character_escape ≡ true
+    → IsTrimmedLine bytes → codes_of content ≡ escaped bytes → has_calls (inlines context content) ≡ false
+escaped_calls_nothing context content bytes on line e =
+    ap has_calls (escaped_structure context content bytes on line e) ∙ calls_followed (map part_of bytes) ∙ bytes_call_nothing bytes

@@ -1,4 +1,6 @@
 mod Each
+mod Literals
+mod MayStand
 pub mod Occurs
 pub mod Pairs
 pub mod Emphasis

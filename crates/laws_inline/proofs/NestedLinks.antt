@@ -1,14 +1,15 @@
 -- No link holds another.
 use Rattle.std.proofs.Common.{◌≡◌, ℕ, suc, zero, Bool, true, false, cond, not, ◌&&◌, ◌||◌, ◌==◌, List, [], ◌∷◌, ◌++◌, map, Option, None, Some, length, take, drop, refl, ◌+◌, ◌-◌}
 use Rattle.std.specs.Prelude.{replicate, reverse}
-use Rattle.std.specs.List.{fold, prefix_len, filter}
+use Rattle.std.specs.List.{fold, filter}
+use Rattle.std.specs.Option.{option_map}
 use Rattle.std.proofs.lemmas.Bool.{cond_both, or_from, or_parts, both_ways, not-true}
 use Rattle.markdown_options.specs.declared.configuration.Constructs.{Constructs}
-use Rattle.definition_text.specs.Columns.{is_white, indent}
+use Rattle.definition_text.specs.Columns.{indent}
 use Rattle.definition_text.specs.Content.{Part, before, up_to}
 use Rattle.definition_text.specs.Runs.{run, after_run}
 use Rattle.definition_text.specs.InlineCode.{InlineCode, codes_of}
-use Rattle.definition_inline.specs.Inline.{Target, Inline, Data, Escape, Code, Math, Autolink, EscapedBreak, TrailingBreak, LineEnd, Emphasis, Strong, Strikethrough, Link, Image, Inlines, Nil, Cons, followed_by, Leaf, leaf, or_else}
+use Rattle.definition_inline.specs.Inline.{Target, Inline, Data, Escape, Code, Math, Autolink, EscapedBreak, TrailingBreak, LineEnd, Emphasis, Strong, Strikethrough, Link, Image, Call, Inlines, Nil, Cons, followed_by, Leaf, leaf, or_else}
 use Rattle.definition_inline.specs.CharacterEscape.{escape_at}
 use Rattle.definition_inline.specs.CharacterReference.{CharacterReference, reference_form, reference_text, reference_leaf, reference_of, reference_at}
 use Rattle.definition_inline.specs.CodeText.{run_of, code_text, raw_leaf, raw_at, code_text_at}
@@ -16,16 +17,17 @@ use Rattle.definition_inline.specs.MathText.{may_open_math, math_text_at}
 use Rattle.definition_inline.specs.Autolink.{uri_end, email_end, closed_autolink, autolink_after, autolink_at}
 use Rattle.definition_inline.specs.HtmlText.{html_byte, html_end, html_leaf, html_text_at}
 use Rattle.definition_inline.specs.HardBreak.{line_end_at, escaped_break_at, is_trailing_break, line_spaces_at}
-use Rattle.definition_inline.specs.LabelEnd.{Ended, label_end_at}
+use Rattle.definition_inline.specs.LabelEnd.{Ended, label_end_at, Formed, Leads, Calls}
 use Rattle.definition_inline.specs.Attention.{Run, run_at}
 use Rattle.definition_inline.specs.Pairing.{Pair, pairs}
 use Rattle.definition_inline.specs.Spans.{Token, Item, Delimiters, runs_of, Span, IsEmphasis, IsStrong, IsStrikethrough, span_of, SpanRow, Holds, Opens, Closes, bytes_taken, run_rows, rows_from, OpenSpan, Nest, nest, spanned, leave, nest_row, emphasized}
 use Rattle.definition_inline.specs.GfmAutolinkLiteral.{literal_at}
 use Rattle.definition_inline.proofs.GfmAutolinkLiteral.{any_literal}
-use Rattle.definition_inline.specs.Scan.{InlineContext, leaf_at, leaf_here, LabelStart, LinkStart, ImageStart, label_start_at, start_bytes, start_tokens, may_form, Text, text, OpenLabel, Reading, reading, read_tokens, unformed, formed, Step, Next, data_step, ended_step, label_end_step, last_step, label_step, run_step, leaf_step, step, and_then, scan, whole_text}
-use Rattle.laws_inline.specs.Occurs.{part_has, has, is_link}
-use Rattle.laws_inline.specs.NestedLinks.{is_nesting, LinksHoldNoLinks}
-use Rattle.laws_inline.proofs.Each.{Each, each-append, each_map, each_same}
+use Rattle.definition_inline.specs.Scan.{InlineContext, leaf_at, leaf_here, LabelStart, LinkStart, ImageStart, label_start_at, start_bytes, start_tokens, may_form, formed_at, Text, text, OpenLabel, Reading, reading, read_tokens, unformed, formed, Step, Next, data_step, ended_step, label_end_step, last_step, label_step, run_step, leaf_step, step, and_then, scan, whole_text, spans_from, unindented}
+use Rattle.laws_inline.specs.Occurs.{part_has, has}
+use Rattle.laws_inline.specs.NestedLinks.{is_leading, is_nesting, LinksHoldNoLinks}
+use Rattle.laws_inline.proofs.Each.{WhereSome, Each, each-append, each_map, each_same}
+use Rattle.laws_inline.proofs.Literals.{LacksLiterals, without_lacks, with_lacks, linked_lacks}
 
 -- ---- spans of what lacks something
 
@@ -100,6 +102,7 @@ IsPlain (Strong kids) = ⊥
 IsPlain (Strikethrough kids) = ⊥
 IsPlain (Link target kids) = ⊥
 IsPlain (Image target kids) = ⊥
+IsPlain (Call label) = ⊥
 IsPlain i = Unit {0}
 
 abbrev pub PlainLeaf : Option Leaf → Type 0
@@ -206,10 +209,10 @@ no_span_nests IsEmphasis kids = refl
 no_span_nests IsStrong kids = refl
 no_span_nests IsStrikethrough kids = refl
 
-no_data_links : (b : ℕ) → is_link (Data b) ≡ false
+no_data_links : (b : ℕ) → is_leading (Data b) ≡ false
 no_data_links b = refl
 
-no_span_links : (span : Span) (kids : Inlines) → is_link (spanned span kids) ≡ false
+no_span_links : (span : Span) (kids : Inlines) → is_leading (spanned span kids) ≡ false
 no_span_links IsEmphasis kids = refl
 no_span_links IsStrong kids = refl
 no_span_links IsStrikethrough kids = refl
@@ -218,7 +221,7 @@ abbrev NestsNothing : Token → Type 0
 NestsNothing t = Lacks is_nesting no_data_nests no_span_nests t
 
 abbrev HasNoLink : Token → Type 0
-HasNoLink t = Lacks is_link no_data_links no_span_links t
+HasNoLink t = Lacks is_leading no_data_links no_span_links t
 
 -- no link in a text holds another, and where the text is said to hold no link it holds none
 record IsGood (t : Text) : Type 0 where
@@ -231,14 +234,16 @@ plain_nests (Strong kids) h = absurd h
 plain_nests (Strikethrough kids) h = absurd h
 plain_nests (Link target kids) h = absurd h
 plain_nests (Image target kids) h = absurd h
+plain_nests (Call label) h = absurd h
 plain_nests i h = refl
 
-plain_links : (i : Inline) → IsPlain i → part_has is_link i ≡ false
+plain_links : (i : Inline) → IsPlain i → part_has is_leading i ≡ false
 plain_links (Emphasis kids) h = absurd h
 plain_links (Strong kids) h = absurd h
 plain_links (Strikethrough kids) h = absurd h
 plain_links (Link target kids) h = absurd h
 plain_links (Image target kids) h = absurd h
+plain_links (Call label) h = absurd h
 plain_links i h = refl
 
 plain_items_nest : (parts : List Inline) → Each IsPlain parts → Each NestsNothing (map Item parts)
@@ -281,8 +286,8 @@ good_unformed label inner h p =
 inside_flat : (inner : Text) → IsGood inner → has is_nesting (emphasized inner.tokens) ≡ false
 inside_flat inner p = emphasized_lacks is_nesting no_data_nests no_span_nests inner.tokens p.flat
 
-inside_none : (inner : Text) → IsGood inner → inner.holds_link ≡ false → has is_link (emphasized inner.tokens) ≡ false
-inside_none inner p e = emphasized_lacks is_link no_data_links no_span_links inner.tokens (p.none e)
+inside_none : (inner : Text) → IsGood inner → inner.holds_link ≡ false → has is_leading (emphasized inner.tokens) ≡ false
+inside_none inner p e = emphasized_lacks is_leading no_data_links no_span_links inner.tokens (p.none e)
 
 good_link : (outer : Text) (target : Target) (inner : Text) → IsGood outer → IsGood inner → inner.holds_link ≡ false
     → IsGood (text (outer.tokens ++ Item (Link target (emphasized inner.tokens)) ∷ []) (outer.holds_link || true))
@@ -291,7 +296,7 @@ good_link outer target inner h p e =
     record {
       flat =
           each-append NestsNothing outer.tokens (Item (Link target kids) ∷ []) h.flat
-          (or_from (has is_link kids) (has is_nesting kids) (inside_none inner p e) (inside_flat inner p), tt);
+          (or_from (has is_leading kids) (has is_nesting kids) (inside_none inner p e) (inside_flat inner p), tt);
       none = λ f. absurd (both_ways true (or_parts outer.holds_link true f).1 refl);
     }
 
@@ -306,10 +311,39 @@ good_image outer target inner h p =
           each-append HasNoLink outer.tokens (Item (Image target kids) ∷ []) (h.none parts.0) (inside_none inner p parts.1, tt);
     }
 
-good_formed : (start : LabelStart) (from : List ℕ) (outer : Text) (target : Target) (inner : Text) → IsGood outer → IsGood inner
-    → may_form start inner.holds_link ≡ true → IsGood (formed (record { start = start; from = from; outer = outer }) target inner)
-good_formed LinkStart from outer target inner h p e = good_link outer target inner h p (not-true inner.holds_link e)
-good_formed ImageStart from outer target inner h p e = good_image outer target inner h p
+good_call : (outer : Text) (label : List ℕ) → IsGood outer → IsGood (text (outer.tokens ++ Item (Call label) ∷ []) (outer.holds_link || true))
+good_call outer label h =
+    record {
+      flat = each-append NestsNothing outer.tokens (Item (Call label) ∷ []) h.flat (refl, tt);
+      none = λ f. absurd (both_ways true (or_parts outer.holds_link true f).1 refl);
+    }
+
+-- ---- what a `]` forms
+
+-- the start of an image forms no call
+abbrev Fits : LabelStart → Formed → Type 0
+Fits ImageStart (Calls label) = ⊥
+Fits start found = Unit {0}
+
+link_fits : (found : Option Formed) → WhereSome (Fits LinkStart) found
+link_fits None = tt
+link_fits (Some (Leads end)) = tt
+link_fits (Some (Calls label)) = tt
+
+image_fits : (found : Option Ended) → WhereSome (Fits ImageStart) (option_map Leads found)
+image_fits None = tt
+image_fits (Some end) = tt
+
+fits_at : (context : InlineContext) (start : LabelStart) (between rest : List ℕ) → WhereSome (Fits start) (formed_at context start between rest)
+fits_at context LinkStart between rest = link_fits (formed_at context LinkStart between rest)
+fits_at context ImageStart between rest = image_fits (label_end_at context.is_defined between rest)
+
+good_formed : (start : LabelStart) (from : List ℕ) (outer : Text) (found : Formed) (inner : Text) → IsGood outer → IsGood inner
+    → may_form start inner.holds_link ≡ true → Fits start found → IsGood (formed (record { start = start; from = from; outer = outer }) found inner)
+good_formed LinkStart from outer (Leads end) inner h p e f = good_link outer end.target inner h p (not-true inner.holds_link e)
+good_formed ImageStart from outer (Leads end) inner h p e f = good_image outer end.target inner h p
+good_formed LinkStart from outer (Calls label) inner h p e f = good_call outer label h
+good_formed ImageStart from outer (Calls label) inner h p e f = absurd f
 
 -- ---- the scan
 
@@ -329,20 +363,23 @@ good_unended label others inner h hs p =
     good_read (Item (Data 93) ∷ []) (reading (unformed label inner) others) (refl, tt) (refl, tt)
     (record { now = good_unformed label inner h p; open_labels = hs })
 
-good_end : (label : OpenLabel) (others : List OpenLabel) (inner : Text) (found : Option Ended) → may_form label.start inner.holds_link ≡ true → IsGood label.outer
-    → Each (λ (l : OpenLabel). IsGood l.outer) others → IsGood inner → IsGoodStep (ended_step label others inner found)
-good_end label others inner None e h hs p = good_unended label others inner h hs p
-good_end label others inner (Some found) e h hs p =
-    record { now = good_formed label.start label.from label.outer found.target inner h p e; open_labels = hs }
+good_end : (label : OpenLabel) (others : List OpenLabel) (inner : Text) (found : Option Formed) → may_form label.start inner.holds_link ≡ true
+    → WhereSome (Fits label.start) found → IsGood label.outer → Each (λ (l : OpenLabel). IsGood l.outer) others → IsGood inner
+    → IsGoodStep (ended_step label others inner found)
+good_end label others inner None e f h hs p = good_unended label others inner h hs p
+good_end label others inner (Some found) e f h hs p =
+    record { now = good_formed label.start label.from label.outer found inner h p e f; open_labels = hs }
 
 module _ (context : InlineContext) where
   good_label_end : (content : List ℕ) (inner : Text) (open_labels : List OpenLabel) → IsGood inner → Each (λ (l : OpenLabel). IsGood l.outer) open_labels
       → IsGoodStep (label_end_step context content inner open_labels)
   good_label_end content inner [] p hs = good_read (Item (Data 93) ∷ []) (reading inner []) (refl, tt) (refl, tt) (record { now = p; open_labels = tt })
   good_label_end content inner (label ∷ others) p hs =
-      let found = label_end_at context.is_defined (before label.from content) (drop 1 content) in
+      let between = before label.from content in
+      let found = formed_at context label.start between (drop 1 content) in
       cond_both (may_form label.start inner.holds_link) found None (λ o. IsGoodStep (ended_step label others inner o))
-      (λ e. good_end label others inner found e hs.0 hs.1 p) (λ _. good_unended label others inner hs.0 hs.1 p)
+      (λ e. good_end label others inner found e (fits_at context label.start between (drop 1 content)) hs.0 hs.1 p)
+      (λ _. good_unended label others inner hs.0 hs.1 p)
 
   good_last : (code : ℕ) (content : List ℕ) (r : Reading) → IsGoodReading r → IsGoodStep (last_step context code content r)
   good_last code content r h =
@@ -384,10 +421,51 @@ good_close : (inner : Text) (open_labels : List OpenLabel) → IsGood inner → 
 good_close inner [] p h = p
 good_close inner (label ∷ others) p h = good_close (unformed label inner) others (good_unformed label inner h.0 p) h.1
 
+-- ---- literals
+
+abbrev Any : Inlines → Inlines → Type 0
+Any kids others = Unit {0}
+
+links_and_literals : LacksLiterals is_leading Any
+links_and_literals =
+    record {
+      data_fails = λ b. refl;
+      literal_fails = λ kind text. refl;
+      emphasis = λ kids others h _. refl;
+      strong = λ kids others h _. refl;
+      strikethrough = λ kids others h _. refl;
+      link = λ target kids others h _. h;
+      image = λ target kids others h _. refl;
+      keeps_without = λ kids. tt;
+      keeps_with = λ kids. tt;
+    }
+
+-- what holds no link holds none with its literals
+abbrev HoldsNoMore : Inlines → Inlines → Type 0
+HoldsNoMore kids others = has is_leading kids ≡ false → has is_leading others ≡ false
+
+nesting_and_literals : LacksLiterals is_nesting HoldsNoMore
+nesting_and_literals =
+    record {
+      data_fails = λ b. refl;
+      literal_fails = λ kind text. refl;
+      emphasis = λ kids others h _. refl;
+      strong = λ kids others h _. refl;
+      strikethrough = λ kids others h _. refl;
+      link = λ target kids others h keeps. keeps h;
+      image = λ target kids others h _. refl;
+      keeps_without = λ kids. without_lacks is_leading Any links_and_literals kids;
+      keeps_with = λ kids. with_lacks is_leading Any links_and_literals kids;
+    }
+
+spans_nest_nothing : (context : InlineContext) (content : List InlineCode) → has is_nesting (spans_from context content) ≡ false
+spans_nest_nothing context content =
+    let first : Reading = reading (text [] false) [] in
+    let r : Reading = scan context 0 first content in
+    let h : IsGoodReading r = good_scan context 0 first content (record { now = good_empty; open_labels = tt }) in
+    inside_flat (whole_text r) (good_close r.now r.open_labels h.now h.open_labels)
+
 pub links_hold_no_links : LinksHoldNoLinks
 links_hold_no_links context content =
-    let start = prefix_len (λ (c : InlineCode). is_white c.code) content in
-    let first : Reading = reading (text [] false) [] in
-    let r : Reading = scan context 0 first (drop start content) in
-    let h : IsGoodReading r = good_scan context 0 first (drop start content) (record { now = good_empty; open_labels = tt }) in
-    inside_flat (whole_text r) (good_close r.now r.open_labels h.now h.open_labels)
+    linked_lacks is_nesting HoldsNoMore nesting_and_literals context.options.constructs (spans_from context (unindented content))
+    (spans_nest_nothing context (unindented content))

@@ -2,7 +2,7 @@
 use Rattle.std.specs.Prelude.{◌≡◌, Bool, true, false, ◌||◌, List}
 use Rattle.markdown_options.specs.declared.configuration.Constructs.{Constructs}
 use Rattle.definition_text.specs.InlineCode.{InlineCode}
-use Rattle.definition_inline.specs.Inline.{Inline, Escape, Character, Code, Math, Autolink, Literal, Html, EscapedBreak, TrailingBreak, Emphasis, Strong, Strikethrough, Link, Image, Inlines, Nil, Cons}
+use Rattle.definition_inline.specs.Inline.{Inline, Escape, Character, Code, Math, Autolink, Literal, Html, EscapedBreak, TrailingBreak, Emphasis, Strong, Strikethrough, Link, Image, Call, Inlines, Nil, Cons}
 use Rattle.definition_inline.specs.Scan.{InlineContext, inlines}
 
 -- whether one of these parts passes a test, at any depth
@@ -92,10 +92,16 @@ abbrev pub is_image : Inline → Bool
 is_image (Image target kids) = true
 is_image i = false
 
--- a link or an image (CommonMark 6.3 and 6.4)
+-- a call of a footnote (in neither standard)
+abbrev pub is_call : Inline → Bool
+is_call (Call label) = true
+is_call i = false
+
+-- a link, an image or a call of a footnote (CommonMark 6.3 and 6.4)
 abbrev pub is_labelled : Inline → Bool
 is_labelled (Link target kids) = true
 is_labelled (Image target kids) = true
+is_labelled (Call label) = true
 is_labelled i = false
 
 -- ---- the laws
@@ -152,6 +158,10 @@ NoLinks = Never (λ on. on.label_start_link) is_link
 abbrev pub NoImages : Type 0
 NoImages = Never (λ on. on.label_start_image) is_image
 
--- without ends of labels no link and no image (CommonMark 6.3 and 6.4)
+-- without calls of footnotes none (in neither standard)
+abbrev pub NoCalls : Type 0
+NoCalls = Never (λ on. on.gfm_label_start_footnote) is_call
+
+-- without ends of labels no link, no image and no call of a footnote (CommonMark 6.3 and 6.4)
 abbrev pub NoLabelEnds : Type 0
 NoLabelEnds = Never (λ on. on.label_end) is_labelled

@@ -1,6 +1,6 @@
 //! A construct that is off never occurs, at any depth.
 ghost use Rattle.laws_inline.specs.Occurs.{NoEscapes, NoCharacters, NoCode, NoMath, NoAutolinks, NoLiterals, NoHtml, NoEscapedBreaks};
-ghost use Rattle.laws_inline.specs.Occurs.{NoTrailingBreaks, NoSpans, NoStrikethrough, NoLinks, NoImages, NoLabelEnds};
+ghost use Rattle.laws_inline.specs.Occurs.{NoTrailingBreaks, NoSpans, NoStrikethrough, NoLinks, NoImages, NoCalls, NoLabelEnds};
 
 /// Where backslash escapes are off, no content has one.
 #[tactic(auto, using(crate::proofs::Occurs::no_escapes))]
@@ -80,7 +80,13 @@ pub fn label_start_image_law()
     ensures { NoImages }
 {}
 
-/// Where ends of labels are off, no content has a link or an image.
+/// Where calls of footnotes are off, no content has one.
+#[tactic(auto, using(crate::proofs::Occurs::no_calls))]
+pub fn gfm_label_start_footnote_law()
+    ensures { NoCalls }
+{}
+
+/// Where ends of labels are off, no content has a link, an image or a call of a footnote.
 #[tactic(auto, using(crate::proofs::Occurs::no_label_ends))]
 pub fn label_end_law()
     ensures { NoLabelEnds }

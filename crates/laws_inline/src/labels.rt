@@ -19,7 +19,7 @@ pub fn first_match_law()
     ensures { FirstLabelMatches }
 {}
 
-/// Every reference leads to a label that is defined, at any level of nesting (CommonMark 6.3 and 6.4).
+/// Every reference leads to a label that is defined, and every call to that of a footnote definition, at any level of nesting (CommonMark 6.3 and 6.4).
 #[tactic(auto, using(crate::proofs::References::references_are_defined))]
 pub fn references_law()
     ensures { ReferencesAreDefined }

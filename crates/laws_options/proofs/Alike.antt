@@ -8,9 +8,9 @@ use Rattle.definition_text.specs.BlockLines.{BlockLine}
 use Rattle.definition_text.specs.Columns.{bytes_of, bare}
 use Rattle.definition_text.specs.Lines.{ending_text}
 use Rattle.definition_inline.specs.Inline.{Linked, Inline, Autolink, Literal, Html, Emphasis, Strong, Strikethrough, Link, Image, Inlines, Nil, Cons}
-use Rattle.definition_page.specs.Tags.{Said, Words, EndOfLine, Attribute, attribute, tag, bare_tag}
-use Rattle.definition_page.specs.Pieces.{Piece, Void, Says, Eol, Fresh}
-use Rattle.definition_page.specs.InlinePieces.{Meaning, link_url, image_url, url_of, title_attribute, address, literal_address, raw_html, HtmlLine, html_lines, html_line_says, later_line_says, html_lines_say, leads_to, link_tag, image_tag, part_says, description, element, part_pieces, inline_pieces}
+use Rattle.definition_page.specs.Tags.{Said, Words, EndOfLine, Attribute, attribute, Tag, tag, bare_tag}
+use Rattle.definition_page.specs.Pieces.{Piece, Void, Says, Eol, Fresh, NoteStart, NoteEnd}
+use Rattle.definition_page.specs.InlinePieces.{Meaning, link_url, image_url, url_of, title_attribute, address, literal_address, raw_html, HtmlLine, html_lines, html_line_says, later_line_says, html_lines_say, leads_to, link_tag, image_tag, part_says, description, part_counts, inline_counts, element, part_pieces, inline_pieces}
 use Rattle.definition_block.specs.declared.align_kind.AlignKind.{AlignKind}
 use Rattle.definition_page.specs.GfmTable.{Table, TableRow, align_attributes, cell_pieces, cells_pieces, row_pieces, ending_piece, body_row_pieces, head_pieces, body_pieces, table_pieces}
 use Rattle.definition_page.specs.Page as page
@@ -72,6 +72,19 @@ module _ (m : Meaning) (compile : CompileOptions) (alike : Alike compile m.compi
       ap (λ url. tag (codes "img") (attribute (codes "src") url ∷ description ∷ title_attribute m target.title)) (alike.image (url_of m target))
 
   mutual
+    same_part_counts : (i : Inline) → part_counts other i ≡ part_counts m i
+    same_part_counts (Emphasis kids) = same_counts kids
+    same_part_counts (Strong kids) = same_counts kids
+    same_part_counts (Strikethrough kids) = same_counts kids
+    same_part_counts (Link target kids) = same_counts kids
+    same_part_counts (Image target kids) = same_counts kids
+    same_part_counts i = refl
+
+    same_counts : (is : Inlines) → inline_counts other is ≡ inline_counts m is
+    same_counts Nil = refl
+    same_counts (Cons i is) = ap (λ ps. ps ++ inline_counts other is) (same_part_counts i) ∙ ap (λ ps. part_counts m i ++ ps) (same_counts is)
+
+  mutual
     same_part : (i : Inline) → part_pieces other i ≡ part_pieces m i
     same_part (Autolink is_email text) =
         ap (λ url. element (tag (codes "a") (attribute (codes "href") url ∷ [])) (Says (Words text) ∷ [])) (alike.link (address is_email text))
@@ -85,8 +98,10 @@ module _ (m : Meaning) (compile : CompileOptions) (alike : Alike compile m.compi
         ap (λ t. element t (inline_pieces other kids)) (same_link_tag (leads_to m.definition target))
         ∙ ap (element (link_tag m (leads_to m.definition target))) (same_inlines kids)
     same_part (Image target kids) =
-        ap (λ t. Void t ∷ []) (same_image_tag (leads_to m.definition target) (description compile kids))
-        ∙ ap (λ said. Void (image_tag m (leads_to m.definition target) said) ∷ []) (same_description kids)
+        let image : List Said → Tag = image_tag m (leads_to m.definition target) in
+        ap (λ t. Void t ∷ inline_counts other kids) (same_image_tag (leads_to m.definition target) (description compile kids))
+        ∙ ap (λ said. Void (image said) ∷ inline_counts other kids) (same_description kids)
+        ∙ ap (λ counts. Void (image (description m.compile kids)) ∷ counts) (same_counts kids)
     same_part i = refl
 
     same_inlines : (is : Inlines) → inline_pieces other is ≡ inline_pieces m is
@@ -106,8 +121,12 @@ module _ (m : Meaning) (compile : CompileOptions) (alike : Alike compile m.compi
   same_cell : (name : List ℕ) (align : AlignKind) (c : Inlines) → cell_pieces other name align c ≡ cell_pieces m name align c
   same_cell name align c = ap (λ ps. Fresh ∷ element (tag name (align_attributes align)) ps) (same_inlines c)
 
+  same_beyond : (cells : List Inlines) → flat_map (inline_counts other) cells ≡ flat_map (inline_counts m) cells
+  same_beyond [] = refl
+  same_beyond (c ∷ cs) = ap (λ ps. ps ++ flat_map (inline_counts other) cs) (same_counts c) ∙ ap (λ ps. inline_counts m c ++ ps) (same_beyond cs)
+
   same_cells : (name : List ℕ) (aligns : List AlignKind) (cells : List Inlines) → cells_pieces other name aligns cells ≡ cells_pieces m name aligns cells
-  same_cells name [] cells = refl
+  same_cells name [] cells = same_beyond cells
   same_cells name (align ∷ aligns) [] = ap (λ ps. cell_pieces m name align Nil ++ ps) (same_cells name aligns [])
   same_cells name (align ∷ aligns) (c ∷ cs) =
       ap (λ ps. ps ++ cells_pieces other name aligns cs) (same_cell name align c) ∙ ap (λ ps. cell_pieces m name align c ++ ps) (same_cells name aligns cs)
@@ -161,6 +180,7 @@ module _ (m : Meaning) (compile : CompileOptions) (alike : Alike compile m.compi
     same_block place before (page.Item kids) =
         ap (λ ps. Fresh ∷ element (bare_tag (codes "li")) (ps ++ fresh_unless (ends_plainly place.tight (last_shown None kids))))
         (same_children (inside place.tight) None kids)
+    same_block place before (page.Footnote label kids) = ap (λ ps. NoteStart ∷ ps ++ NoteEnd ∷ []) (same_children (inside false) None kids)
     same_block place before b = refl
 
     same_children : (place : Place) (before : Option page.Block) (bs : page.Blocks) → children_pieces other place before bs ≡ children_pieces m place before bs

@@ -3,7 +3,7 @@ use Rattle.std.proofs.Common.{◌≡◌, ℕ, Bool, true, false, cond, ◌&&◌,
 use Rattle.std.proofs.lemmas.Bool.{cond_both}
 use Rattle.markdown_options.specs.declared.line_ending.LineEnding.{LineEnding}
 use Rattle.definition_text.specs.BlockLines.{BlockLine}
-use Rattle.definition_text.specs.InlineCode.{InlineCode, codes_of}
+use Rattle.definition_text.specs.InlineCode.{codes_of}
 use Rattle.definition_text.specs.Lines.{without_mark, kind_before_text}
 use Rattle.definition_inline.specs.GfmTaskListItem.{check_of, check_at}
 use Rattle.definition_inline.specs.Scan.{unindented}
@@ -13,8 +13,8 @@ use Rattle.definition_block.specs.Tree.{blocks}
 use Rattle.definition_block.specs.Lists.{grouped}
 use Rattle.definition_page.specs.Page as page
 use Rattle.definition_page.specs.Page.{cons_ending, cons_blank}
-use Rattle.definition_page.specs.Read.{Reading, Standing, on_page, in_container, in_item, next_standing, text_content, checked_paragraph, read_paragraph, without_ending, after_code, read_block, read_blocks, read}
-use Rattle.laws_options.specs.GfmTaskListItem.{IsUnchecked, HasNoCheck, HaveNoChecks, TaskListItemOffLaw}
+use Rattle.definition_page.specs.Read.{Reading, Standing, on_page, in_container, in_item, next_standing, text_content, checked_paragraph, read_paragraph, without_ending, after_code, read_block, read_blocks}
+use Rattle.laws_options.specs.GfmTaskListItem.{HasNoCheck, HaveNoChecks, TaskListItemOffLaw}
 
 unchecked_rest : (bs : page.Blocks) → HaveNoChecks bs → HaveNoChecks (without_ending bs)
 unchecked_rest (page.Cons (page.Ending ending) bs) p = p.1

@@ -1,3 +1,5 @@
 pub mod Alike
+pub mod Layouts
+pub mod GfmFootnoteDefinition
 pub mod SamePages
 pub mod GfmTaskListItem

@@ -9,30 +9,33 @@ use Rattle.markdown_options.specs.LineEndings.{ending_bytes}
 use Rattle.definition_text.specs.Lines.{without_mark, first_line}
 use Rattle.definition_page.specs.TextTables.{TextTables}
 use Rattle.definition_page.specs.Urls.{src_protocols}
-use Rattle.definition_page.specs.Pieces.{layout}
 use Rattle.definition_page.specs.InlinePieces.{permitted_url}
 use Rattle.definition_page.specs.DocumentPieces.{meaning_of, pieces, default_ending}
 use Rattle.definition_page.specs.Page.{Page}
 use Rattle.definition_page.specs.Read.{read}
+use Rattle.definition_page.specs.Layout.{page_layout}
 use Rattle.definition_page.specs.Html.{html}
 use Rattle.laws_options.specs.Laws.{printing_by, TagfilterLaw, ImageSourceLaw, DefaultEndingLaw}
 use Rattle.laws_options.proofs.Alike.{Alike, same_document}
+use Rattle.laws_options.proofs.Layouts.{CallAlike, same_layout}
 
--- options that print alike, and add the same endings
+-- options that print alike, call alike, and add the same endings
 same_page : (tables : TextTables) (text : List ℕ) (options : Options) (compile : CompileOptions) → Alike compile options.compile
-    → default_ending (printing_by compile options) (without_mark text) ≡ default_ending options (without_mark text)
+    → CallAlike compile options.compile → default_ending (printing_by compile options) (without_mark text) ≡ default_ending options (without_mark text)
     → html tables text (printing_by compile options) ≡ html tables text options
-same_page tables text options compile alike ending =
+same_page tables text options compile alike call ending =
     let page : Page = read tables options.parse text in
-    ap (λ default. layout default (pieces tables (printing_by compile options) page)) ending
-    ∙ ap (layout (default_ending options (without_mark text))) (same_document (meaning_of tables options page) compile alike page)
+    let default = default_ending options (without_mark text) in
+    ap (λ default. page_layout compile default (pieces tables (printing_by compile options) page)) ending
+    ∙ ap (page_layout compile default) (same_document (meaning_of tables options page) compile alike page)
+    ∙ same_layout compile options.compile call default (pieces tables options page)
 
 pub tagfilter_law : TagfilterLaw
 tagfilter_law tables text options filter off =
     let raw = options.compile.allow_dangerous_html in
     let alike : Alike (record options.compile { gfm_tagfilter = filter }) options.compile =
     record { checkable = refl; raw = λ html. cond-false raw _ _ off ∙ sym (cond-false raw _ _ off); link = λ url. refl; image = λ url. refl } in
-    same_page tables text options (record options.compile { gfm_tagfilter = filter }) alike refl
+    same_page tables text options (record options.compile { gfm_tagfilter = filter }) alike (record { call = λ c. refl; section = λ notes. refl }) refl
 
 pub image_source_law : ImageSourceLaw
 image_source_law tables text options any on =
@@ -40,7 +43,7 @@ image_source_law tables text options any on =
     let same = or_right any all on ∙ sym (or_right options.compile.allow_any_img_src all on) in
     let alike : Alike (record options.compile { allow_any_img_src = any }) options.compile =
     record { checkable = refl; raw = λ html. refl; link = λ url. refl; image = λ url. ap (λ p. permitted_url p src_protocols url) same } in
-    same_page tables text options (record options.compile { allow_any_img_src = any }) alike refl
+    same_page tables text options (record options.compile { allow_any_img_src = any }) alike (record { call = λ c. refl; section = λ notes. refl }) refl
 
 same_or : (o : Option LineEnding) (a b : LineEnding) → is_some o ≡ true → unwrap_or o a ≡ unwrap_or o b
 same_or None a b none = absurd (false≢true none)
@@ -51,4 +54,5 @@ default_ending_law tables text options ending has =
     let same = same_or (first_line (without_mark text)).ending ending options.compile.default_line_ending has in
     let alike : Alike (record options.compile { default_line_ending = ending }) options.compile =
     record { checkable = refl; raw = λ html. refl; link = λ url. refl; image = λ url. refl } in
-    same_page tables text options (record options.compile { default_line_ending = ending }) alike (ap ending_bytes same)
+    same_page tables text options (record options.compile { default_line_ending = ending }) alike
+    (record { call = λ c. refl; section = λ notes. refl }) (ap ending_bytes same)

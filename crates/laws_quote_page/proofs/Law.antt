@@ -13,14 +13,17 @@ use Rattle.definition_block.specs.Tree as tree
 use Rattle.definition_block.specs.Lists.{grouped}
 use Rattle.definition_inline.specs.Definition.{Definition}
 use Rattle.definition_page.specs.TextTables.{TextTables}
-use Rattle.definition_page.specs.Targets.{document_definitions, is_label_of, linked_by, spaced}
+use Rattle.definition_page.specs.Targets.{targets, document_definitions, linked_by, spaced}
 use Rattle.definition_page.specs.Tags.{end_tag}
 use Rattle.definition_page.specs.Pieces.{Close, Fresh, layout}
 use Rattle.definition_page.specs.InlinePieces.{Meaning}
 use Rattle.definition_page.specs.BlockPieces.{at_top, inside, fresh_unless, children_pieces}
 use Rattle.definition_page.specs.DocumentPieces.{pieces, default_ending}
+use Rattle.definition_page.specs.Read as read
 use Rattle.definition_page.specs.Read.{Reading, on_page, in_container, read_blocks, ends_blank, page_with, read_after}
 use Rattle.definition_page.specs.Html.{html}
+use Rattle.definition_page.specs.Layout.{page_layout}
+use Rattle.definition_page.proofs.PlainLayout.{plain_page}
 use Rattle.laws_quote.specs.Quoted.{quoted}
 use Rattle.laws_quote.specs.Laws.{quoted_line, quote_of}
 use Rattle.laws_quote.proofs.Tabs.{Tabless-from_All, Tabless-to_All, quoted_tabless}
@@ -31,6 +34,7 @@ use Rattle.laws_quote_page.specs.Squeeze.{Squeezed, squeezed, with_byte, with_by
 use Rattle.laws_quote_page.specs.Laws.{IsQuotable, quote_around, QuotePageLaw, QuotePagesLaw}
 use Rattle.laws_quote_page.proofs.Bytes.{after_text, bytes_after_text}
 use Rattle.laws_quote_page.proofs.Printed.{with_piece, with_pieces, pieces_printed, pieces_after_text, kept_at_fresh}
+use Rattle.laws_quote_page.proofs.PlainPages.{HaveNoNotes, text_without_notes, no_labels, document_plain}
 use Rattle.laws_quote_page.proofs.Lists.{grouped-join}
 use Rattle.laws_quote_page.proofs.Siblings.{print_siblings, same_in_quote, keep_join}
 
@@ -54,21 +58,28 @@ squeeze_around bytes =
     ∙ ap (λ s. (with_bytes s quote_end).kept)
     (fold-append with_byte nothing_yet start bytes ∙ bytes_after_text start bytes nothing_yet)
 
--- ---- the page of children of a document, with these definitions
+-- ---- the page of children of a document, with these definitions and no footnotes
 
 module _ (tables : TextTables) (options : Options) (default : LineEnding) (ds : List Definition) where
   abbrev pub reading : Reading
-  reading = record { options = options.parse; tables = tables; is_defined = is_label_of ds }
+  reading = read.reading tables options.parse (targets ds [])
 
   abbrev pub meaning : Meaning
-  meaning = record { on = options.parse.constructs; compile = options.compile; names = tables.names; definition = linked_by ds }
+  meaning = record { on = options.parse.constructs; compile = options.compile; names = tables.names; definition = linked_by ds; footnotes = [] }
 
   abbrev pub page_bytes : tree.Blocks → List ℕ
-  page_bytes bs = layout (ending_bytes default) (pieces tables options (page_with tables options.parse ds bs))
+  page_bytes bs = layout (ending_bytes default) (pieces tables options (page_with tables options.parse (targets ds []) bs))
 
   -- children in a quote, squeezed
   abbrev pub squeezed_kids : tree.Blocks → Squeezed
   squeezed_kids bs = print_siblings default meaning (inside false) None (read_blocks reading in_container (grouped bs)) nothing_yet
+
+  -- it is laid out piece by piece
+  pub laid_out : (bs : tree.Blocks) → HaveNoNotes bs
+      → page_layout options.compile (ending_bytes default) (pieces tables options (page_with tables options.parse (targets ds []) bs)) ≡ page_bytes bs
+  laid_out bs p =
+      plain_page options.compile (ending_bytes default) (pieces tables options (page_with tables options.parse (targets ds []) bs))
+      (document_plain meaning refl reading bs (not (ends_blank false bs)) p)
 
   last_line : (said : Bool) (s : Squeezed) → (with_pieces default s (fresh_unless said)).kept ≡ s.kept
   last_line true s = refl
@@ -135,15 +146,23 @@ added_ending-quoted options text =
     ap (λ ls. unwrap_or (first_of ls).ending options.compile.default_line_ending) (quoted_lines_law text)
     ∙ ap (λ ending. unwrap_or ending options.compile.default_line_ending) (first_ending (lines text))
 
--- the page of a text without a byte order mark
-pub html_unmarked : (tables : TextTables) (text : List ℕ) (options : Options) → has_mark text ≡ false
+-- the page of a text without a byte order mark and without footnotes
+pub html_unmarked : (tables : TextTables) (text : List ℕ) (options : Options) → has_mark text ≡ false → options.parse.constructs.gfm_footnote_definition ≡ false
     → let kids = tree.blocks options.parse.constructs Whitespace text in
     html tables text options ≡ page_bytes tables options (added_ending options text) (document_definitions kids) kids
-html_unmarked tables text options unmarked =
+html_unmarked tables text options unmarked off =
+    let kids = tree.blocks options.parse.constructs Whitespace text in
+    let default = added_ending options text in
+    let none = text_without_notes options.parse.constructs off Whitespace text in
     ap (λ mark.
     let bytes = if mark then drop 3 text else text in
-    layout (default_ending options bytes) (pieces tables options (read_after (if mark then Other else Whitespace) tables options.parse bytes)))
+    page_layout options.compile (default_ending options bytes)
+    (pieces tables options (read_after (if mark then Other else Whitespace) tables options.parse bytes)))
     unmarked
+    ∙ ap (λ labels.
+    page_layout options.compile (ending_bytes default) (pieces tables options (page_with tables options.parse (targets (document_definitions kids) labels) kids)))
+    (no_labels kids none)
+    ∙ laid_out tables options default (document_definitions kids) kids none
 
 marked_unmarked : (text : List ℕ) → has_mark (quoted text) ≡ false
 marked_unmarked [] = refl
@@ -157,12 +176,12 @@ quote_page_law tables text options h =
     let default = added_ending options text in
     let print = page_bytes tables options in
     ap squeeze
-    (html_unmarked tables (quoted text) options (marked_unmarked text)
+    (html_unmarked tables (quoted text) options (marked_unmarked text) h.5
     ∙ ap (λ ending. print ending (document_definitions quote) quote) (added_ending-quoted options text)
     ∙ ap (λ ds. print default (map spaced ds) quote) (quote_definitions_law on Whitespace text h.3 h.4 h.1)
     ∙ ap (print default (document_definitions kids)) (quote_law on Whitespace text h.3 h.4 h.0 h.1))
     ∙ squeeze_both tables options default (document_definitions kids) kids
-    ∙ sym (ap (λ bytes. squeeze (quote_around bytes)) (html_unmarked tables text options h.2))
+    ∙ sym (ap (λ bytes. squeeze (quote_around bytes)) (html_unmarked tables text options h.2 h.5))
 
 -- ---- `> ` n times
 

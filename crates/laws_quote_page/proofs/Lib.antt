@@ -4,3 +4,4 @@ pub mod Bytes
 pub mod Printed
 pub mod Law
 pub mod Rows
+pub mod PlainPages

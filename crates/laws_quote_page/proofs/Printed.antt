@@ -7,7 +7,7 @@ use Rattle.markdown_options.specs.declared.line_ending.LineEnding.TheVariants.{C
 use Rattle.markdown_options.specs.LineEndings.{ending_bytes}
 use Rattle.definition_text.specs.Lines.{ending_text}
 use Rattle.definition_page.specs.Tags.{Words, said_bytes, start_tag, end_tag, void_tag}
-use Rattle.definition_page.specs.Pieces.{Piece, Open, Close, Void, Says, Eol, Fresh, is_fresh, print}
+use Rattle.definition_page.specs.Pieces.{Piece, Open, Close, Void, Says, Eol, Fresh, CallOf, CountOf, NoteStart, NoteEnd, is_fresh, print}
 use Rattle.laws_quote_page.specs.Squeeze.{Squeezed, with_byte, with_bytes, nothing_yet}
 use Rattle.laws_quote_page.proofs.Bytes.{kept_at_ending, dropped_ending, after_text, bytes_after_text, IsFreshBy, fresh_by}
 
@@ -25,6 +25,10 @@ with_piece default s (Void t) = with_bytes s (void_tag t)
 with_piece default s (Says said) = with_bytes s (said_bytes said)
 with_piece default s Eol = with_bytes s (ending_bytes default)
 with_piece default s Fresh = with_fresh default s s.run
+with_piece default s (CallOf place label) = s
+with_piece default s (CountOf place label) = s
+with_piece default s NoteStart = s
+with_piece default s NoteEnd = s
 
 abbrev pub with_pieces : LineEnding → Squeezed → List Piece → Squeezed
 with_pieces default s ps = fold (with_piece default) s ps
@@ -50,6 +54,10 @@ module _ (default : LineEnding) where
   piece_printed out (Says said) = bytes_append out (said_bytes said)
   piece_printed out Eol = bytes_append out (ending_bytes default)
   piece_printed out Fresh = fresh_printed out (with_bytes nothing_yet out).run (is_fresh out) refl (fresh_by out)
+  piece_printed out (CallOf place label) = refl
+  piece_printed out (CountOf place label) = refl
+  piece_printed out NoteStart = refl
+  piece_printed out NoteEnd = refl
 
   pub pieces_printed : (ps : List Piece) (out : List ℕ)
       → with_bytes nothing_yet (fold (print (ending_bytes default)) out ps) ≡ with_pieces default (with_bytes nothing_yet out) ps
@@ -72,6 +80,10 @@ module _ (default : LineEnding) where
   piece_after_text text s (Says said) = bytes_after_text text (said_bytes said) s
   piece_after_text text s Eol = bytes_after_text text (ending_bytes default) s
   piece_after_text text s Fresh = fresh_after_text text s s.run
+  piece_after_text text s (CallOf place label) = refl
+  piece_after_text text s (CountOf place label) = refl
+  piece_after_text text s NoteStart = refl
+  piece_after_text text s NoteEnd = refl
 
   pub pieces_after_text : (text : List ℕ) (ps : List Piece) (s : Squeezed)
       → with_pieces default (after_text text s) ps ≡ after_text text (with_pieces default s ps)

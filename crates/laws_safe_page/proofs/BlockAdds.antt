@@ -1,6 +1,7 @@
 -- What the blocks of a page print adds a safe page.
-use Rattle.std.proofs.Common.{◌≡◌, ℕ, Bool, true, false, eqb, ◌||◌, not, List, [], ◌∷◌, ◌++◌, Option, None, Some, codes, sym, refl, subst, inl, inr}
-use Rattle.std.specs.List.{flat_map}
+use Rattle.std.proofs.Common.{◌≡◌, ℕ, zero, suc, map, Bool, true, false, eqb, ◌||◌, not, List, [], ◌∷◌, ◌++◌, Option, None, Some, codes, sym, refl, subst, inl, inr}
+use Rattle.std.specs.Prelude.{slice_index_or}
+use Rattle.std.specs.List.{fold, flat_map}
 use Rattle.std.proofs.lemmas.Bool.{cond_both, or_cases, eqb-true}
 use Rattle.markdown_options.specs.declared.line_ending.LineEnding.{LineEnding}
 use Rattle.markdown_options.specs.declared.line_ending.LineEnding.TheVariants.{CarriageReturnLineFeed, CarriageReturn, LineFeed}
@@ -13,20 +14,24 @@ use Rattle.definition_block.specs.declared.align_kind.AlignKind.{AlignKind}
 use Rattle.definition_block.specs.declared.align_kind.AlignKind.TheVariants as kind
 use Rattle.definition_page.specs.GfmTable.{TableRow, Table as TableOf, align_attributes, cell_pieces, cells_pieces, row_pieces, ending_piece, body_row_pieces, head_pieces, body_pieces, table_pieces}
 use Rattle.definition_page.specs.Tags.{Words, Number, Tag, tag, bare_tag, attribute}
-use Rattle.definition_page.specs.Pieces.{Piece, Void, Says, Eol, Fresh, layout}
+use Rattle.definition_page.specs.Pieces.{Piece, Void, Says, Eol, Fresh}
 use Rattle.definition_page.specs.Page.{Page, Block, Paragraph, Heading, Break, IndentedCode, FencedCode, Html, Table, Definition, Quote, ItemList, Item, Footnote, Ending, Blank, Blocks, Nil as NoBlocks, Cons}
-use Rattle.definition_page.specs.InlinePieces.{Meaning, element, inline_pieces}
+use Rattle.definition_page.specs.InlinePieces.{Meaning, inline_counts, element, inline_pieces}
+use Rattle.definition_page.specs.GfmFootnoteDefinition.{Footnote as NoteWithCalls}
+use Rattle.definition_page.specs.Layout.{laid, lay, note_of, page_layout}
 use Rattle.definition_page.specs.BlockPieces.{checkable_attributes, done_attributes, check_tag, check_pieces, Place, at_top, inside, code_line, html_line, says, heading_name, info_attributes, list_tag, is_silent, last_shown, ends_plainly, fresh_unless, fenced_pieces, block_pieces, children_pieces, document_pieces}
 use Rattle.html_safe_page.specs.Table.{start_rows, void_rows}
 use Rattle.html_safe_page.specs.SafePage.{IsSafePage}
 use Rattle.html_safe_page.proofs.Closing.{closed}
 use Rattle.laws_safe_page.specs.SafeHtml.{AreSafe}
-use Rattle.laws_safe_page.proofs.Values.{IsTextPart, value_spelled}
-use Rattle.laws_safe_page.proofs.Each.{Each, each_flat_map}
+use Rattle.laws_safe_page.proofs.Values.{IsText, IsTextPart, value_spelled}
+use Rattle.laws_safe_page.proofs.Each.{Each, each_map, each_flat_map}
 use Rattle.laws_safe_page.proofs.Tags.{IsTag}
-use Rattle.laws_safe_page.proofs.Pieces.{Adds, adds_nothing, adds_append, adds_says, adds_void, adds_element, adds_parts, adds_eol, adds_fresh, page_of_pieces}
+use Rattle.laws_safe_page.proofs.Pieces.{both_after}
+use Rattle.laws_safe_page.proofs.Lays.{IsPrinted, Lays, lays_nothing, lays_append, lays_says, lays_void, lays_parts, lays_element, lays_eol, lays_fresh, lays_note}
 use Rattle.laws_safe_page.proofs.Links.{words_text}
-use Rattle.laws_safe_page.proofs.InlineAdds.{AllEndLines, html_is_text, inline_adds}
+use Rattle.laws_safe_page.proofs.Footnotes.{section_adds}
+use Rattle.laws_safe_page.proofs.InlineAdds.{AllEndLines, html_is_text, counts_lay, inline_adds}
 
 -- ---- what a page holds
 
@@ -127,148 +132,172 @@ body_cell_is_tag kind.Right = ((words_text (codes "right"), tt), refl)
 body_cell_is_tag kind.Center = ((words_text (codes "center"), tt), refl)
 body_cell_is_tag kind.None = (tt, refl)
 
-pub ending_is_safe : (ending : LineEnding) → IsSafePage (ending_bytes ending)
-ending_is_safe CarriageReturnLineFeed = closed.both
-ending_is_safe CarriageReturn = closed.carriage_return
-ending_is_safe LineFeed = closed.line_feed
+pub ending_is_text : (ending : LineEnding) → IsText (ending_bytes ending)
+ending_is_text CarriageReturnLineFeed = (13 ∷ 10 ∷ [], refl, refl)
+ending_is_text CarriageReturn = (13 ∷ [], refl, refl)
+ending_is_text LineFeed = (10 ∷ [], refl, refl)
 
 -- ---- pieces
 
-module _ (default : List ℕ) (ending : IsSafePage default) (m : Meaning) (safe : AreSafe m.compile) where
-  fresh_line : (pieces : List Piece) → Adds default pieces → Adds default (Fresh ∷ pieces)
-  fresh_line pieces p = adds_append default (Fresh ∷ []) pieces (adds_fresh default ending) p
+module _ (default : List ℕ) (ending : IsText default) (m : Meaning) (safe : AreSafe m.compile) where
+  fresh_line : (pieces : List Piece) → Lays m.compile default pieces → Lays m.compile default (Fresh ∷ pieces)
+  fresh_line pieces p = lays_append m.compile default (Fresh ∷ []) pieces (lays_fresh m.compile default ending) p
 
-  and_fresh : (pieces : List Piece) → Adds default pieces → Adds default (pieces ++ Fresh ∷ [])
-  and_fresh pieces p = adds_append default pieces (Fresh ∷ []) p (adds_fresh default ending)
+  and_fresh : (pieces : List Piece) → Lays m.compile default pieces → Lays m.compile default (pieces ++ Fresh ∷ [])
+  and_fresh pieces p = lays_append m.compile default pieces (Fresh ∷ []) p (lays_fresh m.compile default ending)
 
-  adds_fresh_unless : (said : Bool) → Adds default (fresh_unless said)
-  adds_fresh_unless said = cond_both said [] (Fresh ∷ []) (Adds default) (λ _. adds_nothing default) (λ _. adds_fresh default ending)
+  adds_fresh_unless : (said : Bool) → Lays m.compile default (fresh_unless said)
+  adds_fresh_unless said =
+      cond_both said [] (Fresh ∷ []) (Lays m.compile default) (λ _. lays_nothing m.compile default) (λ _. lays_fresh m.compile default ending)
 
   -- an element that begins a line
-  block_element : (t : Tag) (pieces : List Piece) → IsTag start_rows t → Adds default pieces → Adds default (Fresh ∷ element t pieces)
-  block_element t pieces i p = fresh_line (element t pieces) (adds_element default t pieces i p)
+  block_element : (t : Tag) (pieces : List Piece) → IsTag start_rows t → Lays m.compile default pieces → Lays m.compile default (Fresh ∷ element t pieces)
+  block_element t pieces i p = fresh_line (element t pieces) (lays_element m.compile default t pieces i p)
 
-  code_adds : (ls : List BlockLine) → Adds default (says (flat_map code_line ls))
-  code_adds ls = adds_parts default (flat_map code_line ls) (each_flat_map IsTextPart code_line ls (λ line. (tt, (tt, tt))))
+  code_adds : (ls : List BlockLine) → Lays m.compile default (says (flat_map code_line ls))
+  code_adds ls = lays_parts m.compile default (flat_map code_line ls) (each_flat_map IsTextPart code_line ls (λ line. (tt, (tt, tt))))
 
-  fenced_adds : (place : Place) (is_closed : Bool) (ls : List BlockLine) → Adds default (fenced_pieces place is_closed ls)
-  fenced_adds place is_closed [] = adds_nothing default
+  fenced_adds : (place : Place) (is_closed : Bool) (ls : List BlockLine) → Lays m.compile default (fenced_pieces place is_closed ls)
+  fenced_adds place is_closed [] = lays_nothing m.compile default
   fenced_adds place is_closed (line ∷ others) =
       and_fresh (says (flat_map code_line (line ∷ others)) ++ _)
-      (adds_append default (says (flat_map code_line (line ∷ others))) _ (code_adds (line ∷ others))
-      (cond_both (place.top || is_closed) [] (Eol ∷ []) (Adds default) (λ _. adds_nothing default) (λ _. adds_eol default ending)))
+      (lays_append m.compile default (says (flat_map code_line (line ∷ others))) _ (code_adds (line ∷ others))
+      (cond_both (place.top || is_closed) [] (Eol ∷ []) (Lays m.compile default) (λ _. lays_nothing m.compile default)
+      (λ _. lays_eol m.compile default ending)))
 
-  check_adds : (check : Option Bool) → Adds default (check_pieces m.compile check)
-  check_adds None = adds_nothing default
-  check_adds (Some done) = adds_void default (check_tag m.compile done) (check_is_tag m.compile.gfm_task_list_item_checkable done)
+  check_adds : (check : Option Bool) → Lays m.compile default (check_pieces m.compile check)
+  check_adds None = lays_nothing m.compile default
+  check_adds (Some done) = lays_void m.compile default (check_tag m.compile done) (check_is_tag m.compile.gfm_task_list_item_checkable done)
 
   -- the cells of a row
   module _ (name : List ℕ) (is_tag : (align : AlignKind) → IsTag start_rows (tag name (align_attributes align))) where
-    cell_adds : (align : AlignKind) (c : Inlines) → AllEndLines c → Adds default (cell_pieces m name align c)
+    cell_adds : (align : AlignKind) (c : Inlines) → AllEndLines c → Lays m.compile default (cell_pieces m name align c)
     cell_adds align c h = block_element (tag name (align_attributes align)) (inline_pieces m c) (is_tag align) (inline_adds default m safe c h)
 
-    cells_add : (aligns : List AlignKind) (cells : List Inlines) → CellsEndLines cells → Adds default (cells_pieces m name aligns cells)
-    cells_add [] cells h = adds_nothing default
+    cells_add : (aligns : List AlignKind) (cells : List Inlines) → CellsEndLines cells → Lays m.compile default (cells_pieces m name aligns cells)
+    cells_add [] [] h = lays_nothing m.compile default
+    cells_add [] (c ∷ cs) h =
+        lays_append m.compile default (inline_counts m c) (flat_map (inline_counts m) cs) (counts_lay default m c) (cells_add [] cs h.1)
     cells_add (align ∷ aligns) [] h =
-        adds_append default (cell_pieces m name align Nil) (cells_pieces m name aligns []) (cell_adds align Nil tt) (cells_add aligns [] tt)
+        lays_append m.compile default (cell_pieces m name align Nil) (cells_pieces m name aligns []) (cell_adds align Nil tt) (cells_add aligns [] tt)
     cells_add (align ∷ aligns) (c ∷ cs) h =
-        adds_append default (cell_pieces m name align c) (cells_pieces m name aligns cs) (cell_adds align c h.0) (cells_add aligns cs h.1)
+        lays_append m.compile default (cell_pieces m name align c) (cells_pieces m name aligns cs) (cell_adds align c h.0) (cells_add aligns cs h.1)
 
-    row_adds : (aligns : List AlignKind) (row : TableRow) → CellsEndLines row.cells → Adds default (row_pieces m name aligns row)
+    row_adds : (aligns : List AlignKind) (row : TableRow) → CellsEndLines row.cells → Lays m.compile default (row_pieces m name aligns row)
     row_adds aligns row h =
         let cells = cells_pieces m name aligns row.cells in
         block_element (bare_tag (codes "tr")) (cells ++ Fresh ∷ []) row_is_tag (and_fresh cells (cells_add aligns row.cells h))
 
-  ending_adds : (ending : Option LineEnding) → Adds default (ending_piece ending ∷ [])
-  ending_adds ending = adds_says default (Words (ending_text ending)) tt
+  ending_adds : (ending : Option LineEnding) → Lays m.compile default (ending_piece ending ∷ [])
+  ending_adds ending = lays_says m.compile default (Words (ending_text ending)) tt
 
   -- tables
-  body_rows_add : (aligns : List AlignKind) (rows : List TableRow) → RowsEndLines rows → Adds default (flat_map (body_row_pieces m aligns) rows)
-  body_rows_add aligns [] h = adds_nothing default
+  body_rows_add : (aligns : List AlignKind) (rows : List TableRow) → RowsEndLines rows → Lays m.compile default (flat_map (body_row_pieces m aligns) rows)
+  body_rows_add aligns [] h = lays_nothing m.compile default
   body_rows_add aligns (row ∷ rows) h =
-      adds_append default (body_row_pieces m aligns row) (flat_map (body_row_pieces m aligns) rows)
-      (adds_append default (row_pieces m (codes "td") aligns row) (ending_piece row.ending ∷ []) (row_adds (codes "td") body_cell_is_tag aligns row h.0)
+      lays_append m.compile default (body_row_pieces m aligns row) (flat_map (body_row_pieces m aligns) rows)
+      (lays_append m.compile default (row_pieces m (codes "td") aligns row) (ending_piece row.ending ∷ [])
+      (row_adds (codes "td") body_cell_is_tag aligns row h.0)
       (ending_adds row.ending))
       (body_rows_add aligns rows h.1)
 
-  body_adds : (aligns : List AlignKind) (ending : Option LineEnding) (rows : List TableRow) → RowsEndLines rows → Adds default (body_pieces m aligns ending rows)
-  body_adds aligns ending [] h = adds_nothing default
+  body_adds : (aligns : List AlignKind) (ending : Option LineEnding) (rows : List TableRow) → RowsEndLines rows
+      → Lays m.compile default (body_pieces m aligns ending rows)
+  body_adds aligns ending [] h = lays_nothing m.compile default
   body_adds aligns ending (row ∷ rows) h =
       let all = flat_map (body_row_pieces m aligns) (row ∷ rows) ++ Fresh ∷ [] in
-      adds_append default (ending_piece ending ∷ []) (element (bare_tag (codes "tbody")) all) (ending_adds ending)
-      (adds_element default (bare_tag (codes "tbody")) all body_is_tag (and_fresh (flat_map (body_row_pieces m aligns) (row ∷ rows)) (body_rows_add aligns (row ∷ rows) h)))
+      lays_append m.compile default (ending_piece ending ∷ []) (element (bare_tag (codes "tbody")) all) (ending_adds ending)
+      (lays_element m.compile default (bare_tag (codes "tbody")) all body_is_tag
+      (and_fresh (flat_map (body_row_pieces m aligns) (row ∷ rows)) (body_rows_add aligns (row ∷ rows) h)))
 
-  head_adds : (aligns : List AlignKind) (head : TableRow) → CellsEndLines head.cells → Adds default (head_pieces m aligns head)
+  head_adds : (aligns : List AlignKind) (head : TableRow) → CellsEndLines head.cells → Lays m.compile default (head_pieces m aligns head)
   head_adds aligns head h =
       let row = row_pieces m (codes "th") aligns head in
       let end = ending_piece head.ending ∷ Fresh ∷ [] in
-      adds_element default (bare_tag (codes "thead")) (row ++ end) head_is_tag
-      (adds_append default row end (row_adds (codes "th") head_cell_is_tag aligns head h)
-      (adds_append default (ending_piece head.ending ∷ []) (Fresh ∷ []) (ending_adds head.ending) (adds_fresh default ending)))
+      lays_element m.compile default (bare_tag (codes "thead")) (row ++ end) head_is_tag
+      (lays_append m.compile default row end (row_adds (codes "th") head_cell_is_tag aligns head h)
+      (lays_append m.compile default (ending_piece head.ending ∷ []) (Fresh ∷ []) (ending_adds head.ending) (lays_fresh m.compile default ending)))
 
-  table_adds : (t : TableOf) → CellsEndLines t.head.cells → RowsEndLines t.rows → Adds default (table_pieces m t)
+  table_adds : (t : TableOf) → CellsEndLines t.head.cells → RowsEndLines t.rows → Lays m.compile default (table_pieces m t)
   table_adds t h k =
       let head = head_pieces m t.aligns t.head in
       let body = body_pieces m t.aligns t.ending t.rows in
       block_element (bare_tag (codes "table")) (Fresh ∷ head ++ body ++ Fresh ∷ []) table_is_tag
       (fresh_line (head ++ body ++ Fresh ∷ [])
-      (and_fresh (head ++ body) (adds_append default head body (head_adds t.aligns t.head h) (body_adds t.aligns t.ending t.rows k))))
+      (and_fresh (head ++ body) (lays_append m.compile default head body (head_adds t.aligns t.head h) (body_adds t.aligns t.ending t.rows k))))
 
   mutual
     unfolding start_rows void_rows
 
-    block_adds : (place : Place) (before : Option Block) (b : Block) → IsReadable b → Adds default (block_pieces m place before b)
+    block_adds : (place : Place) (before : Option Block) (b : Block) → IsReadable b → Lays m.compile default (block_pieces m place before b)
     block_adds place before (Paragraph check is) h =
         let text = check_pieces m.compile check ++ inline_pieces m is in
-        let p = adds_append default (check_pieces m.compile check) (inline_pieces m is) (check_adds check) (inline_adds default m safe is h) in
-        cond_both place.tight text _ (Adds default) (λ _. p) (λ _. block_element (bare_tag (codes "p")) text (tt, refl) p)
+        let p = lays_append m.compile default (check_pieces m.compile check) (inline_pieces m is) (check_adds check) (inline_adds default m safe is h) in
+        cond_both place.tight text _ (Lays m.compile default) (λ _. p) (λ _. block_element (bare_tag (codes "p")) text (tt, refl) p)
     block_adds place before (Heading rank is) h =
         block_element (bare_tag (heading_name rank)) (inline_pieces m is) (heading_is_tag rank h.0) (inline_adds default m safe is h.1)
-    block_adds place before Break h = fresh_line (Void (bare_tag (codes "hr")) ∷ []) (adds_void default (bare_tag (codes "hr")) (tt, refl))
+    block_adds place before Break h = fresh_line (Void (bare_tag (codes "hr")) ∷ []) (lays_void m.compile default (bare_tag (codes "hr")) (tt, refl))
     block_adds place before (IndentedCode ls) h =
         let lines = says (flat_map code_line ls) ++ Fresh ∷ [] in
         block_element (bare_tag (codes "pre")) (element (bare_tag (codes "code")) lines) (tt, refl)
-        (adds_element default (bare_tag (codes "code")) lines (tt, refl) (and_fresh (says (flat_map code_line ls)) (code_adds ls)))
+        (lays_element m.compile default (bare_tag (codes "code")) lines (tt, refl) (and_fresh (says (flat_map code_line ls)) (code_adds ls)))
     block_adds place before (FencedCode info is_closed ls) h =
         let code = tag (codes "code") (info_attributes info) in
         let lines = fenced_pieces place is_closed ls in
-        adds_append default (Fresh ∷ element (bare_tag (codes "pre")) (element code lines)) (fresh_unless is_closed)
+        lays_append m.compile default (Fresh ∷ element (bare_tag (codes "pre")) (element code lines)) (fresh_unless is_closed)
         (block_element (bare_tag (codes "pre")) (element code lines) (tt, refl)
-        (adds_element default code lines (code_is_tag info) (fenced_adds place is_closed ls)))
+        (lays_element m.compile default code lines (code_is_tag info) (fenced_adds place is_closed ls)))
         (adds_fresh_unless is_closed)
     block_adds place before (Html ls) h =
         fresh_line (says (flat_map (html_line m.compile) ls))
-        (adds_parts default (flat_map (html_line m.compile) ls)
+        (lays_parts m.compile default (flat_map (html_line m.compile) ls)
         (each_flat_map IsTextPart (html_line m.compile) ls (λ line. (html_is_text m.compile safe (bytes_of line.codes), (tt, tt)))))
     block_adds place before (Table t) h = table_adds t h.0 h.1
-    block_adds place before Definition h = adds_nothing default
+    block_adds place before Definition h = lays_nothing m.compile default
     block_adds place before (Quote kids) h =
         let lines = children_pieces m (inside false) None kids in
         block_element (bare_tag (codes "blockquote")) (lines ++ Fresh ∷ []) (tt, refl) (and_fresh lines (children_add (inside false) None kids h))
     block_adds place before (ItemList number loose items) h =
         let lines = children_pieces m (inside (not loose)) None items in
         block_element (list_tag number) (lines ++ Eol ∷ []) (list_is_tag number)
-        (adds_append default lines (Eol ∷ []) (children_add (inside (not loose)) None items h) (adds_eol default ending))
+        (lays_append m.compile default lines (Eol ∷ []) (children_add (inside (not loose)) None items h) (lays_eol m.compile default ending))
     block_adds place before (Item kids) h =
         let lines = children_pieces m (inside place.tight) None kids in
         let plainly = ends_plainly place.tight (last_shown None kids) in
         block_element (bare_tag (codes "li")) (lines ++ fresh_unless plainly) (tt, refl)
-        (adds_append default lines (fresh_unless plainly) (children_add (inside place.tight) None kids h) (adds_fresh_unless plainly))
-    block_adds place before (Footnote label kids) h = adds_nothing default
+        (lays_append m.compile default lines (fresh_unless plainly) (children_add (inside place.tight) None kids h) (adds_fresh_unless plainly))
+    block_adds place before (Footnote label kids) h =
+        lays_note m.compile default (children_pieces m (inside false) None kids) (children_add (inside false) None kids h)
     block_adds place before (Ending ending) h =
-        cond_both (is_silent place before) [] (Says (Words (ending_bytes ending)) ∷ []) (Adds default) (λ _. adds_nothing default)
-        (λ _. adds_says default (Words (ending_bytes ending)) tt)
-    block_adds place before (Blank ending) h = adds_nothing default
+        cond_both (is_silent place before) [] (Says (Words (ending_bytes ending)) ∷ []) (Lays m.compile default) (λ _. lays_nothing m.compile default)
+        (λ _. lays_says m.compile default (Words (ending_bytes ending)) tt)
+    block_adds place before (Blank ending) h = lays_nothing m.compile default
 
-    children_add : (place : Place) (before : Option Block) (bs : Blocks) → AreReadable bs → Adds default (children_pieces m place before bs)
-    children_add place before NoBlocks h = adds_nothing default
+    children_add : (place : Place) (before : Option Block) (bs : Blocks) → AreReadable bs → Lays m.compile default (children_pieces m place before bs)
+    children_add place before NoBlocks h = lays_nothing m.compile default
     children_add place before (Cons b bs) h =
-        adds_append default (block_pieces m place before b) (children_pieces m place (Some b) bs) (block_adds place before b h.0)
+        lays_append m.compile default (block_pieces m place before b) (children_pieces m place (Some b) bs) (block_adds place before b h.0)
         (children_add place (Some b) bs h.1)
 
-  pub page_is_safe : (page : Page) → AreReadable page.blocks → IsSafePage (layout default (document_pieces m page))
+  -- a page without its section
+  document_adds : (page : Page) → AreReadable page.blocks → Lays m.compile default (document_pieces m page)
+  document_adds page h =
+      lays_append m.compile default (children_pieces m at_top None page.blocks) (fresh_unless (not page.ends_blank)) (children_add at_top None page.blocks h)
+      (adds_fresh_unless (not page.ends_blank))
+
+  note_printed : (notes : List (List ℕ)) (place : ℕ) → Each IsPrinted notes → IsPrinted (slice_index_or notes place [])
+  note_printed [] place p = (closed.nothing, refl)
+  note_printed (note ∷ notes) zero p = p.0
+  note_printed (note ∷ notes) (suc place) p = note_printed notes place p.1
+
+  pub page_is_safe : (page : Page) → AreReadable page.blocks → IsSafePage (page_layout m.compile default (document_pieces m page))
   page_is_safe page h =
-      let lines = children_pieces m at_top None page.blocks in
-      let last = fresh_unless (not page.ends_blank) in
-      page_of_pieces default (lines ++ last)
-      (adds_append default lines last (children_add at_top None page.blocks h) (adds_fresh_unless (not page.ends_blank)))
+      let l = fold (lay m.compile default) (laid [] [] [] []) (document_pieces m page) in
+      let lines = document_adds page h (laid [] [] [] []) in
+      let notes = map (note_of l.notes) l.called in
+      let printed : Each IsPrinted l.notes = subst (Each IsPrinted) (sym lines.notes_after) lines.notes_safe in
+      let section =
+      section_adds default ending m.compile safe notes
+      (each_map (λ (note : NoteWithCalls). IsPrinted note.html) (note_of l.notes) l.called (λ c. note_printed l.notes c.place printed)) in
+      let whole = both_after [] l.text _ lines.within (section l.text) in
+      subst IsSafePage (sym whole.is_after) whole.is_safe

@@ -1,5 +1,5 @@
 -- In the blocks of every text each heading has a rank from 1 to 6.
-use Rattle.std.proofs.Common.{◌≡◌, ℕ, suc, zero, Bool, true, false, ◌&&◌, ◌||◌, ◌-◌, not, leb, List, [], ◌∷◌, ◌++◌, Option, None, Some, length, take, drop, refl, arith}
+use Rattle.std.proofs.Common.{◌≡◌, ℕ, suc, zero, Bool, true, false, ◌&&◌, ◌||◌, ◌-◌, not, leb, List, [], ◌∷◌, Option, None, Some, length, take, drop, refl, arith}
 use Rattle.std.proofs.lemmas.Bool.{cond_both, and_parts}
 use Rattle.std.proofs.lemmas.Bool.Decides.{nat_tests}
 use Rattle.markdown_options.specs.declared.line_ending.LineEnding.{LineEnding}

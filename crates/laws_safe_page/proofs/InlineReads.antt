@@ -8,7 +8,7 @@ use Rattle.definition_text.specs.Columns.{indent}
 use Rattle.definition_text.specs.Content.{Part, before, up_to, is_eol}
 use Rattle.definition_text.specs.Runs.{run, after_run}
 use Rattle.definition_text.specs.InlineCode.{InlineCode, codes_of}
-use Rattle.definition_inline.specs.Inline.{Target, Inline, Data, Escape, Autolink, EscapedBreak, TrailingBreak, LineEnd, Inlines, Nil, Cons, followed_by, Leaf, leaf, or_else}
+use Rattle.definition_inline.specs.Inline.{Target, Inline, Data, Escape, Autolink, EscapedBreak, TrailingBreak, LineEnd, Emphasis, Strong, Strikethrough, Inlines, Nil, Cons, followed_by, Leaf, leaf, or_else}
 use Rattle.definition_inline.specs.CharacterEscape.{escape_at}
 use Rattle.definition_inline.specs.CharacterReference.{CharacterReference, reference_form, reference_text, reference_leaf, reference_of, reference_at}
 use Rattle.definition_inline.specs.CodeText.{run_of, raw_part, raw_leaf, raw_at, code_text_at}
@@ -16,13 +16,14 @@ use Rattle.definition_inline.specs.MathText.{may_open_math, math_text_at}
 use Rattle.definition_inline.specs.Autolink.{uri_end, email_end, closed_autolink, autolink_after, autolink_at}
 use Rattle.definition_inline.specs.HtmlText.{html_byte, html_end, html_leaf, html_text_at}
 use Rattle.definition_inline.specs.HardBreak.{line_end_at, escaped_break_at, is_trailing_break, line_spaces_at}
-use Rattle.definition_inline.specs.LabelEnd.{Ended}
+use Rattle.definition_inline.specs.LabelEnd.{Formed, Leads, Calls}
 use Rattle.definition_inline.specs.Attention.{Run, run_at}
 use Rattle.definition_inline.specs.Pairing.{Pair, pairs}
 use Rattle.definition_inline.specs.Spans.{Token, Item, Delimiters, runs_of, Span, IsEmphasis, IsStrong, IsStrikethrough, span_of, SpanRow, Holds, Opens, Closes, bytes_taken, run_rows, rows_from, OpenSpan, Nest, nest, spanned, leave, nest_row, emphasized}
 use Rattle.definition_inline.specs.GfmAutolinkLiteral.{literal_at}
 use Rattle.definition_inline.proofs.GfmAutolinkLiteral.{any_literal}
-use Rattle.definition_inline.specs.Scan.{InlineContext, leaf_at, leaf_here, LabelStart, LinkStart, ImageStart, label_start_at, start_bytes, start_tokens, label_part, Text, text, OpenLabel, Reading, reading, read_tokens, unformed, formed, Step, Next, data_step, ended_step, ended_by, label_end_step, last_step, label_step, run_step, leaf_step, step, and_then, scan, whole_text, inlines, inlines_from, unindented}
+use Rattle.definition_inline.specs.Scan.{InlineContext, leaf_at, leaf_here, LabelStart, LinkStart, ImageStart, label_start_at, start_bytes, start_tokens, label_part, formed_part, Text, text, OpenLabel, Reading, reading, read_tokens, unformed, formed, Step, Next, data_step, ended_step, ended_by, label_end_step, last_step, label_step, run_step, leaf_step, step, and_then, scan, whole_text, spans_from, inlines, inlines_from, unindented}
+use Rattle.laws_literals.proofs.Carried.{Holds as CarriesHolding, Carries, literals_good, linked_good}
 use Rattle.laws_safe_page.proofs.Each.{Each, each-append, each_map, each_mapped, each_same, WhereSome, where_passed}
 use Rattle.laws_safe_page.proofs.InlineAdds.{EndsLines, AllEndLines}
 
@@ -194,22 +195,58 @@ unformed_ends label inner h p =
     each-append TokenEndsLines label.outer.tokens (start ++ inner.tokens) h
     (each-append TokenEndsLines start inner.tokens (each_map TokenEndsLines (λ b. Item (Data b)) (start_bytes label.start) (λ b. tt)) p)
 
-formed_ends : (label : OpenLabel) (target : Target) (inner : Text) → LabelEndsLines label → TextEndsLines inner → TextEndsLines (formed label target inner)
-formed_ends label target inner h p =
-    let kids = emphasized inner.tokens in
-    each-append TokenEndsLines label.outer.tokens (Item (label_part label.start target kids) ∷ []) h
-    (label_ends label.start target kids (emphasized_ends inner.tokens p), tt)
+part_ends : (start : LabelStart) (found : Formed) (tokens : List Token) → Each TokenEndsLines tokens → EndsLines (formed_part start found tokens)
+part_ends start (Leads end) tokens p = label_ends start end.target (emphasized tokens) (emphasized_ends tokens p)
+part_ends start (Calls label) tokens p = tt
+
+formed_ends : (label : OpenLabel) (found : Formed) (inner : Text) → LabelEndsLines label → TextEndsLines inner → TextEndsLines (formed label found inner)
+formed_ends label found inner h p =
+    each-append TokenEndsLines label.outer.tokens (Item (formed_part label.start found inner.tokens) ∷ []) h
+    (part_ends label.start found inner.tokens p, tt)
+
+-- ---- literals
+
+data_ends : (text : List ℕ) → Each (λ b. EndsLines (Data b)) text
+data_ends [] = tt
+data_ends (b ∷ bs) = (tt, data_ends bs)
+
+abbrev Keeps : Inlines → Inlines → Type 0
+Keeps kids others = Unit {0}
+
+abbrev IsHeld : (Inlines → Inline) → Type 0
+IsHeld make = CarriesHolding EndsLines AllEndLines Keeps make
+
+literals_carry : Carries EndsLines AllEndLines Keeps
+literals_carry =
+    let emphasis : IsHeld Emphasis = record { opens = λ kids p. p; closes = λ kids others p k q. q } in
+    let strong : IsHeld Strong = record { opens = λ kids p. p; closes = λ kids others p k q. q } in
+    let strikethrough : IsHeld Strikethrough = record { opens = λ kids p. p; closes = λ kids others p k q. q } in
+    record {
+      none = tt;
+      more = λ i is p q. (p, q);
+      first = λ i is p. p.0;
+      rest = λ i is p. p.1;
+      literal = λ kind text p. tt;
+      bytes = λ kind text p. data_ends text;
+      emphasis = emphasis;
+      strong = strong;
+      strikethrough = strikethrough;
+      link = λ target. record { opens = λ kids p. p; closes = λ kids others p k q. q };
+      image = λ target. record { opens = λ kids p. p; closes = λ kids others p k q. q };
+      keeps_without = λ kids. tt;
+      keeps_with = λ kids. tt;
+    }
 
 -- ---- places
 
 read_ends : (more : List Token) (r : Reading) → Each TokenEndsLines more → ReadingEndsLines r → ReadingEndsLines (read_tokens more r)
 read_ends more r h p = (each-append TokenEndsLines r.now.tokens more p.0 h, p.1)
 
-ended_ends : (label : OpenLabel) (others : List OpenLabel) (inner : Text) (found : Option Ended) → LabelEndsLines label → Each LabelEndsLines others
+ended_ends : (label : OpenLabel) (others : List OpenLabel) (inner : Text) (found : Option Formed) → LabelEndsLines label → Each LabelEndsLines others
     → TextEndsLines inner → StepEndsLines (ended_step label others inner found)
 ended_ends label others inner None h hs p =
     read_ends (Item (Data 93) ∷ []) (reading (unformed label inner) others) (tt, tt) (unformed_ends label inner h p, hs)
-ended_ends label others inner (Some found) h hs p = (formed_ends label found.target inner h p, hs)
+ended_ends label others inner (Some found) h hs p = (formed_ends label found inner h p, hs)
 
 module _ (context : InlineContext) where
   label_end_ends : (content : List ℕ) (inner : Text) (open_labels : List OpenLabel) → TextEndsLines inner → Each LabelEndsLines open_labels
@@ -275,12 +312,18 @@ module _ (context : InlineContext) where
   whole_ends inner [] p h = p
   whole_ends inner (label ∷ others) p h = whole_ends (unformed label inner) others (unformed_ends label inner h.0 p) h.1
 
-  -- the inline structure of a content from a place on
-  pub from_ends : (content : List InlineCode) → AllEndLines (inlines_from context content)
-  from_ends content =
+  spans_end : (content : List InlineCode) → AllEndLines (spans_from context content)
+  spans_end content =
       let r = scan context 0 (reading (text [] false) []) content in
       let h : ReadingEndsLines r = scan_ends 0 (reading (text [] false) []) content (tt, tt) in
       emphasized_ends (whole_text r).tokens (whole_ends r.now r.open_labels h.0 h.1)
+
+  -- the inline structure of a content from a place on
+  pub from_ends : (content : List InlineCode) → AllEndLines (inlines_from context content)
+  from_ends content =
+      let spans = spans_from context content in
+      linked_good context.options.constructs AllEndLines spans
+      (λ _. literals_good EndsLines AllEndLines Keeps literals_carry spans (spans_end content)) (spans_end content)
 
   pub inlines_end : (content : List InlineCode) → AllEndLines (inlines context content)
   inlines_end content = from_ends (unindented content)

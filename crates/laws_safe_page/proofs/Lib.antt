@@ -2,7 +2,9 @@ pub mod Each
 pub mod Values
 pub mod Tags
 pub mod Pieces
+pub mod Lays
 pub mod Links
+pub mod Footnotes
 pub mod InlineAdds
 pub mod BlockAdds
 pub mod InlineReads

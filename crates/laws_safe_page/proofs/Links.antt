@@ -10,7 +10,7 @@ use Rattle.html_safe_page.specs.SafePage.{is_value}
 use Rattle.html_safe_page.proofs.Closing.{encode_spelled}
 use Rattle.html_safe_page.proofs.Values.{value_spelled as value_tested}
 use Rattle.laws_safe_page.specs.SafeHtml.{AreSafe}
-use Rattle.laws_safe_page.proofs.Values.{IsText, AreTextParts, value_spelled}
+use Rattle.laws_safe_page.proofs.Values.{has_no_nul, encode_no_nul, IsText, AreTextParts, value_spelled}
 use Rattle.laws_safe_page.proofs.Tags.{IsTag}
 use Rattle.std.specs.List.{flat_map}
 
@@ -31,7 +31,7 @@ only_permitted all protocols url off same =
 -- ---- attributes
 
 abbrev pub words_text : (text : List ℕ) → IsText (flat_map said_bytes (Words text ∷ []))
-words_text text = (plain text, append-nil (encode text) ∙ encode_spelled text)
+words_text text = (plain text, append-nil (encode text) ∙ encode_spelled text, ap has_no_nul (append-nil (encode text)) ∙ encode_no_nul text)
 
 module _ (m : Meaning) (safe : AreSafe m.compile) where
   link_permitted : (url : List ℕ) → permitted href_protocols (plain (link_url m.compile url)) ≡ true

@@ -7,7 +7,7 @@ use Rattle.definition_text.specs.BlockLines.{BlockLine}
 use Rattle.definition_text.specs.Columns.{code_byte}
 use Rattle.definition_text.specs.InlineCode.{InlineCode, codes_of, with_kinds}
 use Rattle.definition_text.specs.Lines.{without_mark, kind_before_text}
-use Rattle.definition_inline.specs.Inline.{Inline, Data, Escape, Character, Code, Math, Autolink, Literal, Html, EscapedBreak, TrailingBreak, LineEnd, Emphasis, Strong, Strikethrough, Link, Image, Inlines, Nil, Cons}
+use Rattle.definition_inline.specs.Inline.{Inline, Data, Escape, Character, Code, Math, Autolink, Literal, Html, EscapedBreak, TrailingBreak, LineEnd, Emphasis, Strong, Strikethrough, Link, Image, Call, Inlines, Nil, Cons}
 use Rattle.definition_inline.specs.GfmTaskListItem.{check_at, check_size}
 use Rattle.definition_inline.specs.Scan.{unindented}
 use Rattle.definition_block.specs.Container.{Quote, Item, Footnote}
@@ -99,6 +99,7 @@ mutual
   part_in_cell_ends (Strikethrough kids) h = in_cell_ends kids h
   part_in_cell_ends (Link target kids) h = in_cell_ends kids h
   part_in_cell_ends (Image target kids) h = in_cell_ends kids h
+  part_in_cell_ends (Call label) h = tt
 
   in_cell_ends : (is : Inlines) → AllEndLines is → AllEndLines (in_cell is)
   in_cell_ends Nil h = tt

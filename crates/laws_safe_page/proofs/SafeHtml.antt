@@ -8,7 +8,7 @@ use Rattle.definition_page.specs.Read.{read}
 use Rattle.html_safe_page.specs.SafePage.{IsSafePage}
 use Rattle.html_safe_page.proofs.Pages.{one_reading}
 use Rattle.laws_safe_page.specs.SafeHtml.{HasOneReading, SafePageLaw}
-use Rattle.laws_safe_page.proofs.BlockAdds.{ending_is_safe, page_is_safe}
+use Rattle.laws_safe_page.proofs.BlockAdds.{ending_is_text, page_is_safe}
 use Rattle.laws_safe_page.proofs.PageReads.{page_is_readable}
 
 -- a safe page has one reading
@@ -21,4 +21,4 @@ safe_page_law tables text options safe =
     let default = default_ending options (without_mark text) in
     let ending = unwrap_or (first_line (without_mark text)).ending options.compile.default_line_ending in
     alone (html tables text options)
-    (page_is_safe default (ending_is_safe ending) (meaning_of tables options page) safe page (page_is_readable tables options.parse text))
+    (page_is_safe default (ending_is_text ending) (meaning_of tables options page) safe page (page_is_readable tables options.parse text))

@@ -1,15 +1,18 @@
 -- Tags, as they are printed, are tags of a safe page.
-use Rattle.std.proofs.Common.{◌≡◌, ℕ, true, List, [], ◌∷◌, ◌++◌, codes, sym, refl, ap, ◌∙◌, subst, append_assoc}
-use Rattle.std.specs.List.{flat_map}
+use Rattle.std.proofs.Common.{◌≡◌, ℕ, true, eqb, not, ◌||◌, List, [], ◌∷◌, ◌++◌, codes, sym, refl, ap, ◌∙◌, subst, append_assoc}
+use Rattle.std.specs.List.{flat_map, list_all}
+use Rattle.std.proofs.lemmas.Bool.{and_parts, and_from, or_parts}
 use Rattle.definition_page.specs.Tags.{said_bytes, Attribute, attribute_bytes, Tag, tag_bytes, start_tag, end_tag, void_tag}
 use Rattle.html_safe_page.specs.Table.{Row, start_rows, void_rows}
 use Rattle.html_safe_page.specs.SafePage as safe
-use Rattle.html_safe_page.specs.SafePage.{IsSafePage, is_tag_of, spell_text, spell_attributes, spell_tag}
+use Rattle.html_safe_page.specs.SafePage.{kind, IsSafePage, is_tag_of, spell_text, spell_attributes, spell_tag}
 use Rattle.html_safe_page.specs.Reader.{attribute, tag_of}
-use Rattle.html_safe_page.proofs.Text.{spell_text-append}
+use Rattle.html_safe_page.proofs.Text.{is_plain, spell_text-append}
+use Rattle.html_safe_page.proofs.Spelled.{is_word_byte, is_word, word_bytes, is_worded_list, is_worded}
+use Rattle.html_safe_page.proofs.Pages.{start_worded, void_worded}
 use Rattle.html_safe_page.proofs.Sound.{tag_append}
 use Rattle.html_safe_page.proofs.Closing.{closed}
-use Rattle.laws_safe_page.proofs.Values.{IsText}
+use Rattle.laws_safe_page.proofs.Values.{has_no_nul, no_nul_append, not_true, IsText}
 
 -- the value of each attribute is a text
 abbrev pub HaveTexts : List Attribute → Type 0
@@ -53,3 +56,42 @@ page_around t inside i p =
 
 pub page_of_void : (t : Tag) → IsTag void_rows t → IsSafePage (void_tag t)
 page_of_void t i = subst IsSafePage (sym (ap (λ x. 60 ∷ x) (tag_spelled t i.0 (codes " />")))) (closed.void_tag (tag_with t i.0) i.1)
+
+-- ---- no NUL is printed of a tag
+
+word_no_nul : (word : List ℕ) → list_all is_word_byte word ≡ true → has_no_nul word ≡ true
+word_no_nul [] h = refl
+word_no_nul (b ∷ bs) h =
+    let parts = and_parts (is_word_byte b) (list_all is_word_byte bs) h in
+    let other = not_true (eqb b 32 || eqb b 61 || eqb b 47 || eqb b 0) (and_parts (is_plain (kind b)) _ parts.0).1 in
+    and_from (not (eqb b 0)) (has_no_nul bs) (ap not (or_parts (eqb b 32 || eqb b 61 || eqb b 47) (eqb b 0) other).1) (word_no_nul bs parts.1)
+
+name_no_nul : (name : List ℕ) → is_word name ≡ true → has_no_nul name ≡ true
+name_no_nul name h = word_no_nul name (word_bytes name h)
+
+attributes_no_nul : (attributes : List Attribute) (h : HaveTexts attributes) → is_worded_list (with_texts attributes h) ≡ true
+    → has_no_nul (flat_map attribute_bytes attributes) ≡ true
+attributes_no_nul [] h w = refl
+attributes_no_nul (a ∷ others) h w =
+    let parts = and_parts (is_word a.name) (is_worded_list (with_texts others h.1)) w in
+    let value = flat_map said_bytes a.value in
+    let named = codes " " ++ a.name ++ codes "=\"" in
+    no_nul_append (attribute_bytes a) (flat_map attribute_bytes others)
+    (no_nul_append (named ++ value) (codes "\"")
+    (no_nul_append named value (no_nul_append (codes " " ++ a.name) (codes "=\"") (name_no_nul a.name parts.0) refl) h.0.2) refl)
+    (attributes_no_nul others h.1 parts.1)
+
+tag_no_nul : (t : Tag) (h : HaveTexts t.attributes) → is_worded (tag_with t h) ≡ true → has_no_nul (tag_bytes t) ≡ true
+tag_no_nul t h w =
+    let parts = and_parts (is_word t.name) (is_worded_list (with_texts t.attributes h)) w in
+    no_nul_append t.name (flat_map attribute_bytes t.attributes) (name_no_nul t.name parts.0) (attributes_no_nul t.attributes h parts.1)
+
+pub start_no_nul : (t : Tag) → IsTag start_rows t → has_no_nul (start_tag t) ≡ true
+start_no_nul t i = no_nul_append (tag_bytes t) (codes ">") (tag_no_nul t i.0 (start_worded (tag_with t i.0) i.1)) refl
+
+pub end_no_nul : (t : Tag) → IsTag start_rows t → has_no_nul (end_tag t.name) ≡ true
+end_no_nul t i =
+    no_nul_append t.name (codes ">") (name_no_nul t.name (and_parts (is_word t.name) _ (start_worded (tag_with t i.0) i.1)).0) refl
+
+pub void_no_nul : (t : Tag) → IsTag void_rows t → has_no_nul (void_tag t) ≡ true
+void_no_nul t i = no_nul_append (tag_bytes t) (codes " />") (tag_no_nul t i.0 (void_worded (tag_with t i.0) i.1)) refl

@@ -1,14 +1,16 @@
 -- What parts are read as, and what they print where no runs stand among them.
-use Rattle.std.proofs.Common.{◌≡◌, ◌+◌, List, [], ◌∷◌, ◌++◌, cond, refl, sym, ap, ◌∙◌, append_assoc, map}
-use Rattle.std.specs.List.{fold, flat_map, prefix_len}
+use Rattle.std.proofs.Common.{◌≡◌, ◌+◌, ◌||◌, List, [], ◌∷◌, ◌++◌, cond, refl, sym, ap, ◌∙◌, append_assoc, map}
+use Rattle.std.specs.List.{fold, flat_map, list_any, prefix_len}
 use Rattle.std.proofs.lemmas.List.{append-nil}
 use Rattle.definition_text.specs.Columns.{is_white, indent}
 use Rattle.definition_text.specs.InlineCode.{InlineCode, codes_of}
-use Rattle.definition_inline.specs.Inline.{Inline, Inlines, Nil, Cons, followed_by}
+use Rattle.definition_inline.specs.Inline.{Inline, Nil, Cons, followed_by}
 use Rattle.definition_inline.specs.Pairing.{Pair, pairs}
 use Rattle.definition_inline.specs.Spans.{Item, runs_of, Holds, rows_from, Nest, nest, nest_row, nested, emphasized}
 use Rattle.definition_inline.specs.Scan.{text, Reading, reading, read_tokens}
+use Rattle.definition_inline.specs.GfmAutolinkLiteral.{followed}
 use Rattle.html_bytes.specs.InlineHtml.{InlineMeaning, part_html, inline_html}
+use Rattle.html_bytes.proofs.WithoutCalls.{part_calls, has_calls}
 
 -- no more tokens
 pub read_nothing : (r : Reading) → r ≡ read_tokens [] r
@@ -24,19 +26,33 @@ held : (ps : List Pair) (is : List Inline) → rows_from ps 0 (map Item is) ≡ 
 held ps [] = refl
 held ps (i ∷ is) = ap (λ rows. Holds i ∷ rows) (held ps is)
 
-module _ (meaning : InlineMeaning) where
-  html_followed : (is : Inlines) (last : Inline) → inline_html meaning (followed_by is last) ≡ inline_html meaning is ++ part_html meaning last
-  html_followed Nil last = append-nil (part_html meaning last)
-  html_followed (Cons i is) last =
-      ap (λ x. part_html meaning i ++ x) (html_followed is last) ∙ sym (append_assoc (part_html meaning i) (inline_html meaning is) (part_html meaning last))
+-- one more part after others
+followed_last : (is : List Inline) (last : Inline) → followed_by (followed is Nil) last ≡ followed (is ++ last ∷ []) Nil
+followed_last [] last = refl
+followed_last (i ∷ is) last = ap (Cons i) (followed_last is last)
 
-  html_held : (n : Nest) (is : List Inline)
-      → inline_html meaning (fold nest_row n (map Holds is)).now ≡ inline_html meaning n.now ++ flat_map (part_html meaning) is
-  html_held n [] = sym (append-nil (inline_html meaning n.now))
-  html_held n (i ∷ is) =
-      html_held (nest_row n (Holds i)) is
-      ∙ ap (λ x. x ++ flat_map (part_html meaning) is) (html_followed n.now i)
-      ∙ append_assoc (inline_html meaning n.now) (part_html meaning i) (flat_map (part_html meaning) is)
+nest_held : (before is : List Inline) → fold nest_row (nest (followed before Nil) []) (map Holds is) ≡ nest (followed (before ++ is) Nil) []
+nest_held before [] = ap (λ x. nest (followed x Nil) []) (sym (append-nil before))
+nest_held before (i ∷ is) =
+    ap (λ n. fold nest_row (nest n []) (map Holds is)) (followed_last before i)
+    ∙ nest_held (before ++ i ∷ []) is
+    ∙ ap (λ x. nest (followed x Nil) []) (append_assoc before (i ∷ []) is)
 
-  pub html_of_parts : (is : List Inline) → inline_html meaning (emphasized (map Item is)) ≡ flat_map (part_html meaning) is
-  html_of_parts is = ap (λ rows. inline_html meaning (nested rows)) (held (pairs (runs_of (map Item is))) is) ∙ html_held (nest Nil []) is
+-- where no runs stand among parts, they are the inline structure
+pub parts_alone : (is : List Inline) → emphasized (map Item is) ≡ followed is Nil
+parts_alone is = ap nested (held (pairs (runs_of (map Item is))) is) ∙ ap (λ (n : Nest). n.now) (nest_held [] is)
+
+-- what they print, and whether they call footnotes
+pub html_followed : (meaning : InlineMeaning) (is : List Inline) → inline_html meaning (followed is Nil) ≡ flat_map (part_html meaning) is
+html_followed meaning [] = refl
+html_followed meaning (i ∷ is) = ap (λ x. part_html meaning i ++ x) (html_followed meaning is)
+
+pub html_of_parts : (meaning : InlineMeaning) (is : List Inline) → inline_html meaning (emphasized (map Item is)) ≡ flat_map (part_html meaning) is
+html_of_parts meaning is = ap (inline_html meaning) (parts_alone is) ∙ html_followed meaning is
+
+pub calls_followed : (is : List Inline) → has_calls (followed is Nil) ≡ list_any part_calls is
+calls_followed [] = refl
+calls_followed (i ∷ is) = ap (λ b. part_calls i || b) (calls_followed is)
+
+pub calls_of_parts : (is : List Inline) → has_calls (emphasized (map Item is)) ≡ list_any part_calls is
+calls_of_parts is = ap has_calls (parts_alone is) ∙ calls_followed is

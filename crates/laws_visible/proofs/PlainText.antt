@@ -1,14 +1,15 @@
 -- The text of lines where every construct is off: the lines without the spaces and tabs at their ends, encoded.
 use Rattle.std.proofs.Common.{◌≡◌, ℕ, ◌+◌, ◌-◌, ◌<◌, suc, zero, List, [], ◌∷◌, ◌++◌, Option, None, Some, Bool, true, false, cond, ◌&&◌, eqb, leb, inl, inr, refl, sym, ap, ◌∙◌, subst, append_assoc, arith, take, drop, length, map}
 use Rattle.std.specs.Prelude.{reverse}
-use Rattle.std.specs.List.{flat_map, prefix_len, suffix_len}
+use Rattle.std.specs.List.{flat_map, fold, list_any, prefix_len, suffix_len}
 use Rattle.std.proofs.Math.Seq.{drop-append_seam}
-use Rattle.std.proofs.lemmas.Bool.{true≢false, both_ways, cases_Bool, cond-true, cond-false, and_parts, and_cases, or_from, ne_eqb, eqb-true, le-leb}
+use Rattle.std.proofs.lemmas.Bool.{true≢false, both_ways, cases_Bool, cond-true, cond-false, cond_both, and_parts, and_cases, or_from, ne_eqb, eqb-true, le-leb}
 use Rattle.std.proofs.lemmas.List.{length-reverse, map-append, reverse-append}
-use Rattle.std.proofs.lemmas.List.Folds.{prefix_len-append}
+use Rattle.std.proofs.lemmas.List.Folds.{list_any-append, prefix_len-append}
 use Rattle.std.proofs.lemmas.List.Sums.{suffix_len-le-length}
 use Rattle.markdown_options.specs.declared.line_ending.LineEnding.{LineEnding}
 use Rattle.markdown_options.specs.declared.line_ending.LineEnding.TheVariants.{CarriageReturnLineFeed, CarriageReturn, LineFeed}
+use Rattle.markdown_options.specs.declared.configuration.CompileOptions.{CompileOptions}
 use Rattle.markdown_options.specs.declared.configuration.Constructs.{Constructs}
 use Rattle.markdown_options.specs.declared.configuration.ParseOptions.{ParseOptions}
 use Rattle.markdown_options.specs.Defaults.{no_constructs}
@@ -20,16 +21,19 @@ use Rattle.definition_text.specs.Encode.{encode}
 use Rattle.definition_text.specs.BlockLines.{BlockLine}
 use Rattle.definition_text.specs.Content.{is_eol, ending_code, line_codes, content_of}
 use Rattle.definition_text.specs.InlineCode.{InlineCode, codes_of, next_kind, with_kinds, line_content, inline_content}
-use Rattle.definition_inline.specs.Inline.{Inline, Data, LineEnd, Leaf, leaf, or_else}
+use Rattle.definition_inline.specs.Inline.{Inline, Data, LineEnd, Inlines, Leaf, leaf, or_else}
 use Rattle.definition_inline.specs.HardBreak.{ends_here, line_end_at, line_spaces_at}
 use Rattle.definition_inline.specs.Spans.{Item, emphasized}
 use Rattle.definition_inline.specs.Scan.{InlineContext, leaf_at, leaf_here, text, Reading, reading, read_tokens, Next, leaf_step, step, and_then, scan, whole_text, inlines}
 use Rattle.definition_inline.specs.Strings.{or_byte}
-use Rattle.html_bytes.specs.InlineHtml.{InlineMeaning, part_html, inline_html}
+use Rattle.html_bytes.specs.InlineHtml.{InlineMeaning, part_html, inline_html, inline_pieces}
+use Rattle.html_bytes.specs.Layout.{lay}
 use Rattle.html_bytes.specs.Document.{Document, meaning_of, text_of}
-use Rattle.definition_page.specs.Targets.{is_label_of}
+use Rattle.definition_page.specs.Targets.{is_label_of, is_footnote_of}
+use Rattle.html_bytes.proofs.SameLayout.{add}
+use Rattle.html_bytes.proofs.WithoutCalls.{part_calls, has_calls, AddsBytes, without_calls}
 use Rattle.definition_inline.proofs.Scanning.{drop-codes_of}
-use Rattle.laws_visible.proofs.InlineParts.{read_nothing, white_codes, html_of_parts}
+use Rattle.laws_visible.proofs.InlineParts.{read_nothing, white_codes, html_of_parts, calls_of_parts}
 
 -- a line of text: the spaces and tabs at its ends are dropped
 abbrev pub line_text : BlockLine → List ℕ
@@ -79,9 +83,9 @@ parts_byte c cs is = ap (λ o. (or_byte c o).parts ++ parts ((or_byte c o).size 
 
 -- ---- the scan
 
-module _ (options : ParseOptions) (names : List ℕ → Option (List ℕ)) (is_defined : List ℕ → Bool) where
+module _ (options : ParseOptions) (names : List ℕ → Option (List ℕ)) (is_defined is_footnote : List ℕ → Bool) where
   abbrev all_off : InlineContext
-  all_off = record { options = record options { constructs = no_constructs }; names = names; is_defined = is_defined }
+  all_off = record { options = record options { constructs = no_constructs }; names = names; is_defined = is_defined; is_footnote = is_footnote }
 
   plain_leaf : (c : ℕ) (cs : List ℕ) → leaf_at all_off (c ∷ cs) ≡ found_at (c ∷ cs)
   plain_leaf c [] = refl
@@ -122,6 +126,42 @@ module _ (options : ParseOptions) (names : List ℕ → Option (List ℕ)) (is_d
       ∙ read_more found.parts (parts (found.size - 1) (codes_of cs)) r
   plain_scan (suc k) r (c ∷ cs) = plain_scan k r cs
 
+-- the inline structure of a content
+structure_of_codes : (options : ParseOptions) (names : List ℕ → Option (List ℕ)) (is_defined is_footnote : List ℕ → Bool) (content : List InlineCode)
+    → inlines (all_off options names is_defined is_footnote) content ≡ emphasized (map Item (parts 0 (bare (codes_of content))))
+structure_of_codes options names is_defined is_footnote content =
+    let start = prefix_len (λ (c : InlineCode). is_white c.code) content in
+    let nothing : Reading = reading (text [] false) [] in
+    ap (λ r. emphasized (whole_text r).tokens) (plain_scan options names is_defined is_footnote 0 nothing (drop start content))
+    ∙ ap (λ cs. emphasized (map Item (parts 0 cs))) (drop-codes_of start content ∙ ap (λ n. drop n (codes_of content)) (white_codes content))
+
+-- ---- calls of footnotes
+
+-- whether what is found here calls one
+abbrev calls_in : ℕ → Option Leaf → Bool
+calls_in c found = list_any part_calls (or_byte c found).parts
+
+no_call_or : (c : ℕ) (a b : Option Leaf) → calls_in c a ≡ false → calls_in c b ≡ false → calls_in c (or_else a b) ≡ false
+no_call_or c None b p q = q
+no_call_or c (Some found) b p q = p
+
+no_call_at : (c : ℕ) (cs : List ℕ) → calls_in c (found_at (c ∷ cs)) ≡ false
+no_call_at c cs =
+    no_call_or c (line_end_at (c ∷ cs)) (line_spaces_at no_constructs (c ∷ cs))
+    (cond_both (is_eol c) (Some (leaf (LineEnd c ∷ []) (1 + indent cs))) None (λ o. calls_in c o ≡ false) (λ _. refl) (λ _. refl))
+    (cond_both (leb 1 (indent (c ∷ cs)) && ends_here (bare (c ∷ cs))) (Some (leaf [] (indent (c ∷ cs)))) None (λ o. calls_in c o ≡ false) (λ _. refl)
+    (λ _. refl))
+
+-- the parts of a content call none
+no_calls : (k : ℕ) (content : List ℕ) → list_any part_calls (parts k content) ≡ false
+no_calls k [] = refl
+no_calls zero (c ∷ cs) =
+    let found = or_byte c (found_at (c ∷ cs)) in
+    let more = parts (found.size - 1) cs in
+    list_any-append part_calls found.parts more
+    ∙ or_from (list_any part_calls found.parts) (list_any part_calls more) (no_call_at c cs) (no_calls (found.size - 1) cs)
+no_calls (suc k) (c ∷ cs) = no_calls k cs
+
 -- ---- what a content prints
 
 module _ (meaning : InlineMeaning) where
@@ -129,14 +169,11 @@ module _ (meaning : InlineMeaning) where
   abbrev printed : List ℕ → List ℕ
   printed content = flat_map (part_html meaning) (parts 0 content)
 
-  html_of_codes : (options : ParseOptions) (names : List ℕ → Option (List ℕ)) (is_defined : List ℕ → Bool) (content : List InlineCode)
-      → inline_html meaning (inlines (all_off options names is_defined) content) ≡ printed (bare (codes_of content))
-  html_of_codes options names is_defined content =
-      let start = prefix_len (λ (c : InlineCode). is_white c.code) content in
-      let nothing : Reading = reading (text [] false) [] in
-      ap (λ r. inline_html meaning (emphasized (whole_text r).tokens)) (plain_scan options names is_defined 0 nothing (drop start content))
-      ∙ html_of_parts meaning (parts 0 (codes_of (drop start content)))
-      ∙ ap printed (drop-codes_of start content ∙ ap (λ n. drop n (codes_of content)) (white_codes content))
+  html_of_codes : (options : ParseOptions) (names : List ℕ → Option (List ℕ)) (is_defined is_footnote : List ℕ → Bool) (content : List InlineCode)
+      → inline_html meaning (inlines (all_off options names is_defined is_footnote) content) ≡ printed (bare (codes_of content))
+  html_of_codes options names is_defined is_footnote content =
+      ap (inline_html meaning) (structure_of_codes options names is_defined is_footnote content)
+      ∙ html_of_parts meaning (parts 0 (bare (codes_of content)))
 
 -- ---- spaces and tabs
 
@@ -402,14 +439,37 @@ content_codes is_punctuation after (line ∷ others) h =
 
 -- what a document's texts are read by, were these constructs on
 abbrev read_by : Document → Constructs → InlineContext
-read_by d on = record { options = record d.options.parse { constructs = on }; names = d.tables.names; is_defined = is_label_of d.definitions }
+read_by d on =
+    record {
+      options = record d.options.parse { constructs = on };
+      names = d.tables.names;
+      is_defined = is_label_of d.targets.definitions;
+      is_footnote = is_footnote_of d.targets.footnotes;
+    }
+
+-- the inline structure of lines, where every construct is off
+abbrev plain_structure : Document → List BlockLine → Inlines
+plain_structure d ls = inlines (read_by d no_constructs) (inline_content d.tables.is_punctuation Whitespace ls)
+
+-- what it prints, and that it calls no footnote
+plain_html : (d : Document) (ls : List BlockLine) → AreText ls → inline_html (meaning_of d) (plain_structure d ls) ≡ plain_text ls
+plain_html d ls h =
+    html_of_codes (meaning_of d) d.options.parse d.tables.names (is_label_of d.targets.definitions) (is_footnote_of d.targets.footnotes)
+    (inline_content d.tables.is_punctuation Whitespace ls)
+    ∙ ap (λ x. printed (meaning_of d) (bare x)) (content_codes d.tables.is_punctuation Whitespace ls h)
+    ∙ lines_printed (meaning_of d) ls h
+
+plain_calls : (d : Document) (ls : List BlockLine) → has_calls (plain_structure d ls) ≡ false
+plain_calls d ls =
+    let content = inline_content d.tables.is_punctuation Whitespace ls in
+    ap has_calls (structure_of_codes d.options.parse d.tables.names (is_label_of d.targets.definitions) (is_footnote_of d.targets.footnotes) content)
+    ∙ calls_of_parts (parts 0 (bare (codes_of content))) ∙ no_calls 0 (bare (codes_of content))
 
 -- where every construct is off, lines print what they hold, trimmed and encoded, with their endings
-pub text_is_plain : (d : Document) → d.options.parse.constructs ≡ no_constructs → (ls : List BlockLine) → AreText ls → text_of d ls ≡ plain_text ls
-text_is_plain d off ls h =
-    let meaning = meaning_of d in
-    let content = inline_content d.tables.is_punctuation Whitespace ls in
-    ap (λ on. inline_html meaning (inlines (read_by d on) content)) off
-    ∙ html_of_codes meaning d.options.parse d.tables.names (is_label_of d.definitions) content
-    ∙ ap (λ x. printed meaning (bare x)) (content_codes d.tables.is_punctuation Whitespace ls h)
-    ∙ lines_printed meaning ls h
+pub text_is_plain : (d : Document) (options : CompileOptions) (default : List ℕ) → d.options.parse.constructs ≡ no_constructs → (ls : List BlockLine)
+    → AreText ls
+    → AddsBytes options default (text_of d ls) (plain_text ls)
+text_is_plain d options default off ls h l =
+    ap (λ on. fold (lay options default) l (inline_pieces (meaning_of d) (inlines (read_by d on) (inline_content d.tables.is_punctuation Whitespace ls)))) off
+    ∙ without_calls options default (meaning_of d) (plain_structure d ls) (plain_calls d ls) l
+    ∙ ap (add l) (plain_html d ls h)

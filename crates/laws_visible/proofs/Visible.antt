@@ -8,6 +8,7 @@ use Rattle.std.proofs.lemmas.List.Sums.{fold-append}
 use Rattle.std.proofs.lemmas.List.Concat.{flat_map-append}
 use Rattle.markdown_options.specs.declared.line_ending.LineEnding.{LineEnding}
 use Rattle.markdown_options.specs.declared.line_ending.LineEnding.TheVariants.{CarriageReturnLineFeed, CarriageReturn, LineFeed}
+use Rattle.markdown_options.specs.declared.configuration.CompileOptions.{CompileOptions}
 use Rattle.markdown_options.specs.declared.configuration.Options.{Options}
 use Rattle.markdown_options.specs.LineEndings.{ending_bytes}
 use Rattle.markdown_options.specs.Defaults.{no_constructs}
@@ -22,13 +23,16 @@ use Rattle.definition_block.specs.Tree.{beside_line, Block, Paragraph, Ending, B
 use Rattle.definition_block.specs.Frontmatter.{after_frontmatter}
 use Rattle.definition_block.specs.Lists.{before, grouped_block, grouped}
 use Rattle.definition_page.specs.Pieces.{is_fresh}
-use Rattle.html_bytes.specs.Pieces.{Piece, Bytes, Fresh, print, layout}
+use Rattle.html_bytes.specs.Pieces.{Piece, Bytes, Fresh, print}
+use Rattle.html_bytes.specs.Layout.{with_text, lay, nothing_laid, finished, page_layout}
+use Rattle.definition_page.specs.Layout.{Laid}
 use Rattle.definition_page.specs.Read.{on_page, ends_blank}
 use Rattle.html_bytes.specs.Html.{silences, block_pieces, children_pieces, last_piece, document_pieces, default_ending, blocks_html, marked_html}
-use Rattle.definition_page.specs.Targets.{document_definitions}
+use Rattle.definition_page.specs.Targets.{document_targets}
 use Rattle.definition_page.specs.TextTables.{TextTables}
 use Rattle.html_bytes.specs.Document.{Document, document, text_of}
 use Rattle.html_bytes.proofs.SamePage.{html_is}
+use Rattle.html_bytes.proofs.WithoutCalls.{AddsBytes}
 use Rattle.laws_visible.specs.Visible.{visible, is_not_blank, said_by, all_said_by, VisibleLaw}
 use Rattle.laws_visible.proofs.PlainText.{line_text, plain_text, AreInLine, AreText, line_drop, first_line, other_lines, text_is_plain}
 use Rattle.laws_visible.proofs.Plain.{paragraph, blank_tree, text_tree, plain_tree, plain_grow}
@@ -180,34 +184,53 @@ shows_encoded (b ∷ bs) p =
 
 -- ---- what pieces add to what is shown
 
+-- what is laid out has more of its innermost text, which shows this, and is the same else
+record ShowsIn (l after : Laid) (t : List ℕ) : Type 0 where
+  out : List ℕ
+  is : after ≡ with_text l out
+  shows : Shows out t
+
 -- the pieces add t to what stands before them
-abbrev PiecesShow : List ℕ → List Piece → List ℕ → Type 0
-PiecesShow default ps t = (out s : List ℕ) → Shows out s → Shows (fold (print default) out ps) (s ++ t)
+abbrev PiecesShow : CompileOptions → List ℕ → List Piece → List ℕ → Type 0
+PiecesShow options default ps t = (l : Laid) (s : List ℕ) → Shows l.text s → ShowsIn l (fold (lay options default) l ps) (s ++ t)
 
--- no pieces, and one list of pieces after another
-pieces_none : (default : List ℕ) → PiecesShow default [] []
-pieces_none default out s p = subst (Shows out) (sym (append-nil s)) p
+module _ (options : CompileOptions) (default : List ℕ) where
+  -- no pieces, and one list of pieces after another
+  pieces_none : PiecesShow options default [] []
+  pieces_none l s p = record { out = l.text; is = refl; shows = subst (Shows l.text) (sym (append-nil s)) p }
 
-pieces-append : (default : List ℕ) (ps qs : List Piece) (t u : List ℕ) → PiecesShow default ps t → PiecesShow default qs u
-    → PiecesShow default (ps ++ qs) (t ++ u)
-pieces-append default ps qs t u p q out s h =
-    let some = fold (print default) out ps in
-    subst (λ x. Shows x (s ++ (t ++ u))) (sym (fold-append (print default) out ps qs))
-    (subst (Shows (fold (print default) some qs)) (append_assoc s t u) (q some (s ++ t) (p out s h)))
+  pieces-append : (ps qs : List Piece) (t u : List ℕ) → PiecesShow options default ps t → PiecesShow options default qs u
+      → PiecesShow options default (ps ++ qs) (t ++ u)
+  pieces-append ps qs t u p q l s h =
+      let first = p l s h in
+      let second = q (with_text l first.out) (s ++ t) first.shows in
+      record {
+        out = second.out;
+        is = fold-append (lay options default) l ps qs ∙ ap (λ x. fold (lay options default) x qs) first.is ∙ second.is;
+        shows = subst (Shows second.out) (append_assoc s t u) second.shows;
+      }
 
--- one piece
-pieces_bytes : (default bs t : List ℕ) → Shows bs t → PiecesShow default (Bytes bs ∷ []) t
-pieces_bytes default bs t p out s h = shows-append out s bs t h p
+  -- pieces that add bytes
+  pieces_add : (ps : List Piece) (bs t : List ℕ) → AddsBytes options default ps bs → Shows bs t → PiecesShow options default ps t
+  pieces_add ps bs t adds p l s h = record { out = l.text ++ bs; is = adds l; shows = shows-append l.text s bs t h p }
 
-pieces_fresh : (default : List ℕ) → Shows default [] → PiecesShow default (Fresh ∷ []) []
-pieces_fresh default p out s h =
-    cond_both (is_fresh out) out (out ++ default) (λ x. Shows x (s ++ []))
-    (λ _. pieces_none default out s h)
-    (λ _. shows-append out s default [] h p)
+  -- one piece
+  pieces_bytes : (bs t : List ℕ) → Shows bs t → PiecesShow options default (Bytes bs ∷ []) t
+  pieces_bytes bs t p = pieces_add (Bytes bs ∷ []) bs t (λ l. refl) p
 
-pieces_last : (default : List ℕ) (blank : Bool) → Shows default [] → PiecesShow default (last_piece blank) []
-pieces_last default true p = pieces_fresh default p
-pieces_last default false p = pieces_none default
+  pieces_fresh : Shows default [] → PiecesShow options default (Fresh ∷ []) []
+  pieces_fresh p l s h =
+      record {
+        out = print default l.text Fresh;
+        is = refl;
+        shows = cond_both (is_fresh l.text) l.text (l.text ++ default) (λ x. Shows x (s ++ []))
+            (λ _. subst (Shows l.text) (sym (append-nil s)) h)
+            (λ _. shows-append l.text s default [] h p);
+      }
+
+  pieces_last : (blank : Bool) → Shows default [] → PiecesShow options default (last_piece blank) []
+  pieces_last true p = pieces_fresh p
+  pieces_last false p = pieces_none
 
 -- ---- lines of a block
 
@@ -252,9 +275,6 @@ plain_shows (line ∷ ls) p =
     (shows_no_more said said (ending_text line.ending) shown (shows_ending_text line.ending))
     (plain_shows ls (other_lines line ls p))
 
-lines_show : (d : Document) → d.options.parse.constructs ≡ no_constructs → (ls : List BlockLine) → AreText ls → Shows (text_of d ls) (said_in_lines ls)
-lines_show d off ls p = subst (λ x. Shows x (said_in_lines ls)) (sym (text_is_plain d off ls p)) (plain_shows ls p)
-
 -- ---- blocks
 
 -- what blocks say: the lines of their paragraphs
@@ -289,37 +309,42 @@ no_lists Nil p = refl
 no_lists (Cons b bs) p = no_item b (grouped bs) p.0 ∙ ap (Cons b) (no_lists bs p.1)
 
 -- blocks show what they say, in a document where every construct is off
-module _ (d : Document) (off : d.options.parse.constructs ≡ no_constructs) (default : List ℕ) (nothing_shown : Shows default []) where
-  paragraph_shows : (silent : Bool) (ls : List BlockLine) → AreText ls → PiecesShow default (block_pieces d on_page false silent (Paragraph ls)) (said_in_lines ls)
+module _ (d : Document) (off : d.options.parse.constructs ≡ no_constructs) (options : CompileOptions) (default : List ℕ)
+    (nothing_shown : Shows default []) where
+  lines_show : (ls : List BlockLine) → AreText ls → PiecesShow options default (text_of d ls) (said_in_lines ls)
+  lines_show ls p = pieces_add options default (text_of d ls) (plain_text ls) (said_in_lines ls) (text_is_plain d options default off ls p) (plain_shows ls p)
+
+  paragraph_shows : (silent : Bool) (ls : List BlockLine) → AreText ls
+      → PiecesShow options default (block_pieces d on_page false silent (Paragraph ls)) (said_in_lines ls)
   paragraph_shows silent ls p =
-      let start = codes "<p>" in
-      let end = codes "</p>" in
+      let start = Fresh ∷ Bytes (codes "<p>") ∷ [] in
+      let end = Bytes (codes "</p>") ∷ [] in
       let said = said_in_lines ls in
       let text = text_of d ls in
-      let last : PiecesShow default (Bytes text ∷ Bytes end ∷ []) (said ++ []) =
-      pieces-append default (Bytes text ∷ []) (Bytes end ∷ []) said []
-      (pieces_bytes default text said (lines_show d off ls p)) (pieces_bytes default end [] shows_end_of_p) in
-      let more = pieces-append default (Bytes start ∷ []) (Bytes text ∷ Bytes end ∷ []) [] (said ++ []) (pieces_bytes default start [] shows_p) last in
-      let all = pieces-append default (Fresh ∷ []) (Bytes start ∷ Bytes text ∷ Bytes end ∷ []) [] (said ++ []) (pieces_fresh default nothing_shown) more in
-      subst (PiecesShow default (block_pieces d on_page false silent (Paragraph ls))) (append-nil said) all
+      let first : PiecesShow options default start [] =
+      pieces-append options default (Fresh ∷ []) (Bytes (codes "<p>") ∷ []) [] [] (pieces_fresh options default nothing_shown)
+      (pieces_bytes options default (codes "<p>") [] shows_p) in
+      let more = pieces-append options default start text [] said first (lines_show ls p) in
+      let all = pieces-append options default (start ++ text) end said [] more (pieces_bytes options default (codes "</p>") [] shows_end_of_p) in
+      subst (PiecesShow options default (block_pieces d on_page false silent (Paragraph ls))) (append-nil said) all
 
-  ending_shows : (silent : Bool) (ending : Option LineEnding) → PiecesShow default (block_pieces d on_page false silent (Ending ending)) []
+  ending_shows : (silent : Bool) (ending : Option LineEnding) → PiecesShow options default (block_pieces d on_page false silent (Ending ending)) []
   ending_shows silent ending =
-      cond_both silent [] (Bytes (ending_text ending) ∷ []) (λ ps. PiecesShow default ps [])
-      (λ _. pieces_none default)
-      (λ _. pieces_bytes default (ending_text ending) [] (shows_ending_text ending))
+      cond_both silent [] (Bytes (ending_text ending) ∷ []) (λ ps. PiecesShow options default ps [])
+      (λ _. pieces_none options default)
+      (λ _. pieces_bytes options default (ending_text ending) [] (shows_ending_text ending))
 
-  block_shows : (silent : Bool) (b : Block) → BlockIsText b → PiecesShow default (block_pieces d on_page false silent b) (said_in_block b)
+  block_shows : (silent : Bool) (b : Block) → BlockIsText b → PiecesShow options default (block_pieces d on_page false silent b) (said_in_block b)
   block_shows silent (Paragraph ls) p = paragraph_shows silent ls p
   block_shows silent (Ending ending) p = ending_shows silent ending
-  block_shows silent (Blank ending) p = pieces_none default
+  block_shows silent (Blank ending) p = pieces_none options default
   block_shows silent b p = absurd p
 
-  blocks_show : (silent : Bool) (bs : Blocks) → BlocksAreText bs → PiecesShow default (children_pieces d on_page false silent bs) (said_in_blocks bs)
-  blocks_show silent Nil p = pieces_none default
+  blocks_show : (silent : Bool) (bs : Blocks) → BlocksAreText bs → PiecesShow options default (children_pieces d on_page false silent bs) (said_in_blocks bs)
+  blocks_show silent Nil p = pieces_none options default
   blocks_show silent (Cons b bs) p =
       let next = silences true false silent b in
-      pieces-append default (block_pieces d on_page false silent b) (children_pieces d on_page false next bs) (said_in_block b) (said_in_blocks bs)
+      pieces-append options default (block_pieces d on_page false silent b) (children_pieces d on_page false next bs) (said_in_block b) (said_in_blocks bs)
       (block_shows silent b p.0) (blocks_show next bs p.1)
 
 -- blocks joined
@@ -482,15 +507,22 @@ text_at_end ending t said p =
     text-join t.done (close no_constructs t.now) p.done
     (at_paragraph ending (λ o. BlocksAreText (close no_constructs o)) t.now p.now (λ ls r. text_closed ending ls r))
 
+-- where no footnote is called, the page is its text
+no_section : (options : CompileOptions) (default : List ℕ) (l : Laid) (t : List ℕ) → ShowsIn nothing_laid l t → Shows (finished options default l) t
+no_section options default l t p = subst (λ x. Shows (finished options default x) t) (sym p.is) p.shows
+
 -- a page shows what its blocks say
-document_shows : (d : Document) → d.options.parse.constructs ≡ no_constructs → (default : List ℕ) (bs : Blocks) → Shows default [] → BlocksAreText bs
-    → Shows (layout default (document_pieces d bs)) (said_in_blocks bs)
-document_shows d off default bs nothing_shown p =
+document_shows : (d : Document) → d.options.parse.constructs ≡ no_constructs → (options : CompileOptions) (default : List ℕ) (bs : Blocks) → Shows default []
+    → BlocksAreText bs → Shows (page_layout options default (document_pieces d bs)) (said_in_blocks bs)
+document_shows d off options default bs nothing_shown p =
     let last = last_piece (ends_blank false bs) in
-    let shown = blocks_show d off default nothing_shown false bs p in
-    let all = pieces-append default (children_pieces d on_page false false bs) last (said_in_blocks bs) [] shown (pieces_last default (ends_blank false bs) nothing_shown) in
-    subst (λ cs. Shows (layout default (children_pieces d on_page false false cs ++ last)) (said_in_blocks bs)) (sym (no_lists bs p))
-    (subst (Shows (layout default (children_pieces d on_page false false bs ++ last))) (append-nil (said_in_blocks bs)) (all [] [] (λ y. refl)))
+    let shown = blocks_show d off options default nothing_shown false bs p in
+    let all = pieces-append options default (children_pieces d on_page false false bs) last (said_in_blocks bs) [] shown
+    (pieces_last options default (ends_blank false bs) nothing_shown) in
+    let laid_out = λ (cs : Blocks). fold (lay options default) nothing_laid (children_pieces d on_page false false cs ++ last) in
+    subst (λ cs. Shows (finished options default (laid_out cs)) (said_in_blocks bs)) (sym (no_lists bs p))
+    (subst (Shows (finished options default (laid_out bs))) (append-nil (said_in_blocks bs))
+    (no_section options default (laid_out bs) (said_in_blocks bs ++ []) (all nothing_laid [] (λ y. refl))))
 
 -- what bytes show where nothing follows
 shows_alone : (x t : List ℕ) → Shows x t → visible false x ≡ t
@@ -503,11 +535,11 @@ page_shows tables options before text ending off p =
     let said = all_said_by (lines text) in
     let all = steps_say before LineFeed (lines text) empty_tree [] (record { done = tt; now = tt; says = refl }) p in
     let bs = closed no_constructs t in
-    let d = document options tables (document_definitions bs) in
+    let d = document options tables (document_targets bs) in
     let shown = λ (bs : Blocks). visible false (blocks_html tables options ending bs) in
     ap (λ others. shown (children_after no_constructs before (lines text) others)) (no_frontmatter (lines text))
     ∙ shows_alone (blocks_html tables options ending bs) (said_in_blocks bs)
-    (document_shows d off (ending_bytes ending) bs (shows_ending ending) (text_at_end all.0 t said all.1))
+    (document_shows d off options.compile (ending_bytes ending) bs (shows_ending ending) (text_at_end all.0 t said all.1))
     ∙ said_at_end all.0 t said all.1
 
 marked_page_shows : (tables : TextTables) (before : Kind) (text : List ℕ) (options : Options) → AreTextLines (lines text) → options.parse.constructs ≡ no_constructs

@@ -1,0 +1,6 @@
+pub mod Called
+mod Contents
+mod Numbers
+mod Section
+mod Defined
+mod Printed

@@ -1,0 +1,3 @@
+pub mod Footnotes
+pub mod Section
+pub mod Defined

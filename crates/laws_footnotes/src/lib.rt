@@ -1,0 +1,4 @@
+//! Numbers of footnotes, and where they stand.
+#![tactic(auto)]
+
+pub mod footnotes;

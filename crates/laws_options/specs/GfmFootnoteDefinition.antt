@@ -1,0 +1,26 @@
+-- Footnotes that are off.
+use Rattle.std.specs.Prelude.{◌≡◌, ℕ, false, List}
+use Rattle.markdown_options.specs.declared.configuration.CompileOptions.{CompileOptions}
+use Rattle.markdown_options.specs.declared.configuration.Options.{Options}
+use Rattle.definition_page.specs.TextTables.{TextTables}
+use Rattle.definition_page.specs.Html.{html}
+use Rattle.laws_options.specs.Laws.{printing_by}
+
+-- the same options, with the options of footnotes that these have
+abbrev pub with_footnotes_by : CompileOptions → Options → Options
+with_footnotes_by other options =
+    printing_by
+    (record options.compile {
+      gfm_footnote_back_label = other.gfm_footnote_back_label;
+      gfm_footnote_clobber_prefix = other.gfm_footnote_clobber_prefix;
+      gfm_footnote_label = other.gfm_footnote_label;
+      gfm_footnote_label_attributes = other.gfm_footnote_label_attributes;
+      gfm_footnote_label_tag_name = other.gfm_footnote_label_tag_name;
+    })
+    options
+
+-- where footnote definitions are off, a page is the same by any options of footnotes (in neither standard)
+abbrev pub FootnoteDefinitionOffLaw : Type 0
+FootnoteDefinitionOffLaw =
+    (tables : TextTables) (text : List ℕ) (options : Options) (other : CompileOptions) → options.parse.constructs.gfm_footnote_definition ≡ false
+    → html tables text (with_footnotes_by other options) ≡ html tables text options

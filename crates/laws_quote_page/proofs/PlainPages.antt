@@ -1,0 +1,361 @@
+-- Where footnote definitions are off, no text has one, and a page has no piece that footnotes need.
+use Rattle.std.proofs.Common.{◌≡◌, ℕ, eqb, List, [], ◌∷◌, ◌++◌, Bool, true, false, Option, None, Some, refl, ap, subst, sym, ◌∙◌, not}
+use Rattle.std.specs.Prelude.{codes, if◌then◌else◌, ◌||◌, ◌&&◌}
+use Rattle.std.specs.List.{flat_map}
+use Rattle.std.proofs.lemmas.Bool.{cond_both, both_ways}
+use Rattle.markdown_options.specs.declared.configuration.Constructs.{Constructs}
+use Rattle.markdown_options.specs.declared.line_ending.LineEnding.{LineEnding}
+use Rattle.definition_text.specs.BlockLines.{BlockLine}
+use Rattle.definition_text.specs.declared.beside.Kind.{Kind}
+use Rattle.definition_inline.specs.Inline.{Inline, Data, Escape, Character, Code, Math, Autolink, Literal, Html, EscapedBreak, TrailingBreak, LineEnd, Emphasis, Strong, Strikethrough, Link, Image, Call, Inlines, Nil, Cons}
+use Rattle.definition_text.specs.InlineCode.{InlineCode, codes_of}
+use Rattle.definition_inline.specs.GfmTaskListItem.{check_at}
+use Rattle.definition_inline.specs.Scan.{unindented}
+use Rattle.definition_inline.specs.LabelMatch.{normal_label, first_match}
+use Rattle.definition_block.specs.Container.{Quote, Item, Footnote}
+use Rattle.definition_block.specs.Blocks as tree
+use Rattle.definition_block.specs.Tree.{is_ending, one, blocks}
+use Rattle.definition_block.specs.Definitions.{block_footnotes, footnotes}
+use Rattle.definition_block.specs.Lists.{endings_of, after_endings, list_items, list_marker, rest_of, item_marker, before_list, before, grouped_block, grouped}
+use Rattle.definition_block.specs.declared.align_kind.AlignKind.{AlignKind}
+use Rattle.definition_page.specs.Tags.{Said, tag, bare_tag}
+use Rattle.definition_page.specs.Pieces.{Piece, Close, Eol, Fresh}
+use Rattle.definition_page.specs.InlinePieces.{Meaning, html_says, call_at, count_at, part_counts, inline_counts, element, part_pieces, inline_pieces}
+use Rattle.definition_page.specs.GfmTable.{Table, TableRow, cell_pieces, cells_pieces, row_pieces, ending_piece, body_row_pieces, head_pieces, body_pieces, table_pieces}
+use Rattle.definition_page.specs.Page as page
+use Rattle.definition_page.specs.Page.{Page, cons_ending, cons_blank}
+use Rattle.definition_page.specs.BlockPieces.{Place, at_top, inside, check_pieces, code_line, html_line, says, info_attributes, is_silent, last_shown, ends_plainly, fresh_unless, fenced_pieces, block_pieces, children_pieces}
+use Rattle.definition_page.specs.Read.{Reading, text_content, checked_paragraph, read_paragraph, Standing, on_page, in_container, in_item, next_standing, without_ending, read_block, read_blocks}
+use Rattle.definition_page.proofs.PlainLayout.{ArePlain}
+use Rattle.laws_block.proofs.Occurs.{BlockMayStand, MayStand, may_stand}
+
+-- ---- lists of such pieces
+
+plain-append : (ps qs : List Piece) → ArePlain ps → ArePlain qs → ArePlain (ps ++ qs)
+plain-append [] qs p q = q
+plain-append (x ∷ ps) qs p q = (p.0, plain-append ps qs p.1 q)
+
+plain-says : (said : List Said) → ArePlain (says said)
+plain-says [] = tt
+plain-says (s ∷ said) = (tt, plain-says said)
+
+plain-element : (name : List ℕ) (ps : List Piece) → ArePlain ps → Unit {0} × ArePlain (ps ++ Close name ∷ [])
+plain-element name ps p = (tt, plain-append ps (Close name ∷ []) p (tt, tt))
+
+plain-fresh_unless : (said : Bool) → ArePlain (fresh_unless said)
+plain-fresh_unless true = tt
+plain-fresh_unless false = (tt, tt)
+
+-- ---- blocks without footnote definitions, at any depth
+
+abbrev mutual
+  HasNoNote : tree.Block → Type 0
+  HasNoNote (tree.Holds Quote kids) = HaveNoNotes kids
+  HasNoNote (tree.Holds (Item item) kids) = HaveNoNotes kids
+  HasNoNote (tree.Holds (Footnote label) kids) = ⊥
+  HasNoNote (tree.Items items) = HaveNoNotes items
+  HasNoNote b = Unit {0}
+
+  pub HaveNoNotes : tree.Blocks → Type 0
+  HaveNoNotes tree.Nil = Unit {0}
+  HaveNoNotes (tree.Cons b bs) = HasNoNote b × HaveNoNotes bs
+
+-- where footnote definitions are off, no text has one
+module _ (on : Constructs) (off : on.gfm_footnote_definition ≡ false) where
+  mutual
+    has_no_note : (b : tree.Block) → BlockMayStand on b → HasNoNote b
+    has_no_note (tree.Holds Quote kids) p = have_no_notes kids p.1
+    has_no_note (tree.Holds (Item item) kids) p = have_no_notes kids p.1
+    has_no_note (tree.Holds (Footnote label) kids) p = absurd (both_ways on.gfm_footnote_definition off p.0)
+    has_no_note (tree.Items items) p = absurd p
+    has_no_note (tree.Paragraph ls) p = tt
+    has_no_note (tree.Heading rank ls) p = tt
+    has_no_note tree.Break p = tt
+    has_no_note (tree.IndentedCode ls) p = tt
+    has_no_note (tree.FencedCode info closed ls) p = tt
+    has_no_note (tree.Html ls) p = tt
+    has_no_note (tree.Table ls) p = tt
+    has_no_note (tree.Definition label destination title) p = tt
+    has_no_note (tree.Ending ending) p = tt
+    has_no_note (tree.Blank ending) p = tt
+
+    have_no_notes : (bs : tree.Blocks) → MayStand on bs → HaveNoNotes bs
+    have_no_notes tree.Nil p = tt
+    have_no_notes (tree.Cons b bs) p = (has_no_note b p.0, have_no_notes bs p.1)
+
+  pub text_without_notes : (kind : Kind) (text : List ℕ) → HaveNoNotes (blocks on kind text)
+  text_without_notes kind text = have_no_notes (blocks on kind text) (may_stand on kind text)
+
+-- blocks that have none have no labels of them
+mutual
+  block_labels : (b : tree.Block) → HasNoNote b → block_footnotes b ≡ []
+  block_labels (tree.Holds Quote kids) p = ap (λ labels. labels ++ []) (no_labels kids p)
+  block_labels (tree.Holds (Item item) kids) p = ap (λ labels. labels ++ []) (no_labels kids p)
+  block_labels (tree.Holds (Footnote label) kids) p = absurd p
+  block_labels (tree.Items items) p = no_labels items p
+  block_labels b p = refl
+
+  pub no_labels : (bs : tree.Blocks) → HaveNoNotes bs → footnotes bs ≡ []
+  no_labels tree.Nil p = refl
+  no_labels (tree.Cons b bs) p = ap (λ labels. labels ++ footnotes bs) (block_labels b p.0) ∙ no_labels bs p.1
+
+-- ---- and none once items are put into lists
+
+notes-join : (bs cs : tree.Blocks) → HaveNoNotes bs → HaveNoNotes cs → HaveNoNotes (tree.join bs cs)
+notes-join tree.Nil cs p q = q
+notes-join (tree.Cons b bs) cs p q = (p.0, notes-join bs cs p.1 q)
+
+notes_in_endings : (bs : tree.Blocks) → HaveNoNotes bs → HaveNoNotes (endings_of bs)
+notes_in_endings tree.Nil p = tt
+notes_in_endings (tree.Cons b bs) p =
+    cond_both (is_ending b) (tree.Cons b (endings_of bs)) tree.Nil HaveNoNotes (λ _. (p.0, notes_in_endings bs p.1)) (λ _. tt)
+
+notes_after_endings : (bs : tree.Blocks) → HaveNoNotes bs → HaveNoNotes (after_endings bs)
+notes_after_endings tree.Nil p = tt
+notes_after_endings (tree.Cons b bs) p =
+    cond_both (is_ending b) (after_endings bs) (tree.Cons b bs) HaveNoNotes (λ _. notes_after_endings bs p.1) (λ _. p)
+
+notes_in_list : (bs : tree.Blocks) → HaveNoNotes bs → HaveNoNotes (list_items bs)
+notes_in_list (tree.Cons (tree.Items items) bs) p = p.0
+notes_in_list bs p = tt
+
+notes_in_rest : (bs : tree.Blocks) → HaveNoNotes bs → HaveNoNotes (rest_of bs)
+notes_in_rest tree.Nil p = tt
+notes_in_rest (tree.Cons b bs) p = p.1
+
+notes-before : (b : tree.Block) (bs : tree.Blocks) → HasNoNote b → HaveNoNotes bs → HaveNoNotes (before b bs)
+notes-before b bs p q =
+    let others = after_endings bs in
+    let r = notes_after_endings bs q in
+    cond_both (eqb (item_marker b) 0) (tree.Cons b bs) (before_list (item_marker b) b bs) HaveNoNotes (λ _. (p, q))
+    (λ _. cond_both (eqb (list_marker others) (item_marker b))
+    (tree.Cons (tree.Items (tree.Cons b (tree.join (endings_of bs) (list_items others)))) (rest_of others))
+    (tree.Cons (tree.Items (one b)) bs) HaveNoNotes
+    (λ _. ((p, notes-join (endings_of bs) (list_items others) (notes_in_endings bs q) (notes_in_list others r)), notes_in_rest others r))
+    (λ _. ((p, tt), q)))
+
+mutual
+  note_grouped : (b : tree.Block) → HasNoNote b → HasNoNote (grouped_block b)
+  note_grouped (tree.Holds Quote kids) p = notes_grouped kids p
+  note_grouped (tree.Holds (Item item) kids) p = notes_grouped kids p
+  note_grouped (tree.Holds (Footnote label) kids) p = absurd p
+  note_grouped b p = p
+
+  notes_grouped : (bs : tree.Blocks) → HaveNoNotes bs → HaveNoNotes (grouped bs)
+  notes_grouped tree.Nil p = tt
+  notes_grouped (tree.Cons b bs) p = notes-before (grouped_block b) (grouped bs) (note_grouped b p.0) (notes_grouped bs p.1)
+
+-- ---- the blocks of a page
+
+abbrev mutual
+  ReadsNoNote : page.Block → Type 0
+  ReadsNoNote (page.Quote kids) = ReadNoNotes kids
+  ReadsNoNote (page.ItemList number loose items) = ReadNoNotes items
+  ReadsNoNote (page.Item kids) = ReadNoNotes kids
+  ReadsNoNote (page.Footnote label kids) = ⊥
+  ReadsNoNote b = Unit {0}
+
+  ReadNoNotes : page.Blocks → Type 0
+  ReadNoNotes page.Nil = Unit {0}
+  ReadNoNotes (page.Cons b bs) = ReadsNoNote b × ReadNoNotes bs
+
+notes_without_ending : (bs : page.Blocks) → ReadNoNotes bs → ReadNoNotes (without_ending bs)
+notes_without_ending (page.Cons (page.Ending ending) bs) p = p.1
+notes_without_ending bs p = p
+
+module _ (r : Reading) where
+  checked_note : (content : List InlineCode) (check : Option Bool) → ReadsNoNote (checked_paragraph r content check)
+  checked_note content None = tt
+  checked_note content (Some done) = tt
+
+  paragraph_note : (standing : Standing) (ls : List BlockLine) → ReadsNoNote (read_paragraph r standing.first ls)
+  paragraph_note standing ls =
+      let content = unindented (text_content r ls) in
+      checked_note content (check_at r.options.constructs standing.first (codes_of content))
+
+  mutual
+    note_read : (standing : Standing) (b : tree.Block) (others : page.Blocks) → HasNoNote b → ReadNoNotes others → ReadNoNotes (read_block r standing b others)
+    note_read standing (tree.Paragraph ls) others p q = (paragraph_note standing ls, q)
+    note_read standing (tree.Heading rank ls) others p q = (tt, q)
+    note_read standing tree.Break others p q = (tt, q)
+    note_read standing (tree.IndentedCode ls) others p q = (tt, q)
+    note_read standing (tree.FencedCode info closed ls) others p q =
+        (tt, cond_both (standing.top && not closed) (without_ending others) others ReadNoNotes (λ _. notes_without_ending others q) (λ _. q))
+    note_read standing (tree.Html ls) others p q = (tt, q)
+    note_read standing (tree.Table ls) others p q = (tt, q)
+    note_read standing (tree.Definition label destination title) others p q = (tt, q)
+    note_read standing (tree.Holds Quote kids) others p q = (notes_read in_container kids p, q)
+    note_read standing (tree.Holds (Item item) kids) others p q = (notes_read in_item kids p, q)
+    note_read standing (tree.Holds (Footnote label) kids) others p q = absurd p
+    note_read standing (tree.Items items) others p q = (notes_read in_container items p, q)
+    note_read standing (tree.Ending None) others p q = q
+    note_read standing (tree.Ending (Some ending)) others p q = (tt, q)
+    note_read standing (tree.Blank None) others p q = q
+    note_read standing (tree.Blank (Some ending)) others p q = (tt, q)
+
+    notes_read : (standing : Standing) (bs : tree.Blocks) → HaveNoNotes bs → ReadNoNotes (read_blocks r standing bs)
+    notes_read standing tree.Nil p = tt
+    notes_read standing (tree.Cons b bs) p =
+        note_read standing b (read_blocks r (next_standing standing b) bs) p.0 (notes_read (next_standing standing b) bs p.1)
+
+-- ---- what they print
+
+module _ (m : Meaning) (none : m.footnotes ≡ []) where
+  no_call : (label : List ℕ) → call_at (first_match label m.footnotes) (normal_label label) ≡ []
+  no_call label = ap (λ labels. call_at (first_match label labels) (normal_label label)) none
+
+  mutual
+    no_count : (i : Inline) → part_counts m i ≡ []
+    no_count (Emphasis kids) = no_counts kids
+    no_count (Strong kids) = no_counts kids
+    no_count (Strikethrough kids) = no_counts kids
+    no_count (Link target kids) = no_counts kids
+    no_count (Image target kids) = no_counts kids
+    no_count (Call label) = ap (λ labels. count_at (first_match label labels) (normal_label label)) none
+    no_count i = refl
+
+    no_counts : (is : Inlines) → inline_counts m is ≡ []
+    no_counts Nil = refl
+    no_counts (Cons i is) = ap (λ ps. ps ++ inline_counts m is) (no_count i) ∙ no_counts is
+
+  mutual
+    part_plain : (i : Inline) → ArePlain (part_pieces m i)
+    part_plain (Data b) = (tt, tt)
+    part_plain (Escape b) = (tt, tt)
+    part_plain (Character text) = (tt, tt)
+    part_plain (Code text) = (tt, (tt, (tt, tt)))
+    part_plain (Math text) = (tt, (tt, (tt, tt)))
+    part_plain (Autolink is_email text) = (tt, (tt, (tt, tt)))
+    part_plain (Literal kind text) = (tt, (tt, (tt, tt)))
+    part_plain (Html html) = plain-says (html_says m.compile html)
+    part_plain EscapedBreak = (tt, tt)
+    part_plain TrailingBreak = (tt, tt)
+    part_plain (LineEnd code) = (tt, tt)
+    part_plain (Emphasis kids) = plain-element _ (inline_pieces m kids) (inline_plain kids)
+    part_plain (Strong kids) = plain-element _ (inline_pieces m kids) (inline_plain kids)
+    part_plain (Strikethrough kids) = plain-element _ (inline_pieces m kids) (inline_plain kids)
+    part_plain (Link target kids) = plain-element _ (inline_pieces m kids) (inline_plain kids)
+    part_plain (Image target kids) = (tt, subst ArePlain (sym (no_counts kids)) tt)
+    part_plain (Call label) = subst ArePlain (sym (no_call label)) tt
+
+    inline_plain : (is : Inlines) → ArePlain (inline_pieces m is)
+    inline_plain Nil = tt
+    inline_plain (Cons i is) = plain-append (part_pieces m i) (inline_pieces m is) (part_plain i) (inline_plain is)
+
+  -- ---- tables
+
+  cells_plain : (name : List ℕ) (aligns : List AlignKind) (cells : List Inlines) → ArePlain (cells_pieces m name aligns cells)
+  cells_plain name [] [] = tt
+  cells_plain name [] (c ∷ cs) =
+      subst (λ ps. ArePlain (ps ++ flat_map (inline_counts m) cs)) (sym (no_counts c)) (cells_plain name [] cs)
+  cells_plain name (align ∷ aligns) [] = plain-append (cell_pieces m name align Nil) _ (tt, (tt, (tt, tt))) (cells_plain name aligns [])
+  cells_plain name (align ∷ aligns) (c ∷ cs) =
+      plain-append (cell_pieces m name align c) _ (tt, plain-element _ (inline_pieces m c) (inline_plain c)) (cells_plain name aligns cs)
+
+  row_plain : (name : List ℕ) (aligns : List AlignKind) (row : TableRow) → ArePlain (row_pieces m name aligns row)
+  row_plain name aligns row =
+      let cells = cells_pieces m name aligns row.cells in
+      (tt, plain-element _ (cells ++ Fresh ∷ []) (plain-append cells (Fresh ∷ []) (cells_plain name aligns row.cells) (tt, tt)))
+
+  rows_plain : (aligns : List AlignKind) (rows : List TableRow) → ArePlain (flat_map (body_row_pieces m aligns) rows)
+  rows_plain aligns [] = tt
+  rows_plain aligns (row ∷ rows) =
+      let one_row = row_pieces m (codes "td") aligns row in
+      plain-append (body_row_pieces m aligns row) _ (plain-append one_row (ending_piece row.ending ∷ []) (row_plain _ aligns row) (tt, tt))
+      (rows_plain aligns rows)
+
+  body_plain : (aligns : List AlignKind) (ending : Option LineEnding) (rows : List TableRow) → ArePlain (body_pieces m aligns ending rows)
+  body_plain aligns ending [] = tt
+  body_plain aligns ending (row ∷ rows) =
+      let inner = flat_map (body_row_pieces m aligns) (row ∷ rows) in
+      (tt, plain-element _ (inner ++ Fresh ∷ []) (plain-append inner (Fresh ∷ []) (rows_plain aligns (row ∷ rows)) (tt, tt)))
+
+  head_plain : (aligns : List AlignKind) (head : TableRow) → ArePlain (head_pieces m aligns head)
+  head_plain aligns head =
+      let row = row_pieces m (codes "th") aligns head in
+      let end = ending_piece head.ending ∷ Fresh ∷ [] in
+      plain-element _ (row ++ end) (plain-append row end (row_plain _ aligns head) (tt, (tt, tt)))
+
+  table_plain : (t : Table) → ArePlain (table_pieces m t)
+  table_plain t =
+      let head = head_pieces m t.aligns t.head in
+      let body = body_pieces m t.aligns t.ending t.rows in (
+        tt,
+        plain-element _ (Fresh ∷ head ++ body ++ Fresh ∷ []) (
+          tt,
+          plain-append (head ++ body) (Fresh ∷ [])
+              (plain-append head body (head_plain t.aligns t.head) (body_plain t.aligns t.ending t.rows)) (tt, tt),
+        ),
+      )
+
+  -- ---- blocks
+
+  check_plain : (check : Option Bool) → ArePlain (check_pieces m.compile check)
+  check_plain None = tt
+  check_plain (Some done) = (tt, tt)
+
+  fenced_plain : (place : Place) (closed : Bool) (ls : List BlockLine) → ArePlain (fenced_pieces place closed ls)
+  fenced_plain place closed [] = tt
+  fenced_plain place closed (line ∷ others) =
+      let lines = says (flat_map code_line (line ∷ others)) in
+      let end = if place.top || closed then [] else Eol ∷ [] in
+      plain-append (lines ++ end) (Fresh ∷ [])
+      (plain-append lines end (plain-says (flat_map code_line (line ∷ others)))
+      (cond_both (place.top || closed) [] (Eol ∷ []) ArePlain (λ _. tt) (λ _. (tt, tt))))
+      (tt, tt)
+
+  mutual
+    block_plain : (place : Place) (before : Option page.Block) (b : page.Block) → ReadsNoNote b → ArePlain (block_pieces m place before b)
+    block_plain place before (page.Paragraph check is) p =
+        let text = check_pieces m.compile check ++ inline_pieces m is in
+        let plain = plain-append (check_pieces m.compile check) (inline_pieces m is) (check_plain check) (inline_plain is) in
+        cond_both place.tight text (Fresh ∷ element (bare_tag (codes "p")) text) ArePlain (λ _. plain) (λ _. (tt, plain-element _ text plain))
+    block_plain place before (page.Heading rank is) p = (tt, plain-element _ (inline_pieces m is) (inline_plain is))
+    block_plain place before page.Break p = (tt, (tt, tt))
+    block_plain place before (page.IndentedCode ls) p =
+        let lines = says (flat_map code_line ls) in
+        let code = lines ++ Fresh ∷ [] in (
+          tt,
+          plain-element _ (element (bare_tag (codes "code")) code)
+              (plain-element _ code (plain-append lines (Fresh ∷ []) (plain-says (flat_map code_line ls)) (tt, tt))),
+        )
+    block_plain place before (page.FencedCode info closed ls) p =
+        let lines = fenced_pieces place closed ls in
+        let code = element (tag (codes "code") (info_attributes info)) lines in (
+          tt,
+          plain-append (element (bare_tag (codes "pre")) code) (fresh_unless closed)
+              (plain-element _ code (plain-element _ lines (fenced_plain place closed ls))) (plain-fresh_unless closed),
+        )
+    block_plain place before (page.Html ls) p = (tt, plain-says (flat_map (html_line m.compile) ls))
+    block_plain place before (page.Table t) p = table_plain t
+    block_plain place before page.Definition p = tt
+    block_plain place before (page.Quote kids) p =
+        let inner = children_pieces m (inside false) None kids in
+        (tt, plain-element _ (inner ++ Fresh ∷ []) (plain-append inner (Fresh ∷ []) (children_plain (inside false) None kids p) (tt, tt)))
+    block_plain place before (page.ItemList number loose items) p =
+        let inner = children_pieces m (inside (not loose)) None items in
+        (tt, plain-element _ (inner ++ Eol ∷ []) (plain-append inner (Eol ∷ []) (children_plain (inside (not loose)) None items p) (tt, tt)))
+    block_plain place before (page.Item kids) p =
+        let inner = children_pieces m (inside place.tight) None kids in
+        let end = fresh_unless (ends_plainly place.tight (last_shown None kids)) in (
+          tt,
+          plain-element _ (inner ++ end)
+              (plain-append inner end (children_plain (inside place.tight) None kids p) (plain-fresh_unless (ends_plainly place.tight (last_shown None kids)))),
+        )
+    block_plain place before (page.Footnote label kids) p = absurd p
+    block_plain place before (page.Ending ending) p =
+        cond_both (is_silent place before) [] _ ArePlain (λ _. tt) (λ _. (tt, tt))
+    block_plain place before (page.Blank ending) p = tt
+
+    children_plain : (place : Place) (before : Option page.Block) (bs : page.Blocks) → ReadNoNotes bs → ArePlain (children_pieces m place before bs)
+    children_plain place before page.Nil p = tt
+    children_plain place before (page.Cons b bs) p =
+        plain-append (block_pieces m place before b) (children_pieces m place (Some b) bs) (block_plain place before b p.0) (children_plain place (Some b) bs p.1)
+
+  -- the page of such blocks has no piece that footnotes need
+  pub document_plain : (r : Reading) (bs : tree.Blocks) (said : Bool) → HaveNoNotes bs
+      → ArePlain (children_pieces m at_top None (read_blocks r on_page (grouped bs)) ++ fresh_unless said)
+  document_plain r bs said p =
+      let read = read_blocks r on_page (grouped bs) in
+      plain-append (children_pieces m at_top None read) (fresh_unless said)
+      (children_plain at_top None read (notes_read r on_page (grouped bs) (notes_grouped bs p))) (plain-fresh_unless said)
