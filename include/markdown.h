@@ -29,7 +29,11 @@ enum {
     /* An item that begins with [ ] or [x] has a check box. */
     MARKDOWN_TASK_LIST_ITEMS = 32,
     /* A row of delimiters below a line, as | - | - |, makes a table. */
-    MARKDOWN_TABLES = 64
+    MARKDOWN_TABLES = 64,
+    /* www.a.b, https://a.b and a@b.c are links. */
+    MARKDOWN_AUTOLINK_LITERALS = 128,
+    /* [^a] calls the footnote that [^a]: b defines; footnotes that are called stand at the page's end. */
+    MARKDOWN_FOOTNOTES = 256
 };
 
 /* What a call answers. */

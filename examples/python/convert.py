@@ -2,7 +2,7 @@
 """Reads Markdown from standard input, and writes its HTML to standard output.
 
     convert.py LIBRARY [--dangerous] [--plain] [--strikethrough] [--math] [--frontmatter] [--task-list-items]
-        [--tables]
+        [--tables] [--autolink-literals] [--footnotes]
 """
 import sys
 
@@ -16,6 +16,8 @@ FLAGS = {
     "--frontmatter": markdown_c.FRONTMATTER,
     "--task-list-items": markdown_c.TASK_LIST_ITEMS,
     "--tables": markdown_c.TABLES,
+    "--autolink-literals": markdown_c.AUTOLINK_LITERALS,
+    "--footnotes": markdown_c.FOOTNOTES,
 }
 
 library = markdown_c.load(sys.argv[1])

@@ -3,6 +3,7 @@ import ctypes
 import os
 
 DANGEROUS, PLAIN, STRIKETHROUGH, MATH, FRONTMATTER, TASK_LIST_ITEMS, TABLES = 1, 2, 4, 8, 16, 32, 64
+AUTOLINK_LITERALS, FOOTNOTES = 128, 256
 _OK, _ROOM = 0, 1
 _FAULTS = {2: "input is not UTF-8", 3: "wrong flags", 4: "input is too large", 5: "out of memory"}
 

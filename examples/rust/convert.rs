@@ -17,6 +17,8 @@ fn main() -> Result<(), Box<dyn Error>> {
             "--frontmatter" => flags.frontmatter = true,
             "--task-list-items" => flags.task_list_items = true,
             "--tables" => flags.tables = true,
+            "--autolink-literals" => flags.autolink_literals = true,
+            "--footnotes" => flags.footnotes = true,
             _ => return Err(format!("an unknown word: {word}").into()),
         }
     }

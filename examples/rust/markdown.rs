@@ -16,6 +16,8 @@ mod calls {
     pub const FRONTMATTER: u32 = 16;
     pub const TASK_LIST_ITEMS: u32 = 32;
     pub const TABLES: u32 = 64;
+    pub const AUTOLINK_LITERALS: u32 = 128;
+    pub const FOOTNOTES: u32 = 256;
 
     #[link(name = "markdown", kind = "static")]
     extern "C" {
@@ -47,6 +49,10 @@ pub struct Flags {
     pub task_list_items: bool,
     /// A row of delimiters below a line makes a table.
     pub tables: bool,
+    /// `www.a.b`, `https://a.b` and `a@b.c` are links.
+    pub autolink_literals: bool,
+    /// `[^a]` calls the footnote that `[^a]: b` defines.
+    pub footnotes: bool,
 }
 
 impl Flags {
@@ -59,6 +65,8 @@ impl Flags {
             (self.frontmatter, calls::FRONTMATTER),
             (self.task_list_items, calls::TASK_LIST_ITEMS),
             (self.tables, calls::TABLES),
+            (self.autolink_literals, calls::AUTOLINK_LITERALS),
+            (self.footnotes, calls::FOOTNOTES),
         ]
         .into_iter()
         .filter_map(|(asked, flag)| asked.then_some(flag))

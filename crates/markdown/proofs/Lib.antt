@@ -1,3 +1,4 @@
 pub mod Early
 pub mod Transfers
 pub mod Pages
+pub mod FootnoteLabels

@@ -40,7 +40,8 @@ says_escaped_line tables options value page is line same escapes some trimmed no
     is ∙ ap (λ t. html tables t options) same ∙ escaped_page_law tables line options escapes some trimmed no_mark
 
 pub ends_page : (tables : TextTables) (options : Options) (value page : List ℕ) → page ≡ html tables value options → EndsPage tables options value page
-ends_page tables options value page is e text same feeds = is ∙ ap (λ t. html tables t options) same ∙ ending_page_law e tables text options feeds
+ends_page tables options value page is e text same feeds notes =
+    is ∙ ap (λ t. html tables t options) same ∙ ending_page_law e tables text options feeds notes
 
 pub lists_page : (tables : TextTables) (options : Options) (value page : List ℕ) → page ≡ html tables value options → ListsPage tables options value page
 lists_page tables options value page is text same listable =

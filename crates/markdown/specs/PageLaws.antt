@@ -9,7 +9,7 @@ use Rattle.markdown_definition.specs.TextTables.{TextTables}
 use Rattle.laws_list.specs.Listed.{listed}
 use Rattle.laws_list_page.specs.Laws.{IsListable, list_around}
 use Rattle.laws_endings.specs.Endings.{with_ending}
-use Rattle.laws_endings_page.specs.Laws.{EndsInFeeds}
+use Rattle.laws_endings_page.specs.Laws.{EndsInFeeds, FootnotesHoldNoFeed}
 use Rattle.laws_inline.specs.Escaped.{escaped, IsTrimmedLine}
 use Rattle.laws_quote.specs.Quoted.{quoted}
 use Rattle.laws_quote_page.specs.Laws.{IsQuotable, quote_around}
@@ -27,10 +27,12 @@ SaysEscapedLine options value page =
     (line : List ℕ) → value ≡ escaped line → options.parse.constructs.character_escape ≡ true → line ≢ [] → IsTrimmedLine line → has_mark line ≡ false
     → page ≡ codes "<p>" ++ encode line ++ codes "</p>"
 
--- the page of a text with a line ending in place of each LF is the page of that text with that ending in place of each LF
+-- the page of a text with a line ending in place of each LF is the page of that text with that ending in place of each LF, where what the options say
+-- around footnotes holds no LF
 abbrev pub EndsPage : TextTables → Options → List ℕ → List ℕ → Type 0
 EndsPage tables options value page =
-    (e : LineEnding) (text : List ℕ) → value ≡ with_ending e text → EndsInFeeds text → page ≡ with_ending e (html tables text options)
+    (e : LineEnding) (text : List ℕ) → value ≡ with_ending e text → EndsInFeeds text → FootnotesHoldNoFeed options
+    → page ≡ with_ending e (html tables text options)
 
 -- the page of a text with `+ ` before its first line and two spaces before every other is a list of one item around the page of that text, but for
 -- line endings beside tags

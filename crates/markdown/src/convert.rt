@@ -1,6 +1,6 @@
 //! From a text to HTML.
-ghost use Rattle.std.specs.Prelude.{◌≡◌, ◌/◌, ◌≤◌, ◌↔◌, IsTrue, IfOk, IfErr, length, string_bytes, true};
-ghost use Rattle.markdown_options.specs.Built.{is_built};
+ghost use Rattle.std.specs.Prelude.{◌≡◌, ◌/◌, ◌≤◌, ◌↔◌, IsTrue, IfOk, IfErr, length, string_bytes, false};
+ghost use Rattle.markdown_options.specs.Mdx.{has_mdx};
 ghost use Rattle.markdown_options.specs.Messages.{IsOutOfMemory};
 ghost use Rattle.markdown_options.specs.Defaults.{default_options};
 ghost use Rattle.markdown_definition.specs.Html.{html};
@@ -11,7 +11,7 @@ ghost use Rattle.markdown_tables.specs.Builtin.{builtin_tables};
 ghost use Rattle.markdown_definition.specs.TextTables.{text_tables};
 
 use block_parser::block_rows;
-use block_targets::{definition_contents, document_definitions};
+use block_targets::{definition_contents, document_definitions, document_footnotes};
 use definition_text::Kind;
 use html_contents::Texts;
 use html_page::print_rows;
@@ -51,19 +51,19 @@ pub fn to_html<A: Allocator + Clone>(alloc: A, value: &str) -> Result<String<A>,
 
 /// The HTML of a text, with the tables that are built in.
 ///
-/// The text fits, and the options turn on only constructs that are built, which
-/// `ParseOptions::built` tests. The only error is want of memory. Under safe options the HTML is
-/// a safe page, and has one reading as such. A text with `> ` before every line gives the quote of
-/// that text's HTML, one with `+ ` before its first line and two spaces before every other a list
-/// around it, an escaped line a paragraph that says it, and a text with another line ending that
-/// text's HTML with that ending.
+/// The text fits, and the options turn on no construct of MDX, which `Constructs::has_mdx` tests.
+/// The only error is want of memory. Under safe options the HTML is a safe page, and has one
+/// reading as such. A text with `> ` before every line gives the quote of that text's HTML, one
+/// with `+ ` before its first line and two spaces before every other a list around it, an escaped
+/// line a paragraph that says it, and a text with another line ending that text's HTML with that
+/// ending.
 pub fn to_html_with_options<A: Allocator + Clone>(
     alloc: A,
     value: &str,
     options: &Options,
 ) -> Result<String<A>, Message>
     requires size { length value.now ≤ SIZE_MAX }
-    requires built { is_built options.now.parse.constructs ≡ true }
+    requires without_mdx { has_mdx options.now.parse.constructs ≡ false }
     ensures page { IfOk result (λ page. string_bytes page ≡ html builtin_tables value.now options.now) }
     ensures safe { IfOk result (λ page. AreSafe options.now.compile → HasOneReading (string_bytes page)) }
     ensures quotes { IfOk result (λ page. QuotesPage builtin_tables options.now value.now (string_bytes page)) }
@@ -77,12 +77,12 @@ pub fn to_html_with_options<A: Allocator + Clone>(
 
 /// The HTML of a text, with tables of named references and punctuation.
 ///
-/// The text fits, and the options turn on only constructs that are built, which
-/// `ParseOptions::built` tests. The only error is want of memory. Under safe options the HTML is
-/// a safe page, and has one reading as such. A text with `> ` before every line gives the quote of
-/// that text's HTML, one with `+ ` before its first line and two spaces before every other a list
-/// around it, an escaped line a paragraph that says it, and a text with another line ending that
-/// text's HTML with that ending.
+/// The text fits, and the options turn on no construct of MDX, which `Constructs::has_mdx` tests.
+/// The only error is want of memory. Under safe options the HTML is a safe page, and has one
+/// reading as such. A text with `> ` before every line gives the quote of that text's HTML, one
+/// with `+ ` before its first line and two spaces before every other a list around it, an escaped
+/// line a paragraph that says it, and a text with another line ending that text's HTML with that
+/// ending.
 pub fn to_html_with_tables<T: Tables, A: Allocator + Clone>(
     alloc: A,
     value: &str,
@@ -90,7 +90,7 @@ pub fn to_html_with_tables<T: Tables, A: Allocator + Clone>(
     tables: &T,
 ) -> Result<String<A>, Message>
     requires size { length value.now ≤ SIZE_MAX }
-    requires built { is_built options.now.parse.constructs ≡ true }
+    requires without_mdx { has_mdx options.now.parse.constructs ≡ false }
     ensures page { IfOk result (λ page.
         string_bytes page ≡ html (text_tables (T.reference_of tables.now) (T.punctuation_of tables.now)) value.now options.now) }
     ensures safe { IfOk result (λ page. AreSafe options.now.compile → HasOneReading (string_bytes page)) }
@@ -117,7 +117,7 @@ fn print<T: Tables, A: Allocator + Clone>(
     tables: &T,
 ) -> Result<String<A>, AllocError>
     requires size { length text.now ≤ SIZE_MAX }
-    requires built { is_built options.now.parse.constructs ≡ true }
+    requires without_mdx { has_mdx options.now.parse.constructs ≡ false }
     ensures { IfOk result (λ page.
         string_bytes page ≡ marked_html (text_tables (T.reference_of tables.now) (T.punctuation_of tables.now)) before text.now options.now) }
 {
@@ -125,10 +125,12 @@ fn print<T: Tables, A: Allocator + Clone>(
     let ending = default_ending(text, options.compile.default_line_ending);
     let contents = definition_contents(alloc.clone()?, &blocks.rows, &blocks.pieces)?;
     let definitions = document_definitions(alloc.clone()?, &contents)?;
+    let footnotes = document_footnotes(alloc.clone()?, &blocks.rows, &blocks.pieces)?;
     let texts = Texts {
         options,
         tables,
         labels: &definitions.labels,
+        footnotes: &footnotes.labels,
         links: &definitions.links,
     };
     let room = room(text.len());

@@ -8,11 +8,14 @@ use Rattle.markdown_options.specs.Defaults.{no_constructs, default_constructs, d
 abbrev pub has_flag : ℕ → ℕ → Bool
 has_flag flag flags = flags / flag % 2 == 1
 
--- the constructs of a sum of flags; 2: none is on; 4: strikethrough; 8: math in a text and in blocks; 16: frontmatter; 32: task list items; 64: tables
+-- the constructs of a sum of flags; 2: none is on; 4: strikethrough; 8: math in a text and in blocks; 16: frontmatter; 32: task list items; 64: tables; 128: links with no brackets; 256: footnotes
 abbrev pub flagged_constructs : ℕ → Constructs
 flagged_constructs flags =
     if has_flag 2 flags then no_constructs
     else record default_constructs {
+      gfm_autolink_literal = has_flag 128 flags;
+      gfm_footnote_definition = has_flag 256 flags;
+      gfm_label_start_footnote = has_flag 256 flags;
       gfm_strikethrough = has_flag 4 flags;
       gfm_table = has_flag 64 flags;
       gfm_task_list_item = has_flag 32 flags;
@@ -30,4 +33,4 @@ flagged_options flags = record default_options {
 
 -- none where there are other flags
 abbrev pub options_of : ℕ → Option Options
-options_of flags = if nat_lt flags 128 then Some (flagged_options flags) else None
+options_of flags = if nat_lt flags 512 then Some (flagged_options flags) else None

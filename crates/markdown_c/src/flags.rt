@@ -1,6 +1,6 @@
 //! The options that a sum of flags asks for.
-ghost use Rattle.std.specs.Prelude.{◌≡◌, ◌<◌, IfSome, true};
-ghost use Rattle.markdown_options.specs.Built.{is_built};
+ghost use Rattle.std.specs.Prelude.{◌≡◌, ◌<◌, IfSome, false};
+ghost use Rattle.markdown_options.specs.Mdx.{has_mdx};
 ghost use Rattle.markdown_c.specs.Flags.{flagged_constructs, flagged_options, has_flag, options_of};
 
 use markdown::{CompileOptions, Constructs, Options, ParseOptions};
@@ -26,13 +26,27 @@ const TASK_LIST_ITEMS: u32 = 32;
 /// A row of delimiters below a line makes a table (GFM 4.10).
 const TABLES: u32 = 64;
 
+/// `www.a.b`, `https://a.b` and `a@b.c` are links (GFM 6.9).
+const AUTOLINK_LITERALS: u32 = 128;
+
+/// `[^a]` calls the footnote that `[^a]: b` defines.
+const FOOTNOTES: u32 = 256;
+
 /// All flags together.
-const ALL: u32 = DANGEROUS + PLAIN + STRIKETHROUGH + MATH + FRONTMATTER + TASK_LIST_ITEMS + TABLES;
+const ALL: u32 = DANGEROUS
+    + PLAIN
+    + STRIKETHROUGH
+    + MATH
+    + FRONTMATTER
+    + TASK_LIST_ITEMS
+    + TABLES
+    + AUTOLINK_LITERALS
+    + FOOTNOTES;
 
 /// The options that a sum of flags asks for, if it has no others.
 pub(crate) fn options_of(flags: u32) -> Option<Options>
     ensures options { result ≡ options_of flags }
-    ensures built { IfSome result (λ options. is_built options.parse.constructs ≡ true) }
+    ensures without_mdx { IfSome result (λ options. has_mdx options.parse.constructs ≡ false) }
 {
     if flags > ALL {
         return None;
@@ -51,12 +65,15 @@ fn has_flag(flag: u32, flags: u32) -> bool
 /// The constructs that are on by default, and those of the flags; none with the flag for none.
 fn flagged_constructs(flags: u32) -> Constructs
     ensures constructs { result ≡ flagged_constructs flags }
-    ensures built { is_built result ≡ true }
+    ensures without_mdx { has_mdx result ≡ false }
 {
     if has_flag(PLAIN, flags) {
         return Constructs::none();
     }
     Constructs {
+        gfm_autolink_literal: has_flag(AUTOLINK_LITERALS, flags),
+        gfm_footnote_definition: has_flag(FOOTNOTES, flags),
+        gfm_label_start_footnote: has_flag(FOOTNOTES, flags),
         gfm_strikethrough: has_flag(STRIKETHROUGH, flags),
         gfm_table: has_flag(TABLES, flags),
         gfm_task_list_item: has_flag(TASK_LIST_ITEMS, flags),
@@ -70,7 +87,7 @@ fn flagged_constructs(flags: u32) -> Constructs
 /// The default options, with what the flags change.
 fn flagged_options(flags: u32) -> Options
     ensures options { result ≡ flagged_options flags }
-    ensures built { is_built result.parse.constructs ≡ true }
+    ensures without_mdx { has_mdx result.parse.constructs ≡ false }
 {
     Options {
         parse: ParseOptions {

@@ -1,9 +1,9 @@
 //! The command line.
 //!
-//!     markdown [--dangerous] [--plain] [--references PATH] [--help] [--version]
+//!     markdown [--gfm] [--dangerous] [--plain] [--references PATH] [--help] [--version]
 ghost use Rattle.std.specs.Prelude.{◌≡◌, IfOk, false};
 ghost use Rattle.clap.specs.Words.{app_of, rule_of};
-ghost use Rattle.markdown_settings.specs.Command.{dangerous_rule, markdown_command, plain_rule, references_rule};
+ghost use Rattle.markdown_settings.specs.Command.{dangerous_rule, gfm_rule, markdown_command, plain_rule, references_rule};
 
 use clap::{Arg, ArgAction, Command};
 use std::alloc::{AllocError, Global};
@@ -15,7 +15,11 @@ const VERSION: &str = "0.1.0";
 const EXAMPLES: &str = "\
 Examples:
   markdown < page.md > page.html
+  markdown --gfm < README.md > readme.html
   markdown --references names.txt < page.md > page.html";
+
+const GFM: &str =
+    "Read tables, task lists, strikethrough, footnotes and bare links, as GitHub does";
 
 const DANGEROUS: &str =
     "Print HTML of the text as it is, and let links and images have any protocol";
@@ -34,10 +38,21 @@ pub(crate) fn command<'a>(alloc: Global) -> Result<Command<'a>, AllocError>
         .about(ABOUT)
         .version(VERSION)
         .after_help(EXAMPLES)
+        .arg(gfm(alloc))?
         .arg(dangerous(alloc))?
         .arg(plain(alloc))?
         .arg(references(alloc))?;
     Ok(command)
+}
+
+fn gfm<'a>(alloc: Global) -> Arg<'a>
+    ensures rule { rule_of result ≡ gfm_rule }
+    ensures local { result.global ≡ false }
+{
+    Arg::new(alloc, "gfm")
+        .long("gfm")
+        .action(ArgAction::SetTrue)
+        .help(GFM)
 }
 
 fn dangerous<'a>(alloc: Global) -> Arg<'a>

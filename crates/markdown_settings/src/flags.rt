@@ -1,7 +1,7 @@
 //! The options that flags ask for.
-ghost use Rattle.std.specs.Prelude.{◌≡◌, true};
-ghost use Rattle.markdown_options.specs.Built.{is_built};
-ghost use Rattle.markdown_settings.specs.Flags.{flag_options, parse_of};
+ghost use Rattle.std.specs.Prelude.{◌≡◌, false};
+ghost use Rattle.markdown_options.specs.Mdx.{has_mdx};
+ghost use Rattle.markdown_settings.specs.Flags.{flag_options, parse_of, printed_as};
 
 use markdown_options::{CompileOptions, Constructs, Options, ParseOptions};
 
@@ -15,30 +15,44 @@ pub struct Settings {
 }
 
 /// The options of these flags.
-pub(crate) fn flag_options(dangerous: bool, plain: bool) -> Options
-    ensures options { result ≡ flag_options dangerous plain }
-    ensures built { is_built result.parse.constructs ≡ true }
+pub(crate) fn flag_options(gfm: bool, dangerous: bool, plain: bool) -> Options
+    ensures options { result ≡ flag_options gfm dangerous plain }
+    ensures without_mdx { has_mdx result.parse.constructs ≡ false }
 {
     Options {
-        parse: parse_of(plain),
+        parse: parse_of(gfm, plain),
         compile: CompileOptions {
             allow_dangerous_html: dangerous,
             allow_dangerous_protocol: dangerous,
-            ..CompileOptions::default()
+            ..printed_as(gfm)
         },
     }
 }
 
-/// No constructs, or those of CommonMark.
-fn parse_of(plain: bool) -> ParseOptions
-    ensures { result ≡ parse_of plain }
+/// No constructs, those of GitHub or those of CommonMark.
+fn parse_of(gfm: bool, plain: bool) -> ParseOptions
+    ensures { result ≡ parse_of gfm plain }
 {
     if plain {
-        ParseOptions {
+        return ParseOptions {
             constructs: Constructs::none(),
             ..ParseOptions::default()
-        }
+        };
+    }
+    if gfm {
+        ParseOptions::gfm()
     } else {
         ParseOptions::default()
+    }
+}
+
+/// What GitHub prints, or what is printed by default.
+fn printed_as(gfm: bool) -> CompileOptions
+    ensures { result ≡ printed_as gfm }
+{
+    if gfm {
+        CompileOptions::gfm()
+    } else {
+        CompileOptions::default()
     }
 }

@@ -1,8 +1,8 @@
 //! Reading the words of the command line.
-ghost use Rattle.std.specs.Prelude.{◌≡◌, IfOk, IfErr, OnOk, [], true, codes, map, option_map, string_bytes};
+ghost use Rattle.std.specs.Prelude.{◌≡◌, IfOk, IfErr, OnOk, [], true, codes, map, option_map, string_bytes, false};
 ghost use Rattle.clap.specs.Words.{first_value, found_of, kind_of, Kinds, IsAmong};
-ghost use Rattle.markdown_options.specs.Built.{is_built};
-ghost use Rattle.markdown_settings.specs.Flags.{flag_options, is_found};
+ghost use Rattle.markdown_options.specs.Mdx.{has_mdx};
+ghost use Rattle.markdown_settings.specs.Flags.{found_options, is_found};
 ghost use Rattle.markdown_settings.specs.Settings.{faults_of, options_of, path_of, takes_words, HasFault, Refuses};
 
 use crate::command::command;
@@ -14,13 +14,13 @@ use std::alloc::{AllocError, Global};
 
 /// What the words of the command line, without the program's name, ask for.
 ///
-/// `--dangerous` prints HTML of the text and allows every protocol, `--plain` turns all constructs
+/// `--gfm` reads and prints what GitHub does, `--dangerous` prints HTML of the text and allows every protocol, `--plain` turns all constructs
 /// off, and `--references` is followed by the path of a file.
 pub fn settings(alloc: Global, words: &[String]) -> Result<Settings, SettingsError>
     // The options and the path are those of the command's matches for the words.
     ensures options { IfOk result (λ s. s.options ≡ options_of (map string_bytes words.now)) }
     ensures references { IfOk result (λ s. option_map string_bytes s.references ≡ path_of (map string_bytes words.now)) }
-    ensures built { IfOk result (λ s. is_built s.options.parse.constructs ≡ true) }
+    ensures without_mdx { IfOk result (λ s. has_mdx s.options.parse.constructs ≡ false) }
 
     // The words are refused only where the command finds a fault in them.
     ensures faultless { OnOk result (faults_of (map string_bytes words.now) ≡ []) }
@@ -37,13 +37,17 @@ pub fn settings(alloc: Global, words: &[String]) -> Result<Settings, SettingsErr
 /// The settings of the command's matches.
 fn found(alloc: Global, matches: &ArgMatches<'_>) -> Result<Settings, SettingsError>
     ensures options { IfOk result (λ s.
-        s.options ≡ flag_options (is_found (codes "dangerous") (found_of matches.now)) (is_found (codes "plain") (found_of matches.now))) }
+        s.options ≡ found_options (found_of matches.now)) }
     ensures references { IfOk result (λ s. option_map string_bytes s.references ≡ first_value (found_of matches.now) (codes "references")) }
-    ensures built { IfOk result (λ s. is_built s.options.parse.constructs ≡ true) }
+    ensures without_mdx { IfOk result (λ s. has_mdx s.options.parse.constructs ≡ false) }
     ensures memory { IfErr result (λ e. e ≡ SettingsError.Memory) }
 {
     let references = path(alloc, matches)?;
-    let options = flag_options(is_set(matches, "dangerous"), is_set(matches, "plain"));
+    let options = flag_options(
+        is_set(matches, "gfm"),
+        is_set(matches, "dangerous"),
+        is_set(matches, "plain"),
+    );
     Ok(Settings {
         options,
         references,

@@ -1,10 +1,11 @@
-use Rattle.std.proofs.Common.{List, Ok, Err, OnOk, Result, ap, ap₂, codes, inl, inr, map, refl, string_bytes, subst, sym, true, ◌≡◌, ◌∙◌}
+use Rattle.std.proofs.Common.{Bool, List, Ok, Err, OnOk, Result, ap, ap₂, codes, inl, inr, map, refl, string_bytes, subst, sym, true, ◌≡◌, ◌∙◌}
 use Rattle.std.proofs.lemmas.Result.{IfOk-weaker}
 use Rattle.clap.specs.Words.{App, IsAmong, Kinds, Text, fault_of, kind_of, first_of, first_value, found_of, is_simple, is_simple_and_free, matches_of, rows_of, takes}
 use Rattle.clap.proofs.OnLiterals.{clap_on_literals}
 use Rattle.clap.proofs.WalkLemmas.{first_value-rows}
 use Rattle.clap.specs.Simple.{HasMatchesOf}
 use Rattle.clap.specs.declared.parser.matches.ArgMatches.{ArgMatches}
+use Rattle.markdown_options.specs.declared.configuration.Options.{Options}
 use Rattle.markdown_settings.specs.Command.{markdown_command}
 use Rattle.markdown_settings.specs.Flags.{flag_options, is_true_text}
 use Rattle.markdown_settings.specs.Settings.{Refuses, faults_of, rows_of_words, takes_words}
@@ -37,7 +38,9 @@ pub returns-in-Ok-clause-options : goal.returns-in-Ok-clause-options
 returns-in-Ok-clause-options c =
     let value : (id : Text) → is_true_text (first_value (found_of c.in-Ok.matches) id) ≡ is_true_text (first_of id (rows_of_words (map string_bytes c.args.words.now))) =
     λ id. ap is_true_text (value_is _ _ _ id c.in_ok-command.ensures c.in-Ok.ensures.matches) in
-    IfOk-weaker c.found.result _ _ (λ s is. is ∙ ap₂ flag_options (value (codes "dangerous")) (value (codes "plain"))) c.found.ensures.options
+    let options =
+    ap₂ (λ (of : Bool → Options) plain. of plain) (ap₂ flag_options (value (codes "gfm")) (value (codes "dangerous"))) (value (codes "plain")) in
+    IfOk-weaker c.found.result _ _ (λ s is. is ∙ options) c.found.ensures.options
 
 pub returns-in-Ok-clause-references : goal.returns-in-Ok-clause-references
 returns-in-Ok-clause-references c =

@@ -1,0 +1,22 @@
+-- The labels of footnote definitions that are printed have no white space.
+use Rattle.std.proofs.Common.{◌≡◌, Bool, true, not, List, [], ◌∷◌, refl}
+use Rattle.std.specs.List.{list_any}
+use Rattle.std.proofs.lemmas.Bool.{and_parts, and_from}
+use Rattle.std.proofs.lemmas.List.Elements.{All-head, All-tail}
+use Rattle.definition_text.specs.Content.{is_space}
+use Rattle.definition_inline.specs.Label.{is_label}
+use Rattle.block_rows.specs.Rows.{BlockRow, Single, EnterQuote, EnterItem, EnterFootnote, Exit}
+use Rattle.block_targets.specs.GfmFootnoteDefinition.{is_bare_row, are_bare_rows}
+use Rattle.html_page.specs.Printable.{IsPrintableRow, ArePrintable}
+
+bare_row : (r : BlockRow) → IsPrintableRow r → is_bare_row r ≡ true
+bare_row (Single b) h = refl
+bare_row EnterQuote h = refl
+bare_row (EnterItem marker number) h = refl
+bare_row (EnterFootnote label) h = (and_parts (is_label label) (not (list_any is_space label)) h).1
+bare_row Exit h = refl
+
+pub bare_rows : (rows : List BlockRow) → ArePrintable rows → are_bare_rows rows ≡ true
+bare_rows [] h = refl
+bare_rows (r ∷ rows) h =
+    and_from (is_bare_row r) (are_bare_rows rows) (bare_row r (All-head IsPrintableRow r rows h)) (bare_rows rows (All-tail IsPrintableRow r rows h))
