@@ -1,6 +1,6 @@
 //! Link reference definitions (CommonMark 4.7): texts and their HTML, where links are text.
-ghost use Rattle.std.specs.Prelude.{◌≡◌, true};
-ghost use Rattle.markdown_options.specs.Built.{is_built};
+ghost use Rattle.std.specs.Prelude.{◌≡◌, false};
+ghost use Rattle.markdown_options.specs.Mdx.{has_mdx};
 
 use markdown::{Options, RunError};
 use tests_helpers::{blocks, first_wrong};
@@ -139,7 +139,7 @@ const TEXTS: [(&str, &str); 3] = [
 
 /// Blocks without definitions.
 fn without_definitions() -> Options
-    ensures { is_built result.parse.constructs ≡ true }
+    ensures { has_mdx result.parse.constructs ≡ false }
 {
     let mut options = blocks();
     options.parse.constructs.definition = false;

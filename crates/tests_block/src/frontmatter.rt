@@ -1,6 +1,6 @@
 //! Frontmatter (in neither standard): texts and their HTML.
-ghost use Rattle.std.specs.Prelude.{◌≡◌, true};
-ghost use Rattle.markdown_options.specs.Built.{is_built};
+ghost use Rattle.std.specs.Prelude.{◌≡◌, false};
+ghost use Rattle.markdown_options.specs.Mdx.{has_mdx};
 
 use markdown::{Options, RunError};
 use tests_helpers::{blocks, first_wrong};
@@ -23,7 +23,7 @@ const FRONTMATTER: [(&str, &str); 6] = [
 
 /// The blocks of CommonMark, and frontmatter.
 fn options() -> Options
-    ensures { is_built result.parse.constructs ≡ true }
+    ensures { has_mdx result.parse.constructs ≡ false }
 {
     let mut options = blocks();
     options.parse.constructs.frontmatter = true;

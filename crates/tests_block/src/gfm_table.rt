@@ -1,6 +1,6 @@
 //! Tables (GFM 4.10): texts and their HTML.
-ghost use Rattle.std.specs.Prelude.{◌≡◌, true};
-ghost use Rattle.markdown_options.specs.Built.{is_built};
+ghost use Rattle.std.specs.Prelude.{◌≡◌, false};
+ghost use Rattle.markdown_options.specs.Mdx.{has_mdx};
 
 use markdown::{Options, RunError};
 use tests_helpers::first_wrong;
@@ -9,7 +9,8 @@ use tests_helpers::first_wrong;
 const TABLES: [(&str, &str); 26] = [
     (
         "| abc | defghi |\n:-: | -----------:\nbar | baz",
-        "<table>\n<thead>\n<tr>\n<th align=\"center\">abc</th>\n<th align=\"right\">defghi</th>\n</tr>\n</thead>\n<tbody>\n<tr>\n<td align=\"center\">bar</td>\n<td align=\"right\">baz</td>\n</tr>\n</tbody>\n</table>",
+        "<table>\n<thead>\n<tr>\n<th align=\"center\">abc</th>\n<th align=\"right\">defghi</th>\n</tr>\n</thead>\n\
+         <tbody>\n<tr>\n<td align=\"center\">bar</td>\n<td align=\"right\">baz</td>\n</tr>\n</tbody>\n</table>",
     ),
     (
         "a\n:-",
@@ -58,7 +59,9 @@ const TABLES: [(&str, &str); 26] = [
     ),
     (
         "*a* | `b` | [c](d)\n-|:-|-:\n*e | f* | &amp;",
-        "<table>\n<thead>\n<tr>\n<th><em>a</em></th>\n<th align=\"left\"><code>b</code></th>\n<th align=\"right\"><a href=\"d\">c</a></th>\n</tr>\n</thead>\n<tbody>\n<tr>\n<td>*e</td>\n<td align=\"left\">f*</td>\n<td align=\"right\">&amp;</td>\n</tr>\n</tbody>\n</table>",
+        "<table>\n<thead>\n<tr>\n<th><em>a</em></th>\n<th align=\"left\"><code>b</code></th>\n\
+         <th align=\"right\"><a href=\"d\">c</a></th>\n</tr>\n</thead>\n<tbody>\n<tr>\n<td>*e</td>\n\
+         <td align=\"left\">f*</td>\n<td align=\"right\">&amp;</td>\n</tr>\n</tbody>\n</table>",
     ),
     (
         "| a \\\\| b |\n|-|-|",
@@ -74,7 +77,8 @@ const TABLES: [(&str, &str); 26] = [
     ),
     (
         "| a |\n| :-: |\n| b |\n| c |\n",
-        "<table>\n<thead>\n<tr>\n<th align=\"center\">a</th>\n</tr>\n</thead>\n<tbody>\n<tr>\n<td align=\"center\">b</td>\n</tr>\n<tr>\n<td align=\"center\">c</td>\n</tr>\n</tbody>\n</table>\n",
+        "<table>\n<thead>\n<tr>\n<th align=\"center\">a</th>\n</tr>\n</thead>\n<tbody>\n<tr>\n\
+         <td align=\"center\">b</td>\n</tr>\n<tr>\n<td align=\"center\">c</td>\n</tr>\n</tbody>\n</table>\n",
     ),
     (
         "| a |\r\n|-|\r\n| b |\r\n",
@@ -93,7 +97,8 @@ const TABLES: [(&str, &str); 26] = [
 const AMONG_BLOCKS: [(&str, &str); 32] = [
     (
         "| a | b |\n| - | - |\n| c |\n| d | e | f |",
-        "<table>\n<thead>\n<tr>\n<th>a</th>\n<th>b</th>\n</tr>\n</thead>\n<tbody>\n<tr>\n<td>c</td>\n<td></td>\n</tr>\n<tr>\n<td>d</td>\n<td>e</td>\n</tr>\n</tbody>\n</table>",
+        "<table>\n<thead>\n<tr>\n<th>a</th>\n<th>b</th>\n</tr>\n</thead>\n<tbody>\n<tr>\n<td>c</td>\n<td></td>\n\
+         </tr>\n<tr>\n<td>d</td>\n<td>e</td>\n</tr>\n</tbody>\n</table>",
     ),
     (
         "| `a\\|b` |\n| - |",
@@ -105,15 +110,18 @@ const AMONG_BLOCKS: [(&str, &str); 32] = [
     ),
     (
         "| f\\|oo  |\n| ------ |\n| b `\\|` az |\n| b **\\|** im |",
-        "<table>\n<thead>\n<tr>\n<th>f|oo</th>\n</tr>\n</thead>\n<tbody>\n<tr>\n<td>b <code>|</code> az</td>\n</tr>\n<tr>\n<td>b <strong>|</strong> im</td>\n</tr>\n</tbody>\n</table>",
+        "<table>\n<thead>\n<tr>\n<th>f|oo</th>\n</tr>\n</thead>\n<tbody>\n<tr>\n<td>b <code>|</code> az</td>\n\
+         </tr>\n<tr>\n<td>b <strong>|</strong> im</td>\n</tr>\n</tbody>\n</table>",
     ),
     (
         "| abc | def |\n| --- | --- |\n| bar | baz |\n> bar",
-        "<table>\n<thead>\n<tr>\n<th>abc</th>\n<th>def</th>\n</tr>\n</thead>\n<tbody>\n<tr>\n<td>bar</td>\n<td>baz</td>\n</tr>\n</tbody>\n</table>\n<blockquote>\n<p>bar</p>\n</blockquote>",
+        "<table>\n<thead>\n<tr>\n<th>abc</th>\n<th>def</th>\n</tr>\n</thead>\n<tbody>\n<tr>\n<td>bar</td>\n\
+         <td>baz</td>\n</tr>\n</tbody>\n</table>\n<blockquote>\n<p>bar</p>\n</blockquote>",
     ),
     (
         "| abc | def |\n| --- | --- |\n| bar | baz |\nbar\n\nbar",
-        "<table>\n<thead>\n<tr>\n<th>abc</th>\n<th>def</th>\n</tr>\n</thead>\n<tbody>\n<tr>\n<td>bar</td>\n<td>baz</td>\n</tr>\n<tr>\n<td>bar</td>\n<td></td>\n</tr>\n</tbody>\n</table>\n<p>bar</p>",
+        "<table>\n<thead>\n<tr>\n<th>abc</th>\n<th>def</th>\n</tr>\n</thead>\n<tbody>\n<tr>\n<td>bar</td>\n\
+         <td>baz</td>\n</tr>\n<tr>\n<td>bar</td>\n<td></td>\n</tr>\n</tbody>\n</table>\n<p>bar</p>",
     ),
     (
         "| abc | def |\n| --- |\n| bar |",
@@ -121,7 +129,8 @@ const AMONG_BLOCKS: [(&str, &str); 32] = [
     ),
     (
         "| abc | def |\n| --- | --- |\n| bar |\n| bar | baz | boo |",
-        "<table>\n<thead>\n<tr>\n<th>abc</th>\n<th>def</th>\n</tr>\n</thead>\n<tbody>\n<tr>\n<td>bar</td>\n<td></td>\n</tr>\n<tr>\n<td>bar</td>\n<td>baz</td>\n</tr>\n</tbody>\n</table>",
+        "<table>\n<thead>\n<tr>\n<th>abc</th>\n<th>def</th>\n</tr>\n</thead>\n<tbody>\n<tr>\n<td>bar</td>\n\
+         <td></td>\n</tr>\n<tr>\n<td>bar</td>\n<td>baz</td>\n</tr>\n</tbody>\n</table>",
     ),
     (
         "| abc | def |\n| --- | --- |",
@@ -154,7 +163,8 @@ const AMONG_BLOCKS: [(&str, &str); 32] = [
     ),
     (
         "- | a |\n  |-|\n- | b |\n  |-|",
-        "<ul>\n<li>\n<table>\n<thead>\n<tr>\n<th>a</th>\n</tr>\n</thead>\n</table>\n</li>\n<li>\n<table>\n<thead>\n<tr>\n<th>b</th>\n</tr>\n</thead>\n</table>\n</li>\n</ul>",
+        "<ul>\n<li>\n<table>\n<thead>\n<tr>\n<th>a</th>\n</tr>\n</thead>\n</table>\n</li>\n<li>\n<table>\n<thead>\n\
+         <tr>\n<th>b</th>\n</tr>\n</thead>\n</table>\n</li>\n</ul>",
     ),
     (
         "| a |\n|-|\n    | b |",
@@ -208,7 +218,7 @@ const AMONG_BLOCKS: [(&str, &str); 32] = [
 
 /// The default options, with tables.
 fn with_tables() -> Options
-    ensures { is_built result.parse.constructs ≡ true }
+    ensures { has_mdx result.parse.constructs ≡ false }
 {
     let mut options = Options::default();
     options.parse.constructs.gfm_table = true;

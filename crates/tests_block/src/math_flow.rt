@@ -1,6 +1,6 @@
 //! Math (in neither standard): texts and their HTML.
-ghost use Rattle.std.specs.Prelude.{◌≡◌, true};
-ghost use Rattle.markdown_options.specs.Built.{is_built};
+ghost use Rattle.std.specs.Prelude.{◌≡◌, false};
+ghost use Rattle.markdown_options.specs.Mdx.{has_mdx};
 
 use markdown::{Options, RunError};
 use tests_helpers::{blocks, first_wrong, plain};
@@ -39,8 +39,8 @@ const ALONE: [(&str, &str); 1] = [(
 
 /// These options, with math.
 fn with_math(options: Options) -> Options
-    requires { is_built options.parse.constructs ≡ true }
-    ensures { is_built result.parse.constructs ≡ true }
+    requires { has_mdx options.parse.constructs ≡ false }
+    ensures { has_mdx result.parse.constructs ≡ false }
 {
     let mut options = options;
     options.parse.constructs.math_flow = true;

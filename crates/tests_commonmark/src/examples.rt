@@ -1,6 +1,6 @@
 //! Examples by number, compared with the page, and tried by the laws of pages.
-ghost use Rattle.std.specs.Prelude.{◌≡◌, true};
-ghost use Rattle.markdown_options.specs.Built.{is_built};
+ghost use Rattle.std.specs.Prelude.{◌≡◌, false};
+ghost use Rattle.markdown_options.specs.Mdx.{has_mdx};
 
 use markdown::{Builtin, CompileOptions, Options, ParseOptions, RunError, Watched, run};
 use std::process::Abort;
@@ -8,7 +8,7 @@ use tests_helpers::broken_law;
 
 /// The standard prints HTML of the text, and any URL, as they are.
 fn options() -> Options
-    ensures { is_built result.parse.constructs ≡ true }
+    ensures { has_mdx result.parse.constructs ≡ false }
 {
     Options {
         parse: ParseOptions::default(),

@@ -1,6 +1,6 @@
 //! Heaps of a fixed size, in which memory runs out.
-ghost use Rattle.std.specs.Prelude.{◌≡◌, true};
-ghost use Rattle.markdown_options.specs.Built.{is_built};
+ghost use Rattle.std.specs.Prelude.{◌≡◌, false};
+ghost use Rattle.markdown_options.specs.Mdx.{has_mdx};
 
 use linked_list_allocator::LocalHeap;
 use markdown::{Builtin, Options, RunError, Watched, run};
@@ -13,7 +13,7 @@ const STEP: usize = 32;
 const BUFFER: usize = 65536;
 
 /// How many times a heap may grow until it has more than a row needs.
-const STEPS: usize = 2048;
+const STEPS: usize = 4096;
 
 /// Whether a text is printed in a heap of some size, and each smaller one refuses it with nothing
 /// written.
@@ -23,7 +23,7 @@ pub(crate) fn prints_in_growing_heaps(
     want: &str,
     options: &Options,
 ) -> Result<bool, RunError>
-    requires { is_built options.now.parse.constructs ≡ true }
+    requires { has_mdx options.now.parse.constructs ≡ false }
 {
     for steps in 0..STEPS {
         let size = BUFFER - STEP + steps * STEP;

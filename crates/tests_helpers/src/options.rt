@@ -1,12 +1,12 @@
 //! Options with few constructs on.
-ghost use Rattle.std.specs.Prelude.{◌≡◌, true};
-ghost use Rattle.markdown_options.specs.Built.{is_built};
+ghost use Rattle.std.specs.Prelude.{◌≡◌, false};
+ghost use Rattle.markdown_options.specs.Mdx.{has_mdx};
 
 use markdown::{CompileOptions, Constructs, Options, ParseOptions};
 
 /// Every construct off.
 pub fn plain() -> Options
-    ensures { is_built result.parse.constructs ≡ true }
+    ensures { has_mdx result.parse.constructs ≡ false }
 {
     Options {
         parse: ParseOptions {
@@ -19,7 +19,7 @@ pub fn plain() -> Options
 
 /// All blocks of CommonMark, and no inline construct.
 pub fn blocks() -> Options
-    ensures { is_built result.parse.constructs ≡ true }
+    ensures { has_mdx result.parse.constructs ≡ false }
 {
     Options {
         parse: ParseOptions {

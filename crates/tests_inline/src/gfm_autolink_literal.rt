@@ -55,6 +55,7 @@ fn literals(rt: HostRuntime) -> Result<(), Fail> {
 /// parts `(` and its end `)`, or text.
 fn shape(rt: &HostRuntime, options: &ParseOptions, line: &str) -> Result<String, Fail> {
     let labels = LabelTable::new(rt.alloc())?;
+    let footnotes = LabelTable::new(rt.alloc())?;
     let content = whole_content(1, line);
     let mut room = Room::new(rt.alloc())?;
     let rows = inline_rows(
@@ -62,6 +63,7 @@ fn shape(rt: &HostRuntime, options: &ParseOptions, line: &str) -> Result<String,
         options,
         &Names,
         &labels,
+        &footnotes,
         content,
         content_start(content),
     )?;
@@ -78,6 +80,7 @@ fn shape(rt: &HostRuntime, options: &ParseOptions, line: &str) -> Result<String,
             InlineRow::EnterSpan(_) | InlineRow::EnterLink(_) | InlineRow::EnterImage(_) => {
                 shape.push_str("(")?;
             }
+            InlineRow::Call(_) => shape.push_str("^")?,
             InlineRow::Exit => shape.push_str(")")?,
         }
     }

@@ -38,7 +38,10 @@ fn by_rows(
     let content = whole_content(text.len(), text);
     let start = content_start(content);
     let mut room = Room::new(rt.alloc())?;
-    let found = inline_rows(&mut room, options, &Builtin, labels, content, start)?;
+    let footnotes = LabelTable::new(rt.alloc())?;
+    let found = inline_rows(
+        &mut room, options, &Builtin, labels, &footnotes, content, start,
+    )?;
     rows::spelled(rt, &found)
 }
 

@@ -93,6 +93,7 @@ fn push_row(out: &mut Vec<u8>, row: &InlineRow<'_>) -> Result<(), Fail> {
             push_part(out, b"+", b"image")?;
             push_target(out, target)
         },
+        InlineRow::Call(label) => push_part(out, b"call ", label.as_bytes()),
         InlineRow::Exit => push_part(out, b"-", b""),
     }
 }

@@ -1,6 +1,6 @@
 //! Extensions: texts and their HTML.
-ghost use Rattle.std.specs.Prelude.{◌≡◌, true};
-ghost use Rattle.markdown_options.specs.Built.{is_built};
+ghost use Rattle.std.specs.Prelude.{◌≡◌, false};
+ghost use Rattle.markdown_options.specs.Mdx.{has_mdx};
 
 use markdown::{Options, RunError};
 use tests_helpers::first_wrong;
@@ -248,7 +248,7 @@ const OFF: [(&str, &str); 4] = [
 
 /// CommonMark with strikethrough, task list items, math and frontmatter.
 pub(crate) fn extensions() -> Options
-    ensures { is_built result.parse.constructs ≡ true }
+    ensures { has_mdx result.parse.constructs ≡ false }
 {
     let mut options = Options::default();
     options.parse.constructs.gfm_strikethrough = true;

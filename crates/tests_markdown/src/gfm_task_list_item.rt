@@ -1,6 +1,6 @@
 //! Task list items (GFM 5.3): texts and their HTML.
-ghost use Rattle.std.specs.Prelude.{◌≡◌, true};
-ghost use Rattle.markdown_options.specs.Built.{is_built};
+ghost use Rattle.std.specs.Prelude.{◌≡◌, false};
+ghost use Rattle.markdown_options.specs.Mdx.{has_mdx};
 
 use crate::extensions::extensions;
 use markdown::{Options, RunError};

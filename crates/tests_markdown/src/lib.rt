@@ -6,7 +6,13 @@ mod devices;
 #[cfg(test)]
 mod extensions;
 #[cfg(test)]
+mod gfm_autolink_literal;
+#[cfg(test)]
+mod gfm_examples;
+#[cfg(test)]
 mod gfm_footnote_definition;
+#[cfg(test)]
+mod gfm_label_start_footnote;
 #[cfg(test)]
 mod gfm_task_list_item;
 #[cfg(test)]

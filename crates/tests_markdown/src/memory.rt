@@ -1,8 +1,10 @@
 //! Memory that runs out.
-ghost use Rattle.std.specs.Prelude.{◌≡◌, true};
-ghost use Rattle.markdown_options.specs.Built.{is_built};
+ghost use Rattle.std.specs.Prelude.{◌≡◌, false};
+ghost use Rattle.markdown_options.specs.Mdx.{has_mdx};
 
 use crate::extensions::{MATH_FLOW, STRIKETHROUGH, extensions};
+use crate::gfm_autolink_literal::{EMAILS, LITERALS};
+use crate::gfm_label_start_footnote::FOOTNOTES;
 use crate::gfm_task_list_item::TASKS;
 use crate::inline::{BESIDE, INLINE};
 use crate::rows::LEAVES;
@@ -46,7 +48,7 @@ fn first_unjoined<'a>(
     rows: &[(&'a str, &str)],
     options: &Options,
 ) -> Result<Option<&'a str>, RunError>
-    requires { is_built options.now.parse.constructs ≡ true }
+    requires { has_mdx options.now.parse.constructs ≡ false }
 {
     for (first, _) in rows {
         for (second, _) in rows {
@@ -80,6 +82,15 @@ fn prints_every_two_texts(rt: HostRuntime) -> Result<(), RunError> {
     assert_eq!(rt; first_unjoined(rt.alloc(), &STRIKETHROUGH, &options)?, None);
     assert_eq!(rt; first_unjoined(rt.alloc(), &MATH_FLOW, &options)?, None);
     assert_eq!(rt; first_unjoined(rt.alloc(), &TASKS, &options)?, None);
+    Ok(())
+}
+
+#[test]
+fn prints_every_two_texts_of_gfm(rt: HostRuntime) -> Result<(), RunError> {
+    let options = Options::gfm();
+    assert_eq!(rt; first_unjoined(rt.alloc(), &FOOTNOTES, &options)?, None);
+    assert_eq!(rt; first_unjoined(rt.alloc(), &LITERALS, &options)?, None);
+    assert_eq!(rt; first_unjoined(rt.alloc(), &EMAILS, &options)?, None);
     Ok(())
 }
 

@@ -83,7 +83,12 @@ fn prints_pages(rt: HostRuntime) -> io::Result<()> {
     prints(&rt, &["--dangerous"], text, dangerous)?;
     let plain = "<p># *a* &lt;b&gt;</p>\n<p>[c](javascript:d)</p>";
     prints(&rt, &["--plain"], text, plain)?;
-    prints(&rt, &["--plain", "--dangerous"], text, plain)
+    prints(&rt, &["--plain", "--dangerous"], text, plain)?;
+    prints(&rt, &["--plain", "--gfm"], text, plain)?;
+    prints(&rt, &["--gfm"], b"~a~", "<p><del>a</del></p>")?;
+    let filtered = "<p>a <b>&lt;title></b></p>";
+    let html = b"a <b><title></b>";
+    prints(&rt, &["--gfm", "--dangerous"], html, filtered)
 }
 
 #[test]
@@ -100,8 +105,8 @@ fn refuses_words(rt: HostRuntime) -> io::Result<()> {
     complains(&rt, &["--plain "], b"a", 2, fault)?;
     complains(&rt, &["--plain=true"], b"a", 2, fault)?;
     complains(&rt, &["--plain", "--plain"], b"a", 2, fault)?;
-    complains(&rt, &["--references"], b"a", 2, fault)?;
-    complains(&rt, &["--gfm"], b"a", 2, fault)
+    complains(&rt, &["--gfm", "--gfm"], b"a", 2, fault)?;
+    complains(&rt, &["--references"], b"a", 2, fault)
 }
 
 #[test]
@@ -117,6 +122,7 @@ Converts Markdown on standard input to HTML on standard output.
 Usage: markdown [OPTIONS]
 
 Options:
+      --gfm                Read tables, task lists, strikethrough, footnotes and bare links, as GitHub does
       --dangerous          Print HTML of the text as it is, and let links and images have any protocol
       --plain              Read paragraphs alone: every construct is off
       --references <PATH>  Read names of characters from a file, with a line NAME=HEX or NAME=HEX+HEX for each
@@ -125,6 +131,7 @@ Options:
 
 Examples:
   markdown < page.md > page.html
+  markdown --gfm < README.md > readme.html
   markdown --references names.txt < page.md > page.html
 ";
 

@@ -1,6 +1,6 @@
 //! Texts and their HTML.
-ghost use Rattle.std.specs.Prelude.{◌≡◌, true};
-ghost use Rattle.markdown_options.specs.Built.{is_built};
+ghost use Rattle.std.specs.Prelude.{◌≡◌, false};
+ghost use Rattle.markdown_options.specs.Mdx.{has_mdx};
 
 use markdown::{Builtin, Options, RunError, Watched, run};
 use tests_helpers::{first_wrong, plain};
@@ -123,7 +123,7 @@ pub(crate) const LEAVES: [(&str, &str); 43] = [
 
 /// Four leaf blocks, and nothing else.
 pub(crate) fn leaves() -> Options
-    ensures { is_built result.parse.constructs ≡ true }
+    ensures { has_mdx result.parse.constructs ≡ false }
 {
     let mut options = plain();
     options.parse.constructs.code_fenced = true;
