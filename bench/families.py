@@ -2,7 +2,9 @@
 """Times a program on families of texts at sizes n, 2n and 4n, beside md4c, pulldown-cmark and cmark where they are on the
 PATH. They run in turn, and the least processor time counts.
 
-    families.py PROGRAM [N]
+    families.py PROGRAM [N] [--gfm]
+
+With --gfm these are families of GitHub's constructs, beside cmark-gfm.
 
 Growth is the time at 4n by that at n: at most about 4 where time is linear. Of the others the time at 4n is printed, and
 the growth of their own times.
@@ -11,7 +13,7 @@ import shutil
 import sys
 import tempfile
 
-from timing import least
+from timing import GFM, least
 
 ROUNDS = 7
 
@@ -91,6 +93,46 @@ FAMILIES = {
     "tabs": lambda n: "\t" * n + "a\n",
 }
 
+GFM_FAMILIES = {
+    "a wide table": lambda n: "|a" * n + "|\n" + "|-" * n + "|\n" + "|b" * n + "|\n",
+    "a long table": lambda n: "|a|b|\n|-|-|\n" + "|c|d|\n" * n,
+    # the page grows with the square of the size: each row has all cells of the head
+    "short rows under a wide head": lambda n: "|a" * int(n**0.5) + "|\n" + "|-" * int(n**0.5) + "|\n" + "|b|\n" * int(n**0.5),
+    "long rows under a narrow head": lambda n: "|a|\n|-|\n" + ("|b" * 100 + "|\n") * (n // 100),
+    "bars without a table": lambda n: "| a | b\n" * n,
+    "rows of delimiters": lambda n: "|-|-|\n" * n,
+    "tables in quotes": lambda n: "> |a|\n> |-|\n> |b|\n\n" * n,
+    "many footnotes": lambda n: "".join("[^%d] " % i for i in range(n)) + "\n\n" + "".join("[^%d]: a\n\n" % i for i in range(n)),
+    "calls of one footnote": lambda n: "[^a] " * n + "\n\n[^a]: b\n",
+    "footnotes that call each other": lambda n: "[^0]\n\n" + "".join("[^%d]: [^%d]\n\n" % (i, i + 1) for i in range(n)),
+    "footnotes in each other": lambda n: "[^a]:" * (n // 20) + " b\n",
+    "footnotes that nobody calls": lambda n: "".join("[^%d]: a\n\n" % i for i in range(n)),
+    "calls without footnotes": lambda n: "[^a] " * n + "\n",
+    "`[^`": lambda n: "[^" * n + "\n",
+    "`![^a]`": lambda n: "![^a]" * n + "\n\n[^a]: b\n",
+    "calls in descriptions": lambda n: "![" * n + "[^a]" + "](b)" * n + "\n\n[^a]: c\n",
+    "`www.`": lambda n: "www." * n + "\n",
+    "`www.a `": lambda n: "www.a " * n + "\n",
+    "`www.a_`": lambda n: "www.a_" * n + "\n",
+    "`*www.a_`": lambda n: "*www.a_" * n + "\n",
+    "`http://`": lambda n: "http://" * n + "\n",
+    "`http://a.b/)))`": lambda n: "http://a.b/" + ")" * n + "\n",
+    "`http://a.b/((`": lambda n: "http://a.b/" + "(" * n + ")" * n + "\n",
+    "`http://a.b&x;&x;`": lambda n: "http://a.b" + "&x;" * n + "\n",
+    "`http://a.b/))) `": lambda n: ("http://a.b/" + ")" * 100 + " ") * (n // 100) + "\n",
+    "`a@b`": lambda n: "a@b" * n + "\n",
+    "`a@b.c `": lambda n: "a@b.c " * n + "\n",
+    "`@`": lambda n: "@" * n + "\n",
+    "`a.` before `@b.c`": lambda n: "a." * n + "@b.c\n",
+    "`a@b.` ": lambda n: "a@" + "b." * n + "\n",
+    "`mailto:`": lambda n: "mailto:" * n + "a@b.c\n",
+    "`[a@b.c](d)`": lambda n: "[a@b.c](d)" * n + "\n",
+    "nested links with literals": lambda n: "![" * n + "www.a" + "](b)" * n + "\n",
+    "`~a~`": lambda n: "~a~ " * n + "\n",
+    "`~~~a`": lambda n: "a~~~b" * n + "\n",
+    "tasks": lambda n: "- [ ] a\n" * n,
+}
+
 
 def times(text, n, commands, path):
     """For each command the seconds at n, 2n and 4n."""
@@ -104,13 +146,18 @@ def times(text, n, commands, path):
 
 
 def main():
-    n = int(sys.argv[2]) if len(sys.argv) > 2 else 100000
-    others = [name for name in ("md4c", "pulldown-cmark", "cmark") if shutil.which(name)]
-    commands = {"": [sys.argv[1]], **{name: [name] for name in others}}
+    is_gfm, words = "--gfm" in sys.argv, [word for word in sys.argv[1:] if word != "--gfm"]
+    n = int(words[1]) if len(words) > 1 else 100000
+    if is_gfm:
+        others = [name for name in ("cmark-gfm",) if shutil.which(name)]
+        commands = {"": [words[0], "--gfm"], **{name: GFM for name in others}}
+    else:
+        others = [name for name in ("md4c", "pulldown-cmark", "cmark") if shutil.which(name)]
+        commands = {"": words[:1], **{name: [name] for name in others}}
     print("| Family | n, 2n, 4n (ms) | Growth |" + "".join(" %s | |" % name for name in others))
     print("|---|---|---|" + "---|---|" * len(others))
     with tempfile.TemporaryDirectory() as folder:
-        for name, text in FAMILIES.items():
+        for name, text in (GFM_FAMILIES if is_gfm else FAMILIES).items():
             rows = times(text, n, commands, folder + "/text")
             own = rows.pop("")
             shown = ", ".join("%.1f" % (t * 1000) for t in own)

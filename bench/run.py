@@ -1,8 +1,9 @@
 #!/usr/bin/env python3
 """Prints how fast the program is, beside others that this system's packages have, as one table of Markdown.
 
-    run.py FOLDER PROGRAM [ROUNDS]
+    run.py FOLDER PROGRAM [ROUNDS] [--gfm]
 
+With --gfm the program reads GitHub's constructs, and is measured beside cmark-gfm with all of its extensions.
 FOLDER has the texts of corpus.py in `corpus`, and what peers.sh builds. For each text the programs run in turn,
 round for round, and the least processor time of each counts. Memory is the peak, in multiples of the text. Instructions are
 those of callgrind on the first million bytes less those of an empty text.
@@ -13,14 +14,16 @@ import subprocess
 import sys
 import tempfile
 
-from timing import least, memory
+from timing import GFM, least, memory
 
 TEXTS = ("readmes", "readmes-small", "readmes-medium", "readmes-large", "plain", "links", "emphasis", "code", "tables")
 COUNTED = 1_000_000
 STARTS = 200
 
 
-def programs(folder, own):
+def programs(folder, own, is_gfm):
+    if is_gfm:
+        return {"this program": [own, "--gfm"], "cmark-gfm": GFM}
     return {"this program": [own], "md4c": [folder + "/md4c"], "pulldown-cmark": [folder + "/pulldown-cmark"],
             "cmark": ["cmark", "--unsafe"], "cmark-gfm": ["cmark-gfm", "--unsafe"]}
 
@@ -66,8 +69,8 @@ def print_table(texts, commands, rounds):
 
 
 def main():
-    folder, own = sys.argv[1], sys.argv[2]
-    print_table(folder + "/corpus", programs(folder, own), int(sys.argv[3]) if len(sys.argv) > 3 else 20)
+    is_gfm, words = "--gfm" in sys.argv, [word for word in sys.argv[1:] if word != "--gfm"]
+    print_table(words[0] + "/corpus", programs(words[0], words[1], is_gfm), int(words[2]) if len(words) > 2 else 20)
 
 
 main()

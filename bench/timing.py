@@ -3,6 +3,11 @@ import os
 import subprocess
 import sys
 
+# cmark-gfm with all that it has
+GFM = ["cmark-gfm"]
+for extension in ("footnotes", "table", "strikethrough", "autolink", "tagfilter", "tasklist"):
+    GFM += ["-e", extension]
+
 
 def seconds(command, path):
     """The processor time of a run."""

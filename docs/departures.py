@@ -1,11 +1,12 @@
 #!/usr/bin/env python3
 """Runs the inputs of docs/DEPARTURES.md through two programs, and writes what they print beside them.
 
-usage: docs/departures.py [--check] MARKDOWN [CMARK]     MARKDOWN is the program of this repository
+usage: docs/departures.py [--check] MARKDOWN [CMARK [CMARK_GFM]]     MARKDOWN is the program of this repository
 
 A row is `| INPUT | HERE | CMARK |`; the marks for line endings, tabs and characters that don't show are those of the page.
-In a table whose head names `--dangerous` the programs print HTML as it stands. With --check nothing is written, and the
-status is 1 where the page would change.
+In a table whose head names `--dangerous` the programs print HTML as it stands; in one whose head names `--gfm` the other
+program is cmark-gfm with all of its extensions. With --check nothing is written, and the status is 1 where the page would
+change.
 """
 import os
 import re
@@ -49,17 +50,31 @@ def printed(words, text):
     return ran.stdout.decode(errors="backslashreplace").removesuffix("\n")
 
 
-def run(page, markdown, cmark):
+def commands(head, markdown, cmark, cmark_gfm):
+    """What is run for the rows of a table with this head."""
+    here, there = [markdown], [cmark]
+    if "--gfm" in head:
+        here.append("--gfm")
+        there = [cmark_gfm]
+        for extension in ["footnotes", "table", "strikethrough", "autolink", "tagfilter", "tasklist"]:
+            there += ["-e", extension]
+    if "--dangerous" in head:
+        here.append("--dangerous")
+        there.append("--unsafe")
+    return here, there
+
+
+def run(page, *programs):
     """The page with what the programs print."""
-    lines, is_dangerous = [], False
+    lines, words = [], commands("", *programs)
     for line in page.split("\n"):
         cells = re.split(r"(?<!\\)\|", line)[1:-1] if line.startswith("|") else []
         if len(cells) == 3 and cells[0].strip().startswith("Input"):
-            is_dangerous = "--dangerous" in cells[0]
+            words = commands(cells[0], *programs)
         elif len(cells) == 3 and not cells[0].startswith("---"):
             text = meant(cells[0])
-            here = printed([markdown, *["--dangerous"] * is_dangerous], text)
-            there = printed([cmark, *["--unsafe"] * is_dangerous], text)
+            here = printed(words[0], text)
+            there = printed(words[1], text)
             line = f"| {shown(text)} | {shown(here)} | {'the same' if here == there else shown(there)} |"
         lines.append(line)
     return "\n".join(lines)
@@ -67,11 +82,11 @@ def run(page, markdown, cmark):
 
 def main(words):
     is_check, words = words[:1] == ["--check"], [it for it in words if it != "--check"]
-    if len(words) not in (1, 2):
+    if len(words) not in (1, 2, 3):
         sys.exit(__doc__)
     with open(PAGE, encoding="utf-8") as file:
         page = file.read()
-    text = run(page, words[0], words[1] if len(words) == 2 else "cmark")
+    text = run(page, *words, *["cmark", "cmark-gfm"][len(words) - 1:])
     if is_check:
         return int(text != page)
     with open(PAGE, "w", encoding="utf-8") as file:
