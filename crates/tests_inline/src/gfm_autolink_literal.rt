@@ -2,7 +2,7 @@
 use inline_content::whole_content;
 use inline_labels::LabelTable;
 use inline_leaves::{LeafPart, LiteralKind};
-use inline_literals::{FoundAddress, first_address, literal_at};
+use inline_literals::{FoundAddress, NamesInVain, first_address, literal_at};
 use inline_parser::{Room, content_start, inline_rows};
 use inline_rows::InlineRow;
 use markdown_options::{Constructs, ParseOptions};
@@ -12,7 +12,14 @@ use tests_helpers::Names;
 /// The kind and the text of the literal that a line begins with, and what follows it.
 fn first(line: &str) -> Option<(LiteralKind, &str, &str)> {
     let content = whole_content(1, line);
-    let found = literal_at(&Constructs::gfm(), &Names, content, content.text())?;
+    let mut known = NamesInVain::new();
+    let found = literal_at(
+        &Constructs::gfm(),
+        &Names,
+        content,
+        &mut known,
+        content.text(),
+    )?;
     match found.part {
         LeafPart::Literal { kind, text } => Some((kind, text, found.after)),
         _ => None,

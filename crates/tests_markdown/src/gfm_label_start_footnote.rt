@@ -4,8 +4,8 @@ ghost use Rattle.std.specs.Prelude.{◌≡◌};
 use markdown::{Options, RunError};
 use tests_helpers::first_wrong;
 
-/// Footnotes.
-pub(crate) const FOOTNOTES: [(&str, &str); 58] = [
+/// Footnotes that are called, or are not.
+pub(crate) const CALLS: [(&str, &str); 12] = [
     (
         "[^a]\n\n[^a]: b",
         "<p><sup><a href=\"#user-content-fn-a\" id=\"user-content-fnref-a\" data-footnote-ref=\"\" \
@@ -81,6 +81,10 @@ pub(crate) const FOOTNOTES: [(&str, &str); 58] = [
          <p>d <a href=\"#user-content-fnref-a\" data-footnote-backref=\"\" aria-label=\"Back to content\" \
          class=\"data-footnote-backref\">↩</a></p>\n</li>\n</ol>\n</section>\n",
     ),
+];
+
+/// Calls among inline structure and blocks.
+pub(crate) const PLACES: [(&str, &str); 12] = [
     (
         "![b [^a]](c) [^a]\n\n[^a]: d",
         "<p><img src=\"c\" alt=\"b \" /> <sup><a href=\"#user-content-fn-a\" id=\"user-content-fnref-a-2\" \
@@ -168,6 +172,10 @@ pub(crate) const FOOTNOTES: [(&str, &str); 58] = [
          <p>b <a href=\"#user-content-fnref-a\" data-footnote-backref=\"\" aria-label=\"Back to content\" \
          class=\"data-footnote-backref\">↩</a></p>\n</li>\n</ol>\n</section>\n",
     ),
+];
+
+/// Definitions in one another, and what they hold.
+pub(crate) const DEFINITIONS: [(&str, &str); 12] = [
     (
         "- [^a]\n\n  [^a]: b",
         "<ul>\n<li>\n<p><sup><a href=\"#user-content-fn-a\" id=\"user-content-fnref-a\" data-footnote-ref=\"\" \
@@ -278,6 +286,10 @@ pub(crate) const FOOTNOTES: [(&str, &str); 58] = [
          <p>b <a href=\"#user-content-fnref-a\" data-footnote-backref=\"\" aria-label=\"Back to content\" \
          class=\"data-footnote-backref\">↩</a></p>\n</li>\n</ol>\n</section>\n",
     ),
+];
+
+/// What definitions hold, line endings, and labels.
+pub(crate) const CONTENTS: [(&str, &str); 11] = [
     (
         "[^a]\n\n[^a]: - b",
         "<p><sup><a href=\"#user-content-fn-a\" id=\"user-content-fnref-a\" data-footnote-ref=\"\" \
@@ -380,6 +392,10 @@ pub(crate) const FOOTNOTES: [(&str, &str); 58] = [
          aria-label=\"Back to content\" class=\"data-footnote-backref\">↩<sup>2</sup></a></p>\n</li>\n</ol>\n\
          </section>\n",
     ),
+];
+
+/// Definitions among other blocks, and repeated calls.
+pub(crate) const MIXED: [(&str, &str); 11] = [
     (
         "[^a]\n\n[^a]: [b]\n\n[b]: c",
         "<p><sup><a href=\"#user-content-fn-a\" id=\"user-content-fnref-a\" data-footnote-ref=\"\" \
@@ -614,7 +630,11 @@ pub(crate) const RETURNED: [(&str, &str); 2] = [
 #[test]
 fn numbers_footnotes(rt: HostRuntime) -> Result<(), RunError> {
     let options = Options::gfm();
-    assert_eq!(rt; first_wrong(rt.alloc(), &FOOTNOTES, &options)?, None);
+    assert_eq!(rt; first_wrong(rt.alloc(), &CALLS, &options)?, None);
+    assert_eq!(rt; first_wrong(rt.alloc(), &PLACES, &options)?, None);
+    assert_eq!(rt; first_wrong(rt.alloc(), &DEFINITIONS, &options)?, None);
+    assert_eq!(rt; first_wrong(rt.alloc(), &CONTENTS, &options)?, None);
+    assert_eq!(rt; first_wrong(rt.alloc(), &MIXED, &options)?, None);
     Ok(())
 }
 

@@ -4,7 +4,7 @@ ghost use Rattle.markdown_options.specs.Mdx.{has_mdx};
 
 use crate::extensions::{MATH_FLOW, STRIKETHROUGH, extensions};
 use crate::gfm_autolink_literal::{EMAILS, LITERALS};
-use crate::gfm_label_start_footnote::FOOTNOTES;
+use crate::gfm_label_start_footnote::{CALLS, CONTENTS, DEFINITIONS, MIXED, PLACES};
 use crate::gfm_task_list_item::TASKS;
 use crate::inline::{BESIDE, INLINE};
 use crate::rows::LEAVES;
@@ -88,7 +88,11 @@ fn prints_every_two_texts(rt: HostRuntime) -> Result<(), RunError> {
 #[test]
 fn prints_every_two_texts_of_gfm(rt: HostRuntime) -> Result<(), RunError> {
     let options = Options::gfm();
-    assert_eq!(rt; first_unjoined(rt.alloc(), &FOOTNOTES, &options)?, None);
+    assert_eq!(rt; first_unjoined(rt.alloc(), &CALLS, &options)?, None);
+    assert_eq!(rt; first_unjoined(rt.alloc(), &PLACES, &options)?, None);
+    assert_eq!(rt; first_unjoined(rt.alloc(), &DEFINITIONS, &options)?, None);
+    assert_eq!(rt; first_unjoined(rt.alloc(), &CONTENTS, &options)?, None);
+    assert_eq!(rt; first_unjoined(rt.alloc(), &MIXED, &options)?, None);
     assert_eq!(rt; first_unjoined(rt.alloc(), &LITERALS, &options)?, None);
     assert_eq!(rt; first_unjoined(rt.alloc(), &EMAILS, &options)?, None);
     Ok(())
