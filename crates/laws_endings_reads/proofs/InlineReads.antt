@@ -1,5 +1,5 @@
 -- The inline structure of a content of codes that stand for themselves: its parts are such codes, and no character reference is among them.
-use Rattle.std.proofs.Common.{◌≡◌, ℕ, suc, zero, ◌+◌, ◌-◌, Bool, true, false, cond, eqb, ◌&&◌, ◌==◌, List, [], ◌∷◌, ◌++◌, map, reverse, replicate, filter, fold, Option, None, Some, take, drop, refl, sym, subst}
+use Rattle.std.proofs.Common.{◌≡◌, ℕ, suc, zero, ◌+◌, Bool, true, false, cond, eqb, ◌&&◌, ◌==◌, List, [], ◌∷◌, ◌++◌, map, Option, None, Some, take, drop, refl, sym, subst}
 use Rattle.std.specs.Prelude.{codes}
 use Rattle.std.specs.Char.{is_ascii_punctuation}
 use Rattle.std.specs.List.{prefix_len}
@@ -11,7 +11,7 @@ use Rattle.definition_text.specs.Bytes.{begins_with, after_all}
 use Rattle.definition_text.specs.Content.{Part, before, up_to, is_eol}
 use Rattle.definition_text.specs.Runs.{run, after_run}
 use Rattle.definition_text.specs.InlineCode.{InlineCode, codes_of}
-use Rattle.definition_inline.specs.Inline.{Target, Inline, Data, Escape, Autolink, Literal, EscapedBreak, TrailingBreak, LineEnd, Inlines, Nil, Cons, followed_by, Leaf, leaf, or_else}
+use Rattle.definition_inline.specs.Inline.{Data, Escape, Autolink, Literal, EscapedBreak, TrailingBreak, LineEnd, Leaf, leaf, or_else}
 use Rattle.definition_inline.specs.CharacterEscape.{escape_at}
 use Rattle.definition_inline.specs.CharacterReference.{reference_form, reference_after, reference_of, reference_at}
 use Rattle.definition_inline.specs.CodeText.{run_of, raw_part, raw_leaf, raw_at, code_text_at}
@@ -24,16 +24,15 @@ use Rattle.definition_inline.specs.Resource.{LinkResource, resource_end, with_ti
 use Rattle.definition_inline.specs.Label.{label_at}
 use Rattle.definition_inline.specs.Destination.{destination_at}
 use Rattle.definition_inline.specs.Title.{title_at}
-use Rattle.definition_inline.specs.LabelEnd.{Ended, by_text, by_label, by_resource, label_end_at, Formed, Leads, Calls, leading}
+use Rattle.definition_inline.specs.LabelEnd.{Ended, by_text, by_label, by_resource, label_end_at, Formed, Leads, leading}
 use Rattle.definition_inline.specs.GfmLabelStartFootnote.{called, call_or_link}
 use Rattle.definition_inline.specs.Attention.{Run, is_marker, run_at}
-use Rattle.definition_inline.specs.Pairing.{Pair, pairs}
-use Rattle.definition_inline.specs.Spans.{Token, Item, Delimiters, runs_of, Span, IsEmphasis, IsStrong, IsStrikethrough, span_of, SpanRow, Holds, Opens, Closes, bytes_taken, run_rows, rows_from, OpenSpan, Nest, nest, spanned, leave, nest_row, emphasized}
 use Rattle.definition_inline.specs.GfmAutolinkLiteral.{LiteralStart, literal_start_at, literal_name, literal_after, literal_at}
-use Rattle.definition_inline.specs.Scan.{InlineContext, leaf_at, leaf_here, LabelStart, LinkStart, ImageStart, label_start_at, start_tokens, may_form, label_part, formed_part, formed_at, Text, text, OpenLabel, Reading, reading, read_tokens, unformed, formed, Step, Next, data_step, ended_step, ended_by, label_end_step, last_step, label_step, run_step, leaf_step, step, and_then, scan, whole_text, inlines, spans_from, inlines_from, unindented}
+use Rattle.definition_inline.specs.Scan.{InlineContext, leaf_at, leaf_here, LabelStart, LinkStart, ImageStart, formed_at, text, inlines, spans_from, inlines_from, unindented}
 use Rattle.laws_endings.proofs.Contents.{no_ending_here}
 use Rattle.laws_endings_reads.specs.Kinds.{may_mark}
-use Rattle.laws_endings_reads.proofs.Each.{Each, each-append, each-take, each-drop, each_map, each_same, WhereSome, where_passed}
+use Rattle.laws_reads.proofs.Inlines.{LeafGood, BeginsGood, either_begins, Nests, FormedGood, Reads, spans_good}
+use Rattle.laws_endings_reads.proofs.Each.{Each, each-append, each-take, each-drop, each_map, WhereSome, where_passed}
 use Rattle.laws_endings_reads.proofs.Neighbours.{marker_marks}
 use Rattle.laws_endings_reads.proofs.LiteralTexts.{name_plain, StartPlain, start_plain}
 use Rattle.laws_endings_reads.proofs.Parts.{TargetFits, IsFit, AreFit}
@@ -78,13 +77,8 @@ resource_fits (c ∷ cs) p =
 abbrev EndedFits : Option Ended → Type 0
 EndedFits o = WhereSome (λ (found : Ended). TargetFits found.target) o
 
--- what a `]` forms
-abbrev FormedIs : Formed → Type 0
-FormedIs (Leads end) = TargetFits end.target
-FormedIs (Calls label) = Unit {0}
-
 abbrev FormedFits : Option Formed → Type 0
-FormedFits o = WhereSome FormedIs o
+FormedFits o = FormedGood TargetFits o
 
 module _ (is_defined : List ℕ → Bool) where
   by_text_fits : (text rest : List ℕ) → EndedFits (by_text is_defined text rest)
@@ -117,14 +111,13 @@ module _ (is_defined : List ℕ → Bool) where
 -- ---- constructs that hold no other
 
 abbrev pub LeafFits : Leaf → Type 0
-LeafFits l = Each IsFit l.parts
+LeafFits l = LeafGood IsFit l
 
 abbrev pub BeginsFit : Option Leaf → Type 0
-BeginsFit o = WhereSome LeafFits o
+BeginsFit o = BeginsGood IsFit o
 
 pub begin_or : (a b : Option Leaf) → BeginsFit a → BeginsFit b → BeginsFit (or_else a b)
-begin_or None b p q = q
-begin_or (Some l) b p q = p
+begin_or a b p q = either_begins IsFit a b p q
 
 -- a literal
 literal_fits : (on : Constructs) (content : List InlineCode) → Each Single (codes_of content) → BeginsFit (literal_at on content)
@@ -253,123 +246,21 @@ pub line_end_fits : (content : List ℕ) → Each Single content → BeginsFit (
 line_end_fits [] p = tt
 line_end_fits (c ∷ cs) p = where_passed LeafFits (is_eol c) (leaf (LineEnd c ∷ []) (1 + indent cs)) (p.0, tt)
 
--- ---- runs
-
-abbrev TokenFits : Token → Type 0
-TokenFits (Item i) = IsFit i
-TokenFits (Delimiters run) = Plain run.marker
-
-abbrev RowFits : SpanRow → Type 0
-RowFits (Holds i) = IsFit i
-RowFits (Opens span) = Unit {0}
-RowFits Closes = Unit {0}
-
-always : {A : Type 0} (P : A → Type 0) (xs : List A) → ((x : A) → P x) → Each P xs
-always P [] f = tt
-always P (x ∷ xs) f = (f x, always P xs f)
-
-run_fits : (ps : List Pair) (place : ℕ) (r : Run) → Plain r.marker → Each RowFits (run_rows ps place r)
-run_fits ps place r h =
-    let closed = filter (λ (p : Pair). p.closer == place) ps in
-    let started = filter (λ (p : Pair). p.opener == place) ps in
-    let closing = map (λ (p : Pair). Closes) closed in
-    let left = r.left - (bytes_taken closed + bytes_taken started) in
-    let opening = map (λ (p : Pair). Opens (span_of r.marker p)) (reverse started) in
-    each-append RowFits (closing ++ replicate left (Holds (Data r.marker))) opening
-    (each-append RowFits closing (replicate left (Holds (Data r.marker)))
-    (each_map (λ p. Unit {0}) RowFits (λ (p : Pair). Closes) closed (λ p q. tt) (always (λ p. Unit {0}) closed (λ p. tt)))
-    (each_same RowFits left (Holds (Data r.marker)) h))
-    (each_map (λ p. Unit {0}) RowFits (λ (p : Pair). Opens (span_of r.marker p)) (reverse started) (λ p q. tt)
-    (always (λ p. Unit {0}) (reverse started) (λ p. tt)))
-
-rows_fit : (ps : List Pair) (place : ℕ) (tokens : List Token) → Each TokenFits tokens → Each RowFits (rows_from ps place tokens)
-rows_fit ps place [] h = tt
-rows_fit ps place (Item i ∷ ts) h = (h.0, rows_fit ps place ts h.1)
-rows_fit ps place (Delimiters r ∷ ts) h =
-    each-append RowFits (run_rows ps place r) (rows_from ps (place + 1) ts) (run_fits ps place r h.0) (rows_fit ps (place + 1) ts h.1)
-
-abbrev SpanFits : OpenSpan → Type 0
-SpanFits s = AreFit s.before
-
-abbrev NestFits : Nest → Type 0
-NestFits n = AreFit n.now × Each SpanFits n.around
-
-follow_fits : (is : Inlines) (last : Inline) → AreFit is → IsFit last → AreFit (followed_by is last)
-follow_fits Nil last p q = (q, tt)
-follow_fits (Cons i is) last p q = (p.0, follow_fits is last p.1 q)
-
-span_fits : (span : Span) (kids : Inlines) → AreFit kids → IsFit (spanned span kids)
-span_fits IsEmphasis kids p = p
-span_fits IsStrong kids p = p
-span_fits IsStrikethrough kids p = p
-
-leave_fits : (now : Inlines) (around : List OpenSpan) → AreFit now → Each SpanFits around → NestFits (leave now around)
-leave_fits now [] p h = (p, tt)
-leave_fits now (s ∷ others) p h = (follow_fits s.before (spanned s.span now) h.0 (span_fits s.span now p), h.1)
-
-nest_row_fits : (n : Nest) (row : SpanRow) → NestFits n → RowFits row → NestFits (nest_row n row)
-nest_row_fits n (Holds i) p q = (follow_fits n.now i p.0 q, p.1)
-nest_row_fits n (Opens span) p q = (tt, (p.0, p.1))
-nest_row_fits n Closes p q = leave_fits n.now n.around p.0 p.1
-
-nest_fits : (n : Nest) (rows : List SpanRow) → NestFits n → Each RowFits rows → NestFits (fold nest_row n rows)
-nest_fits n [] p h = p
-nest_fits n (row ∷ rows) p h = nest_fits (nest_row n row) rows (nest_row_fits n row p h.0) h.1
-
-emphasized_fits : (tokens : List Token) → Each TokenFits tokens → AreFit (emphasized tokens)
-emphasized_fits tokens h =
-    let ps = pairs (runs_of tokens) in
-    (nest_fits (nest Nil []) (rows_from ps 0 tokens) (tt, tt) (rows_fit ps 0 tokens h)).0
-
--- ---- labels
-
-abbrev TextFits : Text → Type 0
-TextFits t = Each TokenFits t.tokens
-
-abbrev LabelFits : OpenLabel → Type 0
-LabelFits label = TextFits label.outer
-
-abbrev ReadingFits : Reading → Type 0
-ReadingFits r = TextFits r.now × Each LabelFits r.open_labels
-
-abbrev StepFits : Step → Type 0
-StepFits (Next more r) = ReadingFits r
-
-label_part_fits : (start : LabelStart) (target : Target) (kids : Inlines) → TargetFits target → AreFit kids → IsFit (label_part start target kids)
-label_part_fits LinkStart target kids h p = (h, p)
-label_part_fits ImageStart target kids h p = (h, p)
-
-start_fits : (start : LabelStart) → Each TokenFits (start_tokens start)
-start_fits LinkStart = (((refl, refl), refl), tt)
-start_fits ImageStart = (((refl, refl), refl), (((refl, refl), refl), tt))
-
-unformed_fits : (label : OpenLabel) (inner : Text) → LabelFits label → TextFits inner → TextFits (unformed label inner)
-unformed_fits label inner h p =
-    let start = start_tokens label.start in
-    each-append TokenFits label.outer.tokens (start ++ inner.tokens) h (each-append TokenFits start inner.tokens (start_fits label.start) p)
-
-formed_part_fits : (start : LabelStart) (found : Formed) (tokens : List Token) → FormedIs found → Each TokenFits tokens → IsFit (formed_part start found tokens)
-formed_part_fits start (Leads end) tokens h p = label_part_fits start end.target (emphasized tokens) h (emphasized_fits tokens p)
-formed_part_fits start (Calls label) tokens h p = tt
-
-formed_fits : (label : OpenLabel) (found : Formed) (inner : Text) → LabelFits label → FormedIs found → TextFits inner → TextFits (formed label found inner)
-formed_fits label found inner h q p =
-    each-append TokenFits label.outer.tokens (Item (formed_part label.start found inner.tokens) ∷ []) h
-    (formed_part_fits label.start found inner.tokens q p, tt)
-
 -- ---- places
 
-read_fits : (more : List Token) (r : Reading) → Each TokenFits more → ReadingFits r → ReadingFits (read_tokens more r)
-read_fits more r h p = (each-append TokenFits r.now.tokens more p.0 h, p.1)
+nests : Nests IsFit AreFit
+nests = record {
+  none = tt;
+  more = λ i is p q. (p, q);
+  first = λ i is p. p.0;
+  rest = λ i is p. p.1;
+  emphasis = λ kids p. p;
+  strong = λ kids p. p;
+  strikethrough = λ kids p. p;
+}
 
-bracket_fits : Each TokenFits (Item (Data 93) ∷ [])
-bracket_fits = (((refl, refl), refl), tt)
-
-ended_step_fits : (label : OpenLabel) (others : List OpenLabel) (inner : Text) (found : Option Formed) → LabelFits label → Each LabelFits others
-    → TextFits inner → FormedFits found → StepFits (ended_step label others inner found)
-ended_step_fits label others inner None h hs p q =
-    read_fits (Item (Data 93) ∷ []) (reading (unformed label inner) others) bracket_fits (unformed_fits label inner h p, hs)
-ended_step_fits label others inner (Some found) h hs p q = (formed_fits label found inner h q p, hs)
+abbrev SinglesOf : List ℕ → Type 0
+SinglesOf cs = Each Single cs
 
 module _ (context : InlineContext) where
   formed_at_fits : (start : LabelStart) (between rest : List ℕ) → Each Single rest → FormedFits (formed_at context start between rest)
@@ -377,42 +268,6 @@ module _ (context : InlineContext) where
       let on = context.options.constructs in
       call_or_link_fits context.is_defined on between rest (called on context.is_footnote between) p
   formed_at_fits ImageStart between rest p = leading_fits context.is_defined between rest p
-
-  ended_by_fits : (content : List ℕ) (label : OpenLabel) (inner : Text) → Each Single content → FormedFits (ended_by context content label inner)
-  ended_by_fits content label inner p =
-      let between = before label.from content in
-      cond_both (may_form label.start inner.holds_link) (formed_at context label.start between (drop 1 content)) None FormedFits
-      (λ _. formed_at_fits label.start between (drop 1 content) (each-drop Single 1 content p)) (λ _. tt)
-
-  label_end_fits : (content : List ℕ) (inner : Text) (open_labels : List OpenLabel) → Each Single content → TextFits inner → Each LabelFits open_labels
-      → StepFits (label_end_step context content inner open_labels)
-  label_end_fits content inner [] c p hs = read_fits (Item (Data 93) ∷ []) (reading inner []) bracket_fits (p, tt)
-  label_end_fits content inner (label ∷ others) c p hs =
-      ended_step_fits label others inner (ended_by context content label inner) hs.0 hs.1 p (ended_by_fits content label inner c)
-
-  last_fits : (code : ℕ) (content : List ℕ) (r : Reading) → Plain code → Each Single content → ReadingFits r → StepFits (last_step context code content r)
-  last_fits code content r h c p =
-      cond_both _ (label_end_step context content r.now r.open_labels) (data_step code r) StepFits
-      (λ _. label_end_fits content r.now r.open_labels c p.0 p.1) (λ _. read_fits (Item (Data code) ∷ []) r (h, tt) p)
-
-  label_step_fits : (code : ℕ) (content : List ℕ) (r : Reading) (start : Option LabelStart) → Plain code → Each Single content → ReadingFits r
-      → StepFits (label_step context code content r start)
-  label_step_fits code content r None h c p = last_fits code content r h c p
-  label_step_fits code content r (Some start) h c p = (tt, (p.0, p.1))
-
-  abbrev RunFits : Option Run → Type 0
-  RunFits o = WhereSome (λ (r : Run). Plain r.marker) o
-
-  run_step_fits : (code : ℕ) (content : List ℕ) (r : Reading) (found : Option Run) → Plain code → Each Single content → RunFits found → ReadingFits r
-      → StepFits (run_step context code content r found)
-  run_step_fits code content r None h c q p = label_step_fits code content r (label_start_at context.options.constructs content) h c p
-  run_step_fits code content r (Some found) h c q p = read_fits (Delimiters found ∷ []) r (q, tt) p
-
-  leaf_step_fits : (code : ℕ) (content : List ℕ) (r : Reading) (run : Option Run) (found : Option Leaf) → (found ≡ None → Plain code) → Each Single content
-      → RunFits run → ReadingFits r → BeginsFit found → StepFits (leaf_step context code content r run found)
-  leaf_step_fits code content r run None h c q p b = run_step_fits code content r run (h refl) c q p
-  leaf_step_fits code content r run (Some found) h c q p b =
-      read_fits (map Item found.parts) r (each_map IsFit TokenFits Item found.parts (λ i h. h) b) p
 
   leaf_fits : (content : List ℕ) → Each Single content → BeginsFit (leaf_at context content)
   leaf_fits content p =
@@ -432,31 +287,29 @@ module _ (context : InlineContext) where
       begin_or (leaf_at context (codes_of content)) (literal_at context.options.constructs content) (leaf_fits (codes_of content) p)
       (literal_fits context.options.constructs content p)
 
+  abbrev RunFits : Option Run → Type 0
+  RunFits o = WhereSome (λ (r : Run). Plain r.marker) o
+
   run_at_fits : (c : InlineCode) (cs : List InlineCode) → Single c.code → RunFits (run_at context.options (c ∷ cs))
   run_at_fits c cs p =
       cond_both (is_marker context.options c.code) _ None RunFits
       (λ h. (p, no_ending_by may_mark c.code refl refl refl (marker_marks context.options c.code h))) (λ _. tt)
 
-  step_fits : (r : Reading) (c : InlineCode) (cs : List InlineCode) → Each Single (codes_of (c ∷ cs)) → ReadingFits r → StepFits (step context r c cs)
-  step_fits r c cs p q =
-      let content = codes_of (c ∷ cs) in
-      leaf_step_fits c.code content r (run_at context.options (c ∷ cs)) (leaf_here context (c ∷ cs))
-      (λ none. (p.0, no_ending_here context c cs none)) p (run_at_fits c cs p.0) q (here_fits (c ∷ cs) p)
-
-  then_fits : (s : Step) (rest : ℕ → Reading → Reading) → StepFits s → ((k : ℕ) (r : Reading) → ReadingFits r → ReadingFits (rest k r))
-      → ReadingFits (and_then s rest)
-  then_fits (Next more r) rest p h = h more r p
-
-  scan_fits : (k : ℕ) (r : Reading) (content : List InlineCode) → Each Single (codes_of content) → ReadingFits r → ReadingFits (scan context k r content)
-  scan_fits k r [] c p = p
-  scan_fits zero r (x ∷ cs) c p =
-      then_fits (step context r x cs) (λ k next. scan context k next cs) (step_fits r x cs c p) (λ k next q. scan_fits k next cs c.1 q)
-  scan_fits (suc k) r (x ∷ cs) c p = scan_fits k r cs c.1 p
-
-  whole_fits : (inner : Text) (open_labels : List OpenLabel) → TextFits inner → Each LabelFits open_labels
-      → TextFits (fold (λ inner label. unformed label inner) inner open_labels)
-  whole_fits inner [] p h = p
-  whole_fits inner (label ∷ others) p h = whole_fits (unformed label inner) others (unformed_fits label inner h.0 p) h.1
+  reads : Reads IsFit AreFit TargetFits SinglesOf context
+  reads = record {
+    nests = nests;
+    link = λ target kids h p. (h, p);
+    image = λ target kids h p. (h, p);
+    call = λ label. tt;
+    close = ((refl, refl), refl);
+    open_link = ((refl, refl), refl);
+    open_image = ((refl, refl), refl);
+    tail = λ c cs h. h.1;
+    begun = λ content h. here_fits content h;
+    byte = λ c cs h none. (h.0, no_ending_here context c cs none);
+    marker = λ c cs h. run_at_fits c cs h.0;
+    forms = λ start between content h. formed_at_fits start between (drop 1 content) (each-drop Single 1 content h);
+  }
 
   pub dropped_codes : (n : ℕ) (content : List InlineCode) → Each Single (codes_of content) → Each Single (codes_of (drop n content))
   dropped_codes zero content p = p
@@ -466,10 +319,8 @@ module _ (context : InlineContext) where
   -- from a place of a content on
   pub from_fits : (content : List InlineCode) → Each Single (codes_of content) → AreFit (inlines_from context content)
   from_fits content p =
-      let r = scan context 0 (reading (text [] false) []) content in
-      let h : ReadingFits r = scan_fits 0 (reading (text [] false) []) content p (tt, tt) in
       linked_fits context.options.constructs (spans_from context content)
-      (emphasized_fits (whole_text r).tokens (whole_fits r.now r.open_labels h.0 h.1))
+      (spans_good IsFit AreFit TargetFits SinglesOf context reads content p)
 
   pub inlines_fit : (content : List InlineCode) → Each Single (codes_of content) → AreFit (inlines context content)
   inlines_fit content p =

@@ -1,14 +1,12 @@
 -- In the inline structure of every content the codes of line endings are those of endings.
-use Rattle.std.proofs.Common.{ℕ, suc, zero, Bool, true, false, cond, ◌&&◌, ◌==◌, List, [], ◌∷◌, ◌++◌, map, Option, None, Some, length, take, drop, ◌+◌, ◌-◌}
-use Rattle.std.specs.Prelude.{replicate, reverse}
-use Rattle.std.specs.List.{fold, filter}
+use Rattle.std.proofs.Common.{ℕ, Bool, true, false, cond, ◌&&◌, ◌==◌, List, [], ◌∷◌, map, Option, None, Some, length, take, drop, ◌+◌, ◌-◌}
 use Rattle.std.proofs.lemmas.Bool.{cond_both}
 use Rattle.markdown_options.specs.declared.configuration.Constructs.{Constructs}
 use Rattle.definition_text.specs.Columns.{indent}
 use Rattle.definition_text.specs.Content.{Part, before, up_to, is_eol}
 use Rattle.definition_text.specs.Runs.{run, after_run}
 use Rattle.definition_text.specs.InlineCode.{InlineCode, codes_of}
-use Rattle.definition_inline.specs.Inline.{Target, Inline, Data, Escape, Autolink, EscapedBreak, TrailingBreak, LineEnd, Emphasis, Strong, Strikethrough, Inlines, Nil, Cons, followed_by, Leaf, leaf, or_else}
+use Rattle.definition_inline.specs.Inline.{Target, Inline, Data, Escape, Autolink, EscapedBreak, TrailingBreak, LineEnd, Emphasis, Strong, Strikethrough, Inlines, Leaf, leaf, or_else}
 use Rattle.definition_inline.specs.CharacterEscape.{escape_at}
 use Rattle.definition_inline.specs.CharacterReference.{CharacterReference, reference_form, reference_text, reference_leaf, reference_of, reference_at}
 use Rattle.definition_inline.specs.CodeText.{run_of, raw_part, raw_leaf, raw_at, code_text_at}
@@ -17,27 +15,25 @@ use Rattle.definition_inline.specs.Autolink.{uri_end, email_end, closed_autolink
 use Rattle.definition_inline.specs.HtmlText.{html_byte, html_end, html_leaf, html_text_at}
 use Rattle.definition_inline.specs.HardBreak.{line_end_at, escaped_break_at, is_trailing_break, line_spaces_at}
 use Rattle.definition_inline.specs.LabelEnd.{Formed, Leads, Calls}
-use Rattle.definition_inline.specs.Attention.{Run, run_at}
-use Rattle.definition_inline.specs.Pairing.{Pair, pairs}
-use Rattle.definition_inline.specs.Spans.{Token, Item, Delimiters, runs_of, Span, IsEmphasis, IsStrong, IsStrikethrough, span_of, SpanRow, Holds, Opens, Closes, bytes_taken, run_rows, rows_from, OpenSpan, Nest, nest, spanned, leave, nest_row, emphasized}
+use Rattle.definition_inline.specs.Attention.{Run}
 use Rattle.definition_inline.specs.GfmAutolinkLiteral.{literal_at}
 use Rattle.definition_inline.proofs.GfmAutolinkLiteral.{any_literal}
-use Rattle.definition_inline.specs.Scan.{InlineContext, leaf_at, leaf_here, LabelStart, LinkStart, ImageStart, label_start_at, start_bytes, start_tokens, label_part, formed_part, Text, text, OpenLabel, Reading, reading, read_tokens, unformed, formed, Step, Next, data_step, ended_step, ended_by, label_end_step, last_step, label_step, run_step, leaf_step, step, and_then, scan, whole_text, spans_from, inlines, inlines_from, unindented}
+use Rattle.definition_inline.specs.Scan.{InlineContext, leaf_at, leaf_here, formed_at, text, spans_from, inlines, inlines_from, unindented}
 use Rattle.laws_literals.proofs.Carried.{Holds as CarriesHolding, Carries, literals_good, linked_good}
-use Rattle.laws_safe_page.proofs.Each.{Each, each-append, each_map, each_mapped, each_same, WhereSome, where_passed}
+use Rattle.laws_reads.proofs.Inlines.{LeafGood, BeginsGood, either_begins, Nests, FormedGood, Reads, spans_good}
+use Rattle.laws_safe_page.proofs.Each.{Each, each_map, where_passed}
 use Rattle.laws_safe_page.proofs.InlineAdds.{EndsLines, AllEndLines}
 
 -- ---- constructs that hold no other
 
 abbrev LeafEndsLines : Leaf → Type 0
-LeafEndsLines l = Each EndsLines l.parts
+LeafEndsLines l = LeafGood EndsLines l
 
 abbrev BeginsWell : Option Leaf → Type 0
-BeginsWell o = WhereSome LeafEndsLines o
+BeginsWell o = BeginsGood EndsLines o
 
 begin_or : (a b : Option Leaf) → BeginsWell a → BeginsWell b → BeginsWell (or_else a b)
-begin_or None b p q = q
-begin_or (Some l) b p q = p
+begin_or a b p q = either_begins EndsLines a b p q
 
 part_reads : (marker : ℕ) (text : List ℕ) → EndsLines (raw_part marker text)
 part_reads marker text = cond_both (marker == 36) _ _ EndsLines (λ _. tt) (λ _. tt)
@@ -109,101 +105,6 @@ module _ (on : Constructs) where
       where_passed LeafEndsLines _ (leaf (cond test (TrailingBreak ∷ []) []) (indent content))
       (cond_both test (TrailingBreak ∷ []) [] (Each EndsLines) (λ _. (tt, tt)) (λ _. tt))
 
--- ---- runs
-
-abbrev TokenEndsLines : Token → Type 0
-TokenEndsLines (Item i) = EndsLines i
-TokenEndsLines (Delimiters run) = Unit {0}
-
-abbrev RowEndsLines : SpanRow → Type 0
-RowEndsLines (Holds i) = EndsLines i
-RowEndsLines (Opens span) = Unit {0}
-RowEndsLines Closes = Unit {0}
-
-run_ends : (ps : List Pair) (place : ℕ) (r : Run) → Each RowEndsLines (run_rows ps place r)
-run_ends ps place r =
-    let closed = filter (λ (p : Pair). p.closer == place) ps in
-    let started = filter (λ (p : Pair). p.opener == place) ps in
-    let closing = map (λ (p : Pair). Closes) closed in
-    let left = r.left - (bytes_taken closed + bytes_taken started) in
-    let opening = map (λ (p : Pair). Opens (span_of r.marker p)) (reverse started) in
-    each-append RowEndsLines (closing ++ replicate left (Holds (Data r.marker))) opening
-    (each-append RowEndsLines closing (replicate left (Holds (Data r.marker))) (each_map RowEndsLines (λ (p : Pair). Closes) closed (λ p. tt))
-    (each_same RowEndsLines left (Holds (Data r.marker)) tt))
-    (each_map RowEndsLines (λ (p : Pair). Opens (span_of r.marker p)) (reverse started) (λ p. tt))
-
-rows_end : (ps : List Pair) (place : ℕ) (tokens : List Token) → Each TokenEndsLines tokens → Each RowEndsLines (rows_from ps place tokens)
-rows_end ps place [] h = tt
-rows_end ps place (Item i ∷ ts) h = (h.0, rows_end ps place ts h.1)
-rows_end ps place (Delimiters r ∷ ts) h =
-    each-append RowEndsLines (run_rows ps place r) (rows_from ps (place + 1) ts) (run_ends ps place r) (rows_end ps (place + 1) ts h.1)
-
-abbrev SpanEndsLines : OpenSpan → Type 0
-SpanEndsLines s = AllEndLines s.before
-
-abbrev NestEndsLines : Nest → Type 0
-NestEndsLines n = AllEndLines n.now × Each SpanEndsLines n.around
-
-follow_ends : (is : Inlines) (last : Inline) → AllEndLines is → EndsLines last → AllEndLines (followed_by is last)
-follow_ends Nil last p q = (q, tt)
-follow_ends (Cons i is) last p q = (p.0, follow_ends is last p.1 q)
-
-span_ends : (span : Span) (kids : Inlines) → AllEndLines kids → EndsLines (spanned span kids)
-span_ends IsEmphasis kids p = p
-span_ends IsStrong kids p = p
-span_ends IsStrikethrough kids p = p
-
-leave_ends : (now : Inlines) (around : List OpenSpan) → AllEndLines now → Each SpanEndsLines around → NestEndsLines (leave now around)
-leave_ends now [] p h = (p, tt)
-leave_ends now (s ∷ others) p h = (follow_ends s.before (spanned s.span now) h.0 (span_ends s.span now p), h.1)
-
-nest_row_ends : (n : Nest) (row : SpanRow) → NestEndsLines n → RowEndsLines row → NestEndsLines (nest_row n row)
-nest_row_ends n (Holds i) p q = (follow_ends n.now i p.0 q, p.1)
-nest_row_ends n (Opens span) p q = (tt, (p.0, p.1))
-nest_row_ends n Closes p q = leave_ends n.now n.around p.0 p.1
-
-nest_ends : (n : Nest) (rows : List SpanRow) → NestEndsLines n → Each RowEndsLines rows → NestEndsLines (fold nest_row n rows)
-nest_ends n [] p h = p
-nest_ends n (row ∷ rows) p h = nest_ends (nest_row n row) rows (nest_row_ends n row p h.0) h.1
-
-emphasized_ends : (tokens : List Token) → Each TokenEndsLines tokens → AllEndLines (emphasized tokens)
-emphasized_ends tokens h =
-    let ps = pairs (runs_of tokens) in
-    (nest_ends (nest Nil []) (rows_from ps 0 tokens) (tt, tt) (rows_end ps 0 tokens h)).0
-
--- ---- labels
-
-abbrev TextEndsLines : Text → Type 0
-TextEndsLines t = Each TokenEndsLines t.tokens
-
-abbrev LabelEndsLines : OpenLabel → Type 0
-LabelEndsLines label = TextEndsLines label.outer
-
-abbrev ReadingEndsLines : Reading → Type 0
-ReadingEndsLines r = TextEndsLines r.now × Each LabelEndsLines r.open_labels
-
-abbrev StepEndsLines : Step → Type 0
-StepEndsLines (Next more r) = ReadingEndsLines r
-
-label_ends : (start : LabelStart) (target : Target) (kids : Inlines) → AllEndLines kids → EndsLines (label_part start target kids)
-label_ends LinkStart target kids p = p
-label_ends ImageStart target kids p = p
-
-unformed_ends : (label : OpenLabel) (inner : Text) → LabelEndsLines label → TextEndsLines inner → TextEndsLines (unformed label inner)
-unformed_ends label inner h p =
-    let start = start_tokens label.start in
-    each-append TokenEndsLines label.outer.tokens (start ++ inner.tokens) h
-    (each-append TokenEndsLines start inner.tokens (each_map TokenEndsLines (λ b. Item (Data b)) (start_bytes label.start) (λ b. tt)) p)
-
-part_ends : (start : LabelStart) (found : Formed) (tokens : List Token) → Each TokenEndsLines tokens → EndsLines (formed_part start found tokens)
-part_ends start (Leads end) tokens p = label_ends start end.target (emphasized tokens) (emphasized_ends tokens p)
-part_ends start (Calls label) tokens p = tt
-
-formed_ends : (label : OpenLabel) (found : Formed) (inner : Text) → LabelEndsLines label → TextEndsLines inner → TextEndsLines (formed label found inner)
-formed_ends label found inner h p =
-    each-append TokenEndsLines label.outer.tokens (Item (formed_part label.start found inner.tokens) ∷ []) h
-    (part_ends label.start found inner.tokens p, tt)
-
 -- ---- literals
 
 data_ends : (text : List ℕ) → Each (λ b. EndsLines (Data b)) text
@@ -239,41 +140,32 @@ literals_carry =
 
 -- ---- places
 
-read_ends : (more : List Token) (r : Reading) → Each TokenEndsLines more → ReadingEndsLines r → ReadingEndsLines (read_tokens more r)
-read_ends more r h p = (each-append TokenEndsLines r.now.tokens more p.0 h, p.1)
+abbrev LeadsAnywhere : Target → Type 0
+LeadsAnywhere target = Unit {0}
 
-ended_ends : (label : OpenLabel) (others : List OpenLabel) (inner : Text) (found : Option Formed) → LabelEndsLines label → Each LabelEndsLines others
-    → TextEndsLines inner → StepEndsLines (ended_step label others inner found)
-ended_ends label others inner None h hs p =
-    read_ends (Item (Data 93) ∷ []) (reading (unformed label inner) others) (tt, tt) (unformed_ends label inner h p, hs)
-ended_ends label others inner (Some found) h hs p = (formed_ends label found inner h p, hs)
+abbrev AnyCodes : List ℕ → Type 0
+AnyCodes cs = Unit {0}
+
+abbrev Forms : Option Formed → Type 0
+Forms o = FormedGood LeadsAnywhere o
+
+forms_anything : (o : Option Formed) → Forms o
+forms_anything None = tt
+forms_anything (Some (Leads end)) = tt
+forms_anything (Some (Calls label)) = tt
+
+nests : Nests EndsLines AllEndLines
+nests = record {
+  none = tt;
+  more = λ i is p q. (p, q);
+  first = λ i is p. p.0;
+  rest = λ i is p. p.1;
+  emphasis = λ kids p. p;
+  strong = λ kids p. p;
+  strikethrough = λ kids p. p;
+}
 
 module _ (context : InlineContext) where
-  label_end_ends : (content : List ℕ) (inner : Text) (open_labels : List OpenLabel) → TextEndsLines inner → Each LabelEndsLines open_labels
-      → StepEndsLines (label_end_step context content inner open_labels)
-  label_end_ends content inner [] p hs = read_ends (Item (Data 93) ∷ []) (reading inner []) (tt, tt) (p, tt)
-  label_end_ends content inner (label ∷ others) p hs = ended_ends label others inner (ended_by context content label inner) hs.0 hs.1 p
-
-  last_ends : (code : ℕ) (content : List ℕ) (r : Reading) → ReadingEndsLines r → StepEndsLines (last_step context code content r)
-  last_ends code content r p =
-      cond_both _ (label_end_step context content r.now r.open_labels) (data_step code r) StepEndsLines
-      (λ _. label_end_ends content r.now r.open_labels p.0 p.1) (λ _. read_ends (Item (Data code) ∷ []) r (tt, tt) p)
-
-  label_step_ends : (code : ℕ) (content : List ℕ) (r : Reading) (start : Option LabelStart) → ReadingEndsLines r
-      → StepEndsLines (label_step context code content r start)
-  label_step_ends code content r None p = last_ends code content r p
-  label_step_ends code content r (Some start) p = (tt, (p.0, p.1))
-
-  run_step_ends : (code : ℕ) (content : List ℕ) (r : Reading) (found : Option Run) → ReadingEndsLines r
-      → StepEndsLines (run_step context code content r found)
-  run_step_ends code content r None p = label_step_ends code content r (label_start_at context.options.constructs content) p
-  run_step_ends code content r (Some found) p = read_ends (Delimiters found ∷ []) r (tt, tt) p
-
-  leaf_step_ends : (code : ℕ) (content : List ℕ) (r : Reading) (run : Option Run) (found : Option Leaf) → ReadingEndsLines r → BeginsWell found
-      → StepEndsLines (leaf_step context code content r run found)
-  leaf_step_ends code content r run None p q = run_step_ends code content r run p
-  leaf_step_ends code content r run (Some found) p q = read_ends (map Item found.parts) r (each_mapped EndsLines TokenEndsLines Item found.parts (λ i h. h) q) p
-
   leaf_ends : (content : List ℕ) → BeginsWell (leaf_at context content)
   leaf_ends content =
       let on = context.options.constructs in
@@ -293,37 +185,28 @@ module _ (context : InlineContext) where
       begin_or (leaf_at context (codes_of content)) (literal_at on content) (leaf_ends (codes_of content))
       (any_literal BeginsWell on content tt (λ kind text size is. (tt, tt)))
 
-  step_ends : (r : Reading) (c : InlineCode) (cs : List InlineCode) → ReadingEndsLines r → StepEndsLines (step context r c cs)
-  step_ends r c cs p =
-      let content = codes_of (c ∷ cs) in
-      leaf_step_ends c.code content r (run_at context.options (c ∷ cs)) (leaf_here context (c ∷ cs)) p (here_ends (c ∷ cs))
-
-  then_ends : (s : Step) (rest : ℕ → Reading → Reading) → StepEndsLines s
-      → ((k : ℕ) (r : Reading) → ReadingEndsLines r → ReadingEndsLines (rest k r)) → ReadingEndsLines (and_then s rest)
-  then_ends (Next more r) rest p h = h more r p
-
-  scan_ends : (k : ℕ) (r : Reading) (content : List InlineCode) → ReadingEndsLines r → ReadingEndsLines (scan context k r content)
-  scan_ends k r [] p = p
-  scan_ends zero r (c ∷ cs) p = then_ends (step context r c cs) (λ k next. scan context k next cs) (step_ends r c cs p) (λ k next q. scan_ends k next cs q)
-  scan_ends (suc k) r (c ∷ cs) p = scan_ends k r cs p
-
-  whole_ends : (inner : Text) (open_labels : List OpenLabel) → TextEndsLines inner → Each LabelEndsLines open_labels
-      → TextEndsLines (fold (λ inner label. unformed label inner) inner open_labels)
-  whole_ends inner [] p h = p
-  whole_ends inner (label ∷ others) p h = whole_ends (unformed label inner) others (unformed_ends label inner h.0 p) h.1
-
-  spans_end : (content : List InlineCode) → AllEndLines (spans_from context content)
-  spans_end content =
-      let r = scan context 0 (reading (text [] false) []) content in
-      let h : ReadingEndsLines r = scan_ends 0 (reading (text [] false) []) content (tt, tt) in
-      emphasized_ends (whole_text r).tokens (whole_ends r.now r.open_labels h.0 h.1)
+  reads : Reads EndsLines AllEndLines LeadsAnywhere AnyCodes context
+  reads = record {
+    nests = nests;
+    link = λ target kids h p. p;
+    image = λ target kids h p. p;
+    call = λ label. tt;
+    close = tt;
+    open_link = tt;
+    open_image = tt;
+    tail = λ c cs h. tt;
+    begun = λ content h. here_ends content;
+    byte = λ c cs h none. tt;
+    marker = λ c cs h. where_passed (λ (r : Run). Unit {0}) _ _ tt;
+    forms = λ start between content h. forms_anything (formed_at context start between (drop 1 content));
+  }
 
   -- the inline structure of a content from a place on
   pub from_ends : (content : List InlineCode) → AllEndLines (inlines_from context content)
   from_ends content =
       let spans = spans_from context content in
-      linked_good context.options.constructs AllEndLines spans
-      (λ _. literals_good EndsLines AllEndLines Keeps literals_carry spans (spans_end content)) (spans_end content)
+      let p : AllEndLines spans = spans_good EndsLines AllEndLines LeadsAnywhere AnyCodes context reads content tt in
+      linked_good context.options.constructs AllEndLines spans (λ _. literals_good EndsLines AllEndLines Keeps literals_carry spans p) p
 
   pub inlines_end : (content : List InlineCode) → AllEndLines (inlines context content)
   inlines_end content = from_ends (unindented content)

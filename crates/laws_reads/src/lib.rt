@@ -1,0 +1,2 @@
+//! What holds of all that is read, for the proofs of the laws.
+#![tactic(auto)]
