@@ -19,18 +19,29 @@ pub struct ByteClass {
 pub fn run_of(bytes: &[u8], class: ByteClass) -> usize
     ensures { result ≡ position_or_len (is_outside class) bytes.now }
 {
+    if bytes.len() < LANES {
+        return run_in_few(bytes, class);
+    }
+    let last = bytes.len() - LANES;
     let mut at = 0;
-    'by_block: while bytes.len() - at >= LANES {
+    'by_block: while at < last {
         let run = run_in(bytes, at, class);
         if run < LANES {
             return at + run;
         }
         at += LANES;
     }
-    while at < bytes.len() && !is_outside(class, bytes[at]) {
-        at += 1;
-    }
-    at
+    last + run_in(bytes, last, class)
+}
+
+/// The same in fewer bytes than are looked at together.
+fn run_in_few(bytes: &[u8], class: ByteClass) -> usize
+    requires { length bytes.now < LANES }
+    ensures { result ≡ position_or_len (is_outside class) bytes.now }
+{
+    let mut block = [0; LANES];
+    block[..bytes.len()].copy_from_slice(bytes);
+    run_in(&block, 0, class).min(bytes.len())
 }
 
 /// How many of the 16 bytes from a place are of a class, from the first.

@@ -21,18 +21,29 @@ pub(crate) const LANES: usize = 16;
 pub fn next_of(bytes: &[u8], set: ByteSet) -> usize
     ensures { result ≡ position_or_len (holds set) bytes.now }
 {
+    if bytes.len() < LANES {
+        return next_in_few(bytes, set);
+    }
+    let last = bytes.len() - LANES;
     let mut at = 0;
-    'by_block: while bytes.len() - at >= LANES {
+    'by_block: while at < last {
         let run = run_in(bytes, at, set);
         if run < LANES {
             return at + run;
         }
         at += LANES;
     }
-    while at < bytes.len() && !holds(set, bytes[at]) {
-        at += 1;
-    }
-    at
+    last + run_in(bytes, last, set)
+}
+
+/// The same in fewer bytes than are looked at together.
+fn next_in_few(bytes: &[u8], set: ByteSet) -> usize
+    requires { length bytes.now < LANES }
+    ensures { result ≡ position_or_len (holds set) bytes.now }
+{
+    let mut block = [0; LANES];
+    block[..bytes.len()].copy_from_slice(bytes);
+    run_in(&block, 0, set).min(bytes.len())
 }
 
 /// How many of the 16 bytes from a place come before the first one of a set.
