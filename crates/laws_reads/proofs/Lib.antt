@@ -1,1 +1,2 @@
 pub mod Inlines
+pub mod Blocks
