@@ -231,7 +231,8 @@ module _ (good : Property) where
     or_html_good rest beside None other p f q = q
     or_html_good rest beside (Some kind) other p f q = html_with_good kind [] rest beside tt p f
 
-    heading_of_good : (rank : ℕ) (definitions : Blocks) (ls : List BlockLine) (ending : Option LineEnding) → good.rank rank → BlocksGood definitions → LinesGood ls → EndGood ending
+    heading_of_good : (rank : ℕ) (definitions : Blocks) (ls : List BlockLine) (ending : Option LineEnding) → good.rank rank
+        → BlocksGood definitions → LinesGood ls → EndGood ending
         → SomeGood (heading_of rank definitions ls ending)
     heading_of_good rank definitions [] ending h p q f = tt
     heading_of_good rank definitions (line ∷ others) ending h p q f =
@@ -278,7 +279,8 @@ module _ (good : Property) where
     close_good (Leaf leaf) p = close_leaf_good leaf p
     close_good (Inside c kids inner) p = holds_good c (join kids (close on inner)) (join_good kids (close on inner) p.0 (close_good inner p.1))
 
-    takes_good : (leaf : OpenLeaf) (rest : Rest) (beside : Beside) → LeafGood leaf → RestGood rest → EndGood beside.ending → SomeGood (takes on leaf rest beside)
+    takes_good : (leaf : OpenLeaf) (rest : Rest) (beside : Beside) → LeafGood leaf → RestGood rest → EndGood beside.ending
+        → SomeGood (takes on leaf rest beside)
     takes_good (Text ls) rest beside p q f = tt
     takes_good (Indented ls pending) rest beside p q f =
         let code = outdented_good 4 rest q in
@@ -310,7 +312,8 @@ module _ (good : Property) where
         cond_both (has_text away || has_table away) _ _ TreeGood (λ _. (tt, with_line_good (rest_line rest beside) away line p))
         (λ _. after_good away (tree Nil (Leaf (Text (rest_line rest beside ∷ [])))) p (tt, (line, tt)))
 
-    table_of_good : (definitions : Blocks) (ls : List BlockLine) (row : BlockLine) → BlocksGood definitions → LinesGood ls → LineGood row → TreeGood (table_of definitions ls row)
+    table_of_good : (definitions : Blocks) (ls : List BlockLine) (row : BlockLine) → BlocksGood definitions → LinesGood ls → LineGood row
+        → TreeGood (table_of definitions ls row)
     table_of_good definitions ls row p q l =
         let head = length ls - 1 in (
           join_good definitions (paragraph_of (take head ls)) p (paragraph_good (take head ls) (each-take LineGood head ls q)),
@@ -347,12 +350,14 @@ module _ (good : Property) where
     leaf_line_good away rest beside p q f =
         cond_both (is_blank rest) _ _ TreeGood (λ _. after_good away (tree (one (Blank beside.ending)) nothing) p ((f, tt), tt))
         (λ _. begun_good (begins on (has_text away) rest beside) away _ (begins_good (has_text away) rest beside q f) p
-        (taken_good (turns on away rest beside.ending) _ (underlined_good (underline on rest) (text_here away) beside.ending (reads.underlines rest) (text_here_good away p) f)
+        (taken_good (turns on away rest beside.ending) _
+        (underlined_good (underline on rest) (text_here away) beside.ending (reads.underlines rest) (text_here_good away p) f)
         (break_good away rest beside p q f)))
 
     -- ---- containers
 
-    start_good : (o : Option Started) (away : Opening) (other : BlockTree) (more : Started → BlockTree) → IfSome o (λ (s : Started). RestGood s.rest) → OpeningGood away
+    start_good : (o : Option Started) (away : Opening) (other : BlockTree) (more : Started → BlockTree)
+        → IfSome o (λ (s : Started). RestGood s.rest) → OpeningGood away
         → TreeGood other → ((s : Started) → RestGood s.rest → TreeGood (more s)) → TreeGood (start on o away other more)
     start_good None away other more r a q m = q
     start_good (Some s) away other more r a q m =
