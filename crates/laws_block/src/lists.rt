@@ -28,7 +28,9 @@ pub fn grouped_law()
     ensures { ListsOnlyGroup }
 {}
 
-/// A list is loose exactly if some two neighbouring items, or some two neighbouring children of one item, have a line between them: one whose number lies between that of the first one's last line and that of the second one's first line (CommonMark 5.3).
+/// A list is loose exactly if some two neighbouring items, or some two neighbouring children of one
+/// item, have a line between them: one whose number lies between that of the first one's last line
+/// and that of the second one's first line (CommonMark 5.3).
 #[tactic(auto, using(crate::proofs::Looseness::looseness_is_of_lines))]
 pub fn looseness_law()
     ensures { LoosenessIsOfLines }
