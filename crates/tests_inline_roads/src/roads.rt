@@ -1,8 +1,10 @@
 //! What comes of a content by either road.
+ghost use Rattle.inline_parser.specs.Scanned.{IsPlace};
+
 use crate::events::Read;
 use crate::rows;
 use crate::rows::push_check;
-use inline_content::whole_content;
+use inline_content::{Content, whole_content};
 use inline_labels::LabelTable;
 use inline_leaves::gfm_task_list_item::check_at;
 use inline_parser::{Room, content_start, inline_rows};
@@ -80,16 +82,16 @@ impl Roads {
         })
     }
 
-    /// A content by its rows, spelled. It may begin with a check.
-    pub fn by_rows(&self, rt: &HostRuntime, text: &str) -> Result<Vec<u8>, Fail> {
-        let mut out = Vec::new(rt.alloc());
-        let content = whole_content(text.len(), text);
-        let mut start = content_start(content);
-        let first = start.len() == text.len();
-        if let Some(check) = check_at(&self.options.constructs, first, start) {
-            push_check(&mut out, check.done)?;
-            start = check.after;
-        }
+    /// Adds the rows of a content from a place on, spelled.
+    fn push_from(
+        &self,
+        out: &mut Vec<u8>,
+        rt: &HostRuntime,
+        content: Content<'_>,
+        start: &str,
+    ) -> Result<(), Fail>
+        requires { IsPlace content.text.now start.now }
+    {
         let mut room = Room::new(rt.alloc())?;
         let found = inline_rows(
             &mut room,
@@ -100,7 +102,22 @@ impl Roads {
             content,
             start,
         )?;
-        rows::push_rows(&mut out, &found)?;
+        rows::push_rows(out, &found)
+    }
+
+    /// A content by its rows, spelled. It may begin with a check.
+    pub fn by_rows(&self, rt: &HostRuntime, text: &str) -> Result<Vec<u8>, Fail> {
+        let mut out = Vec::new(rt.alloc());
+        let content = whole_content(text.len(), text);
+        let start = content_start(content);
+        let first = start.len() == text.len();
+        match check_at(&self.options.constructs, first, start) {
+            None => self.push_from(&mut out, rt, content, start)?,
+            Some(check) => {
+                push_check(&mut out, check.done)?;
+                self.push_from(&mut out, rt, content, check.after)?;
+            }
+        }
         Ok(out)
     }
 
