@@ -23,7 +23,8 @@ const ITEMS: [(&str, &str); 40] = [
     ),
     (
         "1.  A paragraph\n    with two lines.\n\n        indented code\n\n    > A block quote.",
-        "<ol>\n<li>\n<p>A paragraph\nwith two lines.</p>\n<pre><code>indented code\n</code></pre>\n<blockquote>\n<p>A block quote.</p>\n</blockquote>\n</li>\n</ol>",
+        "<ol>\n<li>\n<p>A paragraph\nwith two lines.</p>\n<pre><code>indented code\n</code></pre>\n<blockquote>\n\
+         <p>A block quote.</p>\n</blockquote>\n</li>\n</ol>",
     ),
     ("- one\n\n two", "<ul>\n<li>one</li>\n</ul>\n<p>two</p>"),
     (
@@ -90,7 +91,8 @@ const ITEMS: [(&str, &str); 40] = [
     ("*", "<ul>\n<li></li>\n</ul>"),
     (
         "  1.  A paragraph\nwith two lines.\n\n          indented code\n\n      > A block quote.",
-        "<ol>\n<li>\n<p>A paragraph\nwith two lines.</p>\n<pre><code>indented code\n</code></pre>\n<blockquote>\n<p>A block quote.</p>\n</blockquote>\n</li>\n</ol>",
+        "<ol>\n<li>\n<p>A paragraph\nwith two lines.</p>\n<pre><code>indented code\n</code></pre>\n<blockquote>\n\
+         <p>A block quote.</p>\n</blockquote>\n</li>\n</ol>",
     ),
     (
         "> 1. > Blockquote\ncontinued here.",

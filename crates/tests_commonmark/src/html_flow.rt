@@ -72,7 +72,8 @@ const EXAMPLES: [(&str, &str); 44] = [
     ),
     (
         "<script type=\"text/javascript\">\n// JavaScript example\n\ndocument.getElementById(\"demo\").innerHTML = \"Hello JavaScript!\";\n</script>\nokay\n",
-        "<script type=\"text/javascript\">\n// JavaScript example\n\ndocument.getElementById(\"demo\").innerHTML = \"Hello JavaScript!\";\n</script>\n<p>okay</p>\n",
+        "<script type=\"text/javascript\">\n// JavaScript example\n\n\
+         document.getElementById(\"demo\").innerHTML = \"Hello JavaScript!\";\n</script>\n<p>okay</p>\n",
     ),
     (
         "<textarea>\n\n*foo*\n\n_bar_\n\n</textarea>\n",

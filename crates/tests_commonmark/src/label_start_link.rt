@@ -42,7 +42,8 @@ const EXAMPLES_FROM_482: [(&str, &str); 44] = [
     ("[link](foo\\)\\:)\n", "<p><a href=\"foo):\">link</a></p>\n"),
     (
         "[link](#fragment)\n\n[link](http://example.com#fragment)\n\n[link](http://example.com?foo=3#frag)\n",
-        "<p><a href=\"#fragment\">link</a></p>\n<p><a href=\"http://example.com#fragment\">link</a></p>\n<p><a href=\"http://example.com?foo=3#frag\">link</a></p>\n",
+        "<p><a href=\"#fragment\">link</a></p>\n<p><a href=\"http://example.com#fragment\">link</a></p>\n\
+         <p><a href=\"http://example.com?foo=3#frag\">link</a></p>\n",
     ),
     (
         "[link](foo\\bar)\n",

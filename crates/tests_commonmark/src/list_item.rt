@@ -9,7 +9,8 @@ const EXAMPLES_FROM_253: [(&str, &str); 44] = [
     ),
     (
         "1.  A paragraph\n    with two lines.\n\n        indented code\n\n    > A block quote.\n",
-        "<ol>\n<li>\n<p>A paragraph\nwith two lines.</p>\n<pre><code>indented code\n</code></pre>\n<blockquote>\n<p>A block quote.</p>\n</blockquote>\n</li>\n</ol>\n",
+        "<ol>\n<li>\n<p>A paragraph\nwith two lines.</p>\n<pre><code>indented code\n</code></pre>\n<blockquote>\n\
+         <p>A block quote.</p>\n</blockquote>\n</li>\n</ol>\n",
     ),
     ("- one\n\n two\n", "<ul>\n<li>one</li>\n</ul>\n<p>two</p>\n"),
     (
@@ -104,15 +105,18 @@ const EXAMPLES_FROM_253: [(&str, &str); 44] = [
     ("foo\n*\n\nfoo\n1.\n", "<p>foo\n*</p>\n<p>foo\n1.</p>\n"),
     (
         " 1.  A paragraph\n     with two lines.\n\n         indented code\n\n     > A block quote.\n",
-        "<ol>\n<li>\n<p>A paragraph\nwith two lines.</p>\n<pre><code>indented code\n</code></pre>\n<blockquote>\n<p>A block quote.</p>\n</blockquote>\n</li>\n</ol>\n",
+        "<ol>\n<li>\n<p>A paragraph\nwith two lines.</p>\n<pre><code>indented code\n</code></pre>\n<blockquote>\n\
+         <p>A block quote.</p>\n</blockquote>\n</li>\n</ol>\n",
     ),
     (
         "  1.  A paragraph\n      with two lines.\n\n          indented code\n\n      > A block quote.\n",
-        "<ol>\n<li>\n<p>A paragraph\nwith two lines.</p>\n<pre><code>indented code\n</code></pre>\n<blockquote>\n<p>A block quote.</p>\n</blockquote>\n</li>\n</ol>\n",
+        "<ol>\n<li>\n<p>A paragraph\nwith two lines.</p>\n<pre><code>indented code\n</code></pre>\n<blockquote>\n\
+         <p>A block quote.</p>\n</blockquote>\n</li>\n</ol>\n",
     ),
     (
         "   1.  A paragraph\n       with two lines.\n\n           indented code\n\n       > A block quote.\n",
-        "<ol>\n<li>\n<p>A paragraph\nwith two lines.</p>\n<pre><code>indented code\n</code></pre>\n<blockquote>\n<p>A block quote.</p>\n</blockquote>\n</li>\n</ol>\n",
+        "<ol>\n<li>\n<p>A paragraph\nwith two lines.</p>\n<pre><code>indented code\n</code></pre>\n<blockquote>\n\
+         <p>A block quote.</p>\n</blockquote>\n</li>\n</ol>\n",
     ),
     (
         "    1.  A paragraph\n        with two lines.\n\n            indented code\n\n        > A block quote.\n",
@@ -120,7 +124,8 @@ const EXAMPLES_FROM_253: [(&str, &str); 44] = [
     ),
     (
         "  1.  A paragraph\nwith two lines.\n\n          indented code\n\n      > A block quote.\n",
-        "<ol>\n<li>\n<p>A paragraph\nwith two lines.</p>\n<pre><code>indented code\n</code></pre>\n<blockquote>\n<p>A block quote.</p>\n</blockquote>\n</li>\n</ol>\n",
+        "<ol>\n<li>\n<p>A paragraph\nwith two lines.</p>\n<pre><code>indented code\n</code></pre>\n<blockquote>\n\
+         <p>A block quote.</p>\n</blockquote>\n</li>\n</ol>\n",
     ),
     (
         "  1.  A paragraph\n    with two lines.\n",

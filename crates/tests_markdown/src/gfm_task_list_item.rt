@@ -52,7 +52,8 @@ pub(crate) const TASKS: [(&str, &str); 42] = [
     ("- a [x] b", "<ul>\n<li>a [x] b</li>\n</ul>"),
     (
         "- [x] a\n\n- [ ] b",
-        "<ul>\n<li>\n<p><input type=\"checkbox\" disabled=\"\" checked=\"\" /> a</p>\n</li>\n<li>\n<p><input type=\"checkbox\" disabled=\"\" /> b</p>\n</li>\n</ul>",
+        "<ul>\n<li>\n<p><input type=\"checkbox\" disabled=\"\" checked=\"\" /> a</p>\n</li>\n<li>\n\
+         <p><input type=\"checkbox\" disabled=\"\" /> b</p>\n</li>\n</ul>",
     ),
     (
         "- [\t] a",
