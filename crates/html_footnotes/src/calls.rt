@@ -1,5 +1,6 @@
 //! The footnotes that are called, by their numbers.
-ghost use Rattle.std.specs.Prelude.{◌≡◌, ℕ, ◌+◌, ◌<◌, [], ◌∷◌, ◌++◌, map, slice_index_or, slice_set, string_bytes, vec_len, IfOk, OnErr, OnOk};
+ghost use Rattle.std.specs.Prelude.{◌≡◌, ℕ, ◌+◌, ◌<◌, [], ◌∷◌, ◌++◌, IfOk, OnErr, OnOk};
+ghost use Rattle.std.specs.Prelude.{map, slice_index_or, slice_set, string_bytes, vec_len};
 ghost use Rattle.definition_page.specs.Layout as layout;
 ghost use Rattle.definition_page.specs.Layout.{latest_call, note_of, once_more};
 ghost use Rattle.html_footnotes.specs.Calls.{called_once, called_view, number_of, IsRaised};

@@ -7,12 +7,12 @@ ghost use Rattle.std.specs.Prelude.{◌≡◌, ◌≤◌, IfSome, OnOk, length, 
 ghost use Rattle.std.specs.Str.{IsCharBoundary};
 ghost use Rattle.markdown_options.specs.LineEndings.{ending_bytes};
 ghost use Rattle.definition_page.specs.GfmFootnoteDefinition.{ended_size, ends_line, heading_name, paragraph_end};
-ghost use Rattle.definition_page.specs.Pieces.{is_fresh};
-ghost use Rattle.html_bytes.specs.GfmFootnoteDefinition.{back_html, back_tag, backs_html, count_html, footnote_pieces, footnotes_pieces, heading_html, heading_tag, listed_pieces, section_pieces, space_after};
-ghost use Rattle.html_bytes.specs.Pieces.{Fresh, print};
+ghost use Rattle.html_bytes.specs.GfmFootnoteDefinition.{back_html, back_tag, backs_html, count_html, footnote_pieces, footnotes_pieces};
+ghost use Rattle.html_bytes.specs.GfmFootnoteDefinition.{heading_html, heading_tag, listed_pieces, section_pieces, space_after};
 ghost use Rattle.html_escape.specs.Prints.{Prints};
 ghost use Rattle.html_footnotes.specs.Footnotes.{LaysOut, note_view, with_ways_back};
 
+use crate::fresh::push_fresh;
 use crate::ids::{push_call_id, push_footnote_id, text_or};
 use html_escape::{push_encoded, push_raw};
 use markdown_options::{CompileOptions, LineEnding};
@@ -267,24 +267,4 @@ fn push_count<A: Allocator>(out: &mut String<A>, count: usize) -> Result<(), All
         return Ok(());
     }
     write!(out, "<sup>{count}</sup>")
-}
-
-/// Asks for a fresh line.
-fn push_fresh<A: Allocator>(out: &mut String<A>, ending: LineEnding) -> Result<(), AllocError>
-    ensures { OnOk result (string_bytes out.new ≡ print (ending_bytes ending) (string_bytes out.old) Fresh) }
-{
-    if is_fresh(out.as_bytes()) {
-        return Ok(());
-    }
-    out.push_str(ending.as_str())
-}
-
-/// Whether nothing, CR or LF stands at the end.
-fn is_fresh(bytes: &[u8]) -> bool
-    ensures { result ≡ is_fresh bytes.now }
-{
-    match bytes.last() {
-        None => true,
-        Some(byte) => ends_line(*byte),
-    }
 }

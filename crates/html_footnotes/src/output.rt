@@ -60,7 +60,7 @@ impl<A: Allocator + Clone> Output<A> {
     }
 
     /// Starts the content of a footnote: what is printed from now on belongs to it.
-    pub fn start_note(&mut self) -> Result<(), AllocError>
+    pub fn start_footnote(&mut self) -> Result<(), AllocError>
         ensures { (options : CompileOptions) (default : List ℕ) → Lays options default result self.old self.new NoteStart }
     {
         let around = std::mem::replace(&mut self.html, String::new(self.alloc.clone()?));
@@ -69,7 +69,7 @@ impl<A: Allocator + Clone> Output<A> {
     }
 
     /// Ends the content of a footnote: the text around it goes on.
-    pub fn end_note(&mut self) -> Result<(), AllocError>
+    pub fn end_footnote(&mut self) -> Result<(), AllocError>
         ensures { (options : CompileOptions) (default : List ℕ) → Lays options default result self.old self.new NoteEnd }
     {
         if let Some(around) = self.outer.pop() {

@@ -15,7 +15,7 @@ use Rattle.html_page.specs.declared.level.Holder.{Holder}
 use Rattle.html_page.specs.declared.level.Holder.TheVariants as holder
 use Rattle.html_page.specs.declared.printer.Printer.{Printer}
 use Rattle.html_page.specs.Loose.{places_of}
-use Rattle.html_page.specs.Prints.{note_started, note_left}
+use Rattle.html_page.specs.Prints.{footnote_text_started, footnote_text_left}
 use Rattle.html_page.specs.Levels.{is_list, new_level, after_block, after_footnote, level_after, row_pieces}
 
 -- a page, the level that is open, the levels around it, and the places of the items to come
@@ -59,10 +59,10 @@ with_laid l p = printer_at l p.level p.outer p.places
 
 -- a footnote definition starts, in a text of its own, and ends
 abbrev pub enter_footnote : PrinterView → PrinterView
-enter_footnote p = within_at (after_footnote p.level) holder.Footnote false (with_laid (note_started p.out) p)
+enter_footnote p = within_at (after_footnote p.level) holder.Footnote false (with_laid (footnote_text_started p.out) p)
 
 abbrev pub leave_footnote : PrinterView → PrinterView
-leave_footnote p = outside (with_laid (note_left p.out) p)
+leave_footnote p = outside (with_laid (footnote_text_left p.out) p)
 
 module _ (default : List ℕ) where
   -- more pieces of text

@@ -22,11 +22,11 @@ abbrev pub with_fresh : List ℕ → Laid → Laid
 with_fresh default l = with_text l (print default l.text Fresh)
 
 -- where the content of a footnote starts, in a text of its own, and where it ends
-abbrev pub note_started : Laid → Laid
-note_started l = laid [] (l.text ∷ l.outer) l.notes l.called
+abbrev pub footnote_text_started : Laid → Laid
+footnote_text_started l = laid [] (l.text ∷ l.outer) l.notes l.called
 
-abbrev pub note_left : Laid → Laid
-note_left l = note_ended l.text l.outer l.notes l.called
+abbrev pub footnote_text_left : Laid → Laid
+footnote_text_left l = note_ended l.text l.outer l.notes l.called
 
 -- a page after more pieces
 abbrev pub layout_after : CompileOptions → LineEnding → Laid → List Piece → Laid

@@ -1,6 +1,6 @@
 //! Footnote definitions, whose blocks are printed at the page's end (in neither standard).
 ghost use Rattle.std.specs.Prelude.{◌≡◌, OnOk};
-ghost use Rattle.html_page.specs.Prints.{page_view, note_started, note_left};
+ghost use Rattle.html_page.specs.Prints.{page_view, footnote_text_started, footnote_text_left};
 ghost use Rattle.html_page.specs.PrinterView.{enter_footnote, leave_footnote, printer_view};
 
 use crate::level::Holder;
@@ -11,19 +11,19 @@ use std::alloc::{AllocError, Allocator};
 
 impl<A: Allocator + Clone> Page<A> {
     /// The content of a footnote starts.
-    fn start_note(&mut self) -> Result<(), AllocError>
+    fn start_footnote(&mut self) -> Result<(), AllocError>
         ensures default { self.new.default_ending ≡ self.old.default_ending }
-        ensures printed { OnOk result (page_view self.new ≡ note_started (page_view self.old)) }
+        ensures printed { OnOk result (page_view self.new ≡ footnote_text_started (page_view self.old)) }
     {
-        self.out.start_note()
+        self.out.start_footnote()
     }
 
     /// The content of a footnote ends.
-    fn end_note(&mut self) -> Result<(), AllocError>
+    fn end_footnote(&mut self) -> Result<(), AllocError>
         ensures default { self.new.default_ending ≡ self.old.default_ending }
-        ensures printed { OnOk result (page_view self.new ≡ note_left (page_view self.old)) }
+        ensures printed { OnOk result (page_view self.new ≡ footnote_text_left (page_view self.old)) }
     {
-        self.out.end_note()
+        self.out.end_footnote()
     }
 }
 
@@ -34,7 +34,7 @@ impl<A: Allocator + Clone> Printer<A> {
         ensures printed { OnOk result (printer_view self.new ≡ enter_footnote (printer_view self.old)) }
     {
         let around = self.level.after(Row::EnterFootnote);
-        self.page.start_note()?;
+        self.page.start_footnote()?;
         self.enter_at(around, Holder::Footnote, false)
     }
 
@@ -43,7 +43,7 @@ impl<A: Allocator + Clone> Printer<A> {
         ensures default { self.new.page.default_ending ≡ self.old.page.default_ending }
         ensures printed { OnOk result (printer_view self.new ≡ leave_footnote (printer_view self.old)) }
     {
-        self.page.end_note()?;
+        self.page.end_footnote()?;
         self.leave();
         Ok(())
     }

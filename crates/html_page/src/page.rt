@@ -4,7 +4,6 @@ ghost use Rattle.markdown_options.specs.LineEndings.{ending_bytes};
 ghost use Rattle.definition_text.specs.Lines.{ending_text};
 ghost use Rattle.definition_page.specs.Targets.{Targets};
 ghost use Rattle.definition_block.specs.Tree.{Paragraph, Break};
-ghost use Rattle.definition_page.specs.Pieces.{is_fresh};
 ghost use Rattle.block_rows.specs.Rows.{row_size, piece_lines, row_value};
 ghost use Rattle.html_contents.specs.Texts.{KnowsTargets, document_by};
 ghost use Rattle.html_page.specs.Levels.{row_pieces};
@@ -13,7 +12,7 @@ ghost use Rattle.html_page.specs.Printable.{IsPrintableRow};
 use crate::level::Level;
 use block_rows::{Piece, Row, push_ending};
 use html_contents::{TextBuffers, Texts};
-use html_footnotes::Output;
+use html_footnotes::{Output, push_fresh};
 use markdown_options::{LineEnding, Tables};
 use std::alloc::{AllocError, Allocator};
 
@@ -91,10 +90,7 @@ impl<A: Allocator + Clone> Page<A> {
         ensures default { self.new.default_ending ≡ self.old.default_ending }
         ensures printed { OnOk result (page_view self.new ≡ with_fresh (ending_bytes self.old.default_ending) (page_view self.old)) }
     {
-        if is_fresh(self.out.html.as_bytes()) {
-            return Ok(());
-        }
-        self.eol()
+        push_fresh(&mut self.out.html, self.default_ending)
     }
 
     /// Prints the default ending.
@@ -111,15 +107,5 @@ impl<A: Allocator + Clone> Page<A> {
         ensures printed { OnOk result (Prints self.old self.new text.now) }
     {
         self.out.html.push_str(text)
-    }
-}
-
-/// Whether nothing, CR or LF stands at the end.
-fn is_fresh(bytes: &[u8]) -> bool
-    ensures { result ≡ is_fresh bytes.now }
-{
-    match bytes.last() {
-        None => true,
-        Some(byte) => *byte == b'\n' || *byte == b'\r',
     }
 }
