@@ -1,7 +1,6 @@
 -- From the mask of one load to the bytes of a set.
-use Rattle.std.proofs.Common.{◌≡◌, ℕ, ◌+◌, ◌*◌, ◌/◌, ◌%◌, ◌^◌, ◌<◌, Bool, true, false, not, ◌||◌, eqb, cond, List, [], ◌∷◌, ◌++◌, map, length, get_or, replicate, bit_and, bit_or, w8, Fits, refl, sym, ap, ◌∙◌, arith}
+use Rattle.std.proofs.Common.{◌≡◌, ℕ, ◌+◌, ◌*◌, ◌/◌, ◌%◌, ◌^◌, ◌<◌, Bool, true, false, not, ◌||◌, eqb, cond, List, [], ◌∷◌, map, length, get_or, replicate, bit_and, bit_or, w8, Fits, refl, sym, ap, ◌∙◌, arith}
 use Rattle.std.proofs.lemmas.List.{get_or-map, length-map, ext_get_or}
-use Rattle.std.proofs.Math.ListN.{get_or-append}
 use Rattle.std.proofs.lemmas.Nat.{and_mask}
 use borrow.Rule.Simd.Lanes.{act2}
 use mir.Syntax.{shr, unsigned}
@@ -117,9 +116,3 @@ looked_up_by_upper t v long fits =
     let place : 16 * ((0 + i) / 16) + get_or (upper_halves v) i 0 ≡ get_or v i 0 / 16 = omega (arith, is) in
     get_or-swz_l_below w8 16 t 0 (upper_halves v) i (omega (arith, size)) (omega (arith, is, low))
     ∙ ap (λ k. get_or t k 0) place ∙ sym (get_or-map (λ x. get_or t (x / 16) 0) v i 0 0 within))
-
--- a byte of a copy with more bytes after it
-pub in_front : (p : ℕ → Bool) (copy tail bytes : List ℕ) (at k : ℕ) (is : Bool) → copy ≡ bytes → at ≡ k → k < length bytes → p (get_or (copy ++ tail) at 0) ≡ is → p (get_or bytes k 0) ≡ is
-in_front p copy tail bytes at k is same here within h =
-    let size = ap length same in
-    sym (ap p (ap (λ n. get_or (copy ++ tail) n 0) here ∙ get_or-append copy tail 0 k (omega (arith, size, within)) ∙ ap (λ l. get_or l k 0) same)) ∙ h

@@ -34,14 +34,15 @@ pub fn run_of(bytes: &[u8], class: ByteClass) -> usize
     last + run_in(bytes, last, class)
 }
 
-/// The same in fewer bytes than are looked at together.
+/// The same in few bytes, looked at one by one.
 fn run_in_few(bytes: &[u8], class: ByteClass) -> usize
-    requires { length bytes.now < LANES }
     ensures { result ≡ position_or_len (is_outside class) bytes.now }
 {
-    let mut block = [0; LANES];
-    block[..bytes.len()].copy_from_slice(bytes);
-    run_in(&block, 0, class).min(bytes.len())
+    let mut at = 0;
+    while at < bytes.len() && !is_outside(class, bytes[at]) {
+        at += 1;
+    }
+    at
 }
 
 /// How many of the 16 bytes from a place are of a class, from the first.

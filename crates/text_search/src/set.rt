@@ -36,14 +36,15 @@ pub fn next_of(bytes: &[u8], set: ByteSet) -> usize
     last + run_in(bytes, last, set)
 }
 
-/// The same in fewer bytes than are looked at together.
+/// The same in few bytes, looked at one by one.
 fn next_in_few(bytes: &[u8], set: ByteSet) -> usize
-    requires { length bytes.now < LANES }
     ensures { result ≡ position_or_len (holds set) bytes.now }
 {
-    let mut block = [0; LANES];
-    block[..bytes.len()].copy_from_slice(bytes);
-    run_in(&block, 0, set).min(bytes.len())
+    let mut at = 0;
+    while at < bytes.len() && !holds(set, bytes[at]) {
+        at += 1;
+    }
+    at
 }
 
 /// How many of the 16 bytes from a place come before the first one of a set.

@@ -1,15 +1,12 @@
-use Rattle.std.proofs.Common.{◌+◌, sym, arith}
+use Rattle.std.proofs.Common.{sym, arith}
 use Rattle.std.proofs.lemmas.List.Sums.{position_or_len_is}
 use Rattle.text_search.specs.Classes.{is_outside}
-use Rattle.text_search.proofs.Lanes.{in_front}
 use Rattle.text_search.proofs.class.run_in_few.Goals as goal
 
-pub returns : goal.returns
-returns c =
-    let bytes = c.args.bytes.now in
-    let run = c.run_in.ensures in
-    let copied = c.copy_from_slice.ensures.after in
-    let least = c.min.ensures in
-    sym (position_or_len_is (is_outside c.args.class) bytes c.min.result 0 (omega (arith, least))
-    (λ k below. in_front (is_outside c.args.class) _ _ bytes k k _ copied (omega arith) (omega (arith, least, below)) (run.passed k (omega arith) (omega (arith, least, below))))
-    (λ inside. in_front (is_outside c.args.class) _ _ bytes (0 + c.run_in.result) c.min.result _ copied (omega (arith, least, inside)) inside (run.hit (omega (arith, least, inside, c.requires)))))
+pub returns-else-not-is_outside : goal.returns-else-not-is_outside
+returns-else-not-is_outside c =
+    sym (position_or_len_is (is_outside c.args.class) c.args.bytes.now c.loop-at.at 0 c.loop-at.invariant.0 c.loop-at.invariant.1 (λ inside. sym c.if-not-is_outside.ensures))
+
+pub returns-after-loop-at : goal.returns-after-loop-at
+returns-after-loop-at c =
+    sym (position_or_len_is (is_outside c.args.class) c.args.bytes.now c.loop-at.at 0 c.loop-at.invariant.0 c.loop-at.invariant.1 (λ inside. absurd (omega (arith, c.loop-at-test.false, inside))))
