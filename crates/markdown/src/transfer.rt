@@ -51,9 +51,9 @@ const CHUNK: usize = 65536;
 
 /// Reads a text to its end, and writes its HTML by these tables.
 ///
-/// The options turn on only constructs that are built, which `ParseOptions::built` tests, and
-/// neither the reader nor the writer has failed. The text is at most `usize::MAX / 8` bytes of
-/// UTF-8. Nothing is written before the whole page is there; the writer isn't flushed.
+/// The options turn on no construct of MDX, which `Options::has_mdx` tests, and neither the reader
+/// nor the writer has failed. The text is at most `usize::MAX / 8` bytes of UTF-8. Nothing is
+/// written before the whole page is there; the writer isn't flushed.
 pub fn run<A: Allocator + Clone, R: Read, W: Write, T: Tables>(
     alloc: A,
     reader: &mut Watched<R>,
