@@ -33,7 +33,13 @@ enum {
     /* www.a.b, https://a.b and a@b.c are links. */
     MARKDOWN_AUTOLINK_LITERALS = 128,
     /* [^a] calls the footnote that [^a]: b defines; footnotes that are called stand at the page's end. */
-    MARKDOWN_FOOTNOTES = 256
+    MARKDOWN_FOOTNOTES = 256,
+    /* Where HTML is printed as it is, < before the names title, textarea, style, xmp, iframe, noembed, noframes, script and
+     * plaintext is printed as text. */
+    MARKDOWN_TAGFILTER = 512,
+    /* What GitHub does: the flags above that are its own, added up. */
+    MARKDOWN_GFM = MARKDOWN_STRIKETHROUGH + MARKDOWN_TASK_LIST_ITEMS + MARKDOWN_TABLES + MARKDOWN_AUTOLINK_LITERALS
+        + MARKDOWN_FOOTNOTES + MARKDOWN_TAGFILTER
 };
 
 /* What a call answers. */

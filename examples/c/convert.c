@@ -1,8 +1,30 @@
-/* Reads Markdown from standard input, and writes its HTML to standard output. */
+/* Reads Markdown from standard input, and writes its HTML to standard output.
+ *
+ *     convert [--gfm] [--dangerous] [--plain] [--math] [--frontmatter] */
 #include <stdio.h>
 #include <string.h>
 
 #include "markdown.h"
+
+static const struct {
+    const char *word;
+    uint32_t flags;
+} WORDS[] = {
+    {"--gfm", MARKDOWN_GFM},
+    {"--dangerous", MARKDOWN_DANGEROUS},
+    {"--plain", MARKDOWN_PLAIN},
+    {"--math", MARKDOWN_MATH},
+    {"--frontmatter", MARKDOWN_FRONTMATTER},
+};
+
+/* The flags of a word, or 0 for one that isn't known. */
+static uint32_t flags_of(const char *word)
+{
+    for (size_t i = 0; i < sizeof WORDS / sizeof *WORDS; i++)
+        if (strcmp(word, WORDS[i].word) == 0)
+            return WORDS[i].flags;
+    return 0;
+}
 
 /* What a status says, as the program's faults do. */
 static const char *fault(uint32_t status)
@@ -39,7 +61,14 @@ static unsigned char *read_all(FILE *input, size_t *length)
 
 int main(int count, char **words)
 {
-    uint32_t flags = count == 2 && strcmp(words[1], "--dangerous") == 0 ? MARKDOWN_DANGEROUS : 0;
+    uint32_t flags = 0;
+    for (int i = 1; i < count; i++) {
+        if (flags_of(words[i]) == 0) {
+            fputs("convert: wrong command line\n", stderr);
+            return 2;
+        }
+        flags |= flags_of(words[i]);
+    }
     size_t text_length, length, room = 0;
     unsigned char *text = read_all(stdin, &text_length), *page = NULL;
     if (text == NULL) {

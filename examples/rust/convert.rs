@@ -10,6 +10,7 @@ fn main() -> Result<(), Box<dyn Error>> {
     let mut flags = Flags::default();
     for word in std::env::args().skip(1) {
         match word.as_str() {
+            "--gfm" => flags = flags.with_gfm(),
             "--dangerous" => flags.dangerous = true,
             "--plain" => flags.plain = true,
             "--strikethrough" => flags.strikethrough = true,
@@ -19,6 +20,7 @@ fn main() -> Result<(), Box<dyn Error>> {
             "--tables" => flags.tables = true,
             "--autolink-literals" => flags.autolink_literals = true,
             "--footnotes" => flags.footnotes = true,
+            "--tagfilter" => flags.tagfilter = true,
             _ => return Err(format!("an unknown word: {word}").into()),
         }
     }

@@ -18,6 +18,7 @@ mod calls {
     pub const TABLES: u32 = 64;
     pub const AUTOLINK_LITERALS: u32 = 128;
     pub const FOOTNOTES: u32 = 256;
+    pub const TAGFILTER: u32 = 512;
 
     #[link(name = "markdown", kind = "static")]
     extern "C" {
@@ -53,9 +54,24 @@ pub struct Flags {
     pub autolink_literals: bool,
     /// `[^a]` calls the footnote that `[^a]: b` defines.
     pub footnotes: bool,
+    /// Where HTML is printed as it is, `<` before nine names is printed as text.
+    pub tagfilter: bool,
 }
 
 impl Flags {
+    /// These flags, and those for what GitHub does.
+    pub fn with_gfm(self) -> Flags {
+        Flags {
+            strikethrough: true,
+            task_list_items: true,
+            tables: true,
+            autolink_literals: true,
+            footnotes: true,
+            tagfilter: true,
+            ..self
+        }
+    }
+
     fn sum(self) -> u32 {
         [
             (self.dangerous, calls::DANGEROUS),
@@ -67,6 +83,7 @@ impl Flags {
             (self.tables, calls::TABLES),
             (self.autolink_literals, calls::AUTOLINK_LITERALS),
             (self.footnotes, calls::FOOTNOTES),
+            (self.tagfilter, calls::TAGFILTER),
         ]
         .into_iter()
         .filter_map(|(asked, flag)| asked.then_some(flag))

@@ -24,13 +24,17 @@ flagged_constructs flags =
       frontmatter = has_flag 16 flags;
     }
 
--- the options of a sum of flags; 1: HTML and every protocol are allowed
+-- the options of a sum of flags; 1: HTML and every protocol are allowed; 512: `<` before nine names is text in that HTML
 abbrev pub flagged_options : ℕ → Options
 flagged_options flags = record default_options {
   parse = record default_parse_options { constructs = flagged_constructs flags };
-  compile = record default_compile_options { allow_dangerous_html = has_flag 1 flags; allow_dangerous_protocol = has_flag 1 flags };
+  compile = record default_compile_options {
+    allow_dangerous_html = has_flag 1 flags;
+    allow_dangerous_protocol = has_flag 1 flags;
+    gfm_tagfilter = has_flag 512 flags;
+  };
 }
 
 -- none where there are other flags
 abbrev pub options_of : ℕ → Option Options
-options_of flags = if nat_lt flags 512 then Some (flagged_options flags) else None
+options_of flags = if nat_lt flags 1024 then Some (flagged_options flags) else None

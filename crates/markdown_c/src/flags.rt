@@ -32,6 +32,9 @@ const AUTOLINK_LITERALS: u32 = 128;
 /// `[^a]` calls the footnote that `[^a]: b` defines.
 const FOOTNOTES: u32 = 256;
 
+/// Where HTML of the text is printed as it is, `<` before nine names is text (GFM 6.11).
+const TAGFILTER: u32 = 512;
+
 /// All flags together.
 const ALL: u32 = DANGEROUS
     + PLAIN
@@ -41,7 +44,8 @@ const ALL: u32 = DANGEROUS
     + TASK_LIST_ITEMS
     + TABLES
     + AUTOLINK_LITERALS
-    + FOOTNOTES;
+    + FOOTNOTES
+    + TAGFILTER;
 
 /// The options that a sum of flags asks for, if it has no others.
 pub(crate) fn options_of(flags: u32) -> Option<Options>
@@ -97,6 +101,7 @@ fn flagged_options(flags: u32) -> Options
         compile: CompileOptions {
             allow_dangerous_html: has_flag(DANGEROUS, flags),
             allow_dangerous_protocol: has_flag(DANGEROUS, flags),
+            gfm_tagfilter: has_flag(TAGFILTER, flags),
             ..CompileOptions::default()
         },
     }
