@@ -1,1 +1,2 @@
 pub mod TextSees
+pub mod TextShows

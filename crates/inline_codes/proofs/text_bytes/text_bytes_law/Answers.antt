@@ -1,0 +1,5 @@
+use Rattle.inline_codes.proofs.TextShows.{text_bytes}
+use Rattle.inline_codes.proofs.text_bytes.text_bytes_law.Goals as goal
+
+pub returns : goal.returns
+returns c = text_bytes
