@@ -9,3 +9,8 @@ pub mod RawStates
 pub mod RawReads
 pub mod SpanReads
 pub mod CodeReads
+pub mod Standing
+pub mod NamesSeen
+pub mod ReferenceStates
+pub mod ReferenceValues
+pub mod ReferenceReads

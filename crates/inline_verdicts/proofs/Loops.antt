@@ -1,5 +1,6 @@
 -- States that go on over a stretch of bytes.
-use Rattle.std.proofs.Common.{◌≡◌, ◌∙◌, ℕ, ◌+◌, Bool, true, false, List, Option, Some, None, refl, ap, subst, arith}
+use Rattle.std.proofs.Common.{◌≡◌, ◌∙◌, ℕ, ◌+◌, ◌<◌, ◌≤◌, ◌⊎◌, Bool, true, false, List, Option, Some, None, inl, inr, refl, ap, subst, arith}
+use Rattle.std.proofs.lemmas.Bool.{cases_lt}
 use Rattle.engine_events.specs.declared.place.Point.{Point}
 use Rattle.engine_events.specs.declared.state.Name.{Name}
 use Rattle.engine_events.specs.declared.state.State.TheVariants as states
@@ -82,3 +83,35 @@ module _ {T : Type 0} (texts : List ℕ → Option (List ℕ)) (is_punctuation :
           at = f.at;
           back = λ d w r. goes_to name name c (go c) d w (does j b c h here k) (f.back d w r);
         }
+
+  -- where a state stands once it went over a stretch, or over so many bytes of it as it takes
+  pub record Capped (name : Name) (is : ℕ → Bool) (most : ℕ) (holds : ℕ → Config Inlines → Type 0) (c : Config Inlines) (total : ℕ) (q : Point) : Type 0 where
+    pub config : Config Inlines
+    pub count : ℕ
+    pub place : Point
+    pub held : holds count config
+    pub at : At text config place
+    pub back : (d : Config Inlines) (w : Bool) → Reads texts is_punctuation x text config (states.Retry name) d w → Reads texts is_punctuation x text c (states.Retry name) d w
+    pub ends : ((total ≤ most) × (count ≡ total) × (place ≡ q)) ⊎ ((most < total) × (count ≡ most) × (has is config.current ≡ true))
+
+  module _ (name : Name) (is : ℕ → Bool) (most : ℕ) (go : Config Inlines → Config Inlines) (holds : ℕ → Config Inlines → Type 0)
+      (does : (n b : ℕ) (c : Config Inlines) → holds n c → n < most → c.current ≡ Some b → is b ≡ true → run (bodies texts is_punctuation x name) c ≡ plain (go c) (states.Next name))
+      (keeps : (n b : ℕ) (c : Config Inlines) → holds n c → n < most → c.current ≡ Some b → is b ≡ true → holds (n + 1) (feed text (go c)))
+      (passes : (c : Config Inlines) → (go c).point ≡ c.next) where
+    pub over_capped : {k : ℕ} {q r : Point} → Stretch text is k q r → (j : ℕ) (c : Config Inlines) → holds j c → At text c q → j ≤ most → Capped name is most holds c (j + k) r
+    over_capped {q = q} (ended stop) j c h at low = record { config = c; count = j; place = q; held = h; at = at; back = λ d w r. r; ends = inl (omega (arith, low), omega arith, refl) }
+    over_capped {r = end} (longer {n = n} {b = b} {p = p} {q = q} e k rest) j c h at low = elim (cases_lt j most) [
+      | inl less ↦
+          let here = byte_at at e in
+          let f = over_capped rest (j + 1) (feed text (go c)) (keeps j b c h less here k) (fed text (go c) q (passes c ∙ at.next (as_byte b q) e)) (omega (arith, less)) in
+          record {
+            config = f.config;
+            count = f.count;
+            place = f.place;
+            held = f.held;
+            at = f.at;
+            back = λ d w r. goes_to name name c (go c) d w (does j b c h less here k) (f.back d w r);
+            ends = subst (λ (i : ℕ). ((i ≤ most) × (f.count ≡ i) × (f.place ≡ end)) ⊎ ((most < i) × (f.count ≡ most) × (has is f.config.current ≡ true))) (let s : j + 1 + n ≡ j + (n + 1) = omega arith in s) f.ends;
+          }
+      | inr full ↦ record { config = c; count = j; place = p; held = h; at = at; back = λ d w r. r; ends = inr (omega (arith, full), omega (arith, full, low), ap (has is) (byte_at at e) ∙ k) }
+    ]

@@ -35,6 +35,7 @@ use Rattle.inline_verdicts.proofs.Loops.{At, Over, byte_at, end_at, fed, goes_to
 use Rattle.inline_verdicts.proofs.RawStates
 use Rattle.inline_verdicts.proofs.Runs.{at_run, past_other, past_others, past_run, run_within}
 use Rattle.inline_verdicts.proofs.Seen.{seen_feed}
+use Rattle.inline_verdicts.proofs.Standing
 use Rattle.inline_verdicts.proofs.Stretches.{Run, eol_differs, filled, part_seen, run_seen, seen_as_itself, sight}
 use Rattle.inline_verdicts.proofs.Turns.{on_retry}
 
@@ -44,11 +45,8 @@ stop_sort m v k e h = subst (λ (n : ℕ). has (λ b. b == n) v ≡ false) (sym 
 
 module _ {T : Type 0} (texts : List ℕ → Option (List ℕ)) (is_punctuation : ℕ → Bool) (x : Context T) (text : Text) (given : SpanNames) (m n : ℕ) (c0 : Config Inlines) where
   -- these events stand, and this is kept
-  pub record Here (es : List Event) (k : Kept) (c : Config Inlines) : Type 0 where
-    pub events : c.events ≡ es
-    pub kept : c.tokenize_state ≡ k
-    pub map : c.map ≡ c0.map
-    pub resolvers : c.resolvers ≡ c0.resolvers
+  abbrev pub Here : List Event → Kept → Config Inlines → Type 0
+  Here es k c = Standing.Here text c0 es k c
 
   -- what is kept in a span whose further run has this size
   abbrev pub inside : ℕ → Kept
@@ -87,32 +85,19 @@ module _ {T : Type 0} (texts : List ℕ → Option (List ℕ)) (is_punctuation :
   }
 
   pub enters : {es : List Event} {k : Kept} {c : Config Inlines} {q : Point} (name goal : EventName) → name ≡ goal → Here es k c → At text c q → Here (es ++ event Enter goal (text.start q) None ∷ []) k (with_enter name None c)
-  enters {es} {k} {c} {q} name goal e h at = record {
-    events = ap (λ (z : EventName). c.events ++ event Enter z c.point None ∷ []) e ∙ (ap (λ (p : Point). c.events ++ event Enter goal p None ∷ []) at.point ∙ ap (λ (l : List Event). l ++ event Enter goal (text.start q) None ∷ []) h.events);
-    kept = h.kept;
-    map = h.map;
-    resolvers = h.resolvers;
-  }
+  enters {es} {k} {c} {q} name goal e h at = subst (λ (z : EventName). Here (es ++ event Enter goal (text.start q) None ∷ []) k (with_enter z None c)) (sym e) (Standing.enters text c0 goal h at.point)
 
   pub exits : {es : List Event} {k : Kept} {c : Config Inlines} {q : Point} (name goal : EventName) → name ≡ goal → Here es k c → is_feed c.previous ≡ false → At text c q
       → Here (es ++ event Exit goal (text.start q) None ∷ []) k (with_exit name c)
-  exits {es} {k} {c} {q} name goal e h apart at = record {
-    events =
-        ap (λ (z : EventName). c.events ++ event Exit z (if is_feed c.previous then c.line_start else c.point) None ∷ []) e
-        ∙ (ap (λ (b : Bool). c.events ++ event Exit goal (if b then c.line_start else c.point) None ∷ []) apart
-        ∙ (ap (λ (p : Point). c.events ++ event Exit goal p None ∷ []) at.point ∙ ap (λ (l : List Event). l ++ event Exit goal (text.start q) None ∷ []) h.events));
-    kept = h.kept;
-    map = h.map;
-    resolvers = h.resolvers;
-  }
+  exits {es} {k} {c} {q} name goal e h apart at = subst (λ (z : EventName). Here (es ++ event Exit goal (text.start q) None ∷ []) k (with_exit z c)) (sym e) (Standing.exits text c0 goal h apart at.point)
 
   -- over a byte
   pub fed_here : {es : List Event} {k : Kept} {c : Config Inlines} → Here es k c → Here es k (feed text (past_byte c))
-  fed_here h = record { events = h.events; kept = h.kept; map = h.map; resolvers = h.resolvers }
+  fed_here h = Standing.fed_here text c0 (Standing.past_here text c0 h)
 
   -- the same with something else kept
   pub keeping_here : {es : List Event} {k : Kept} {c : Config Inlines} (f : Kept → Kept) (goal : Kept) → f k ≡ goal → Here es k c → Here es goal (record c { tokenize_state = f c.tokenize_state })
-  keeping_here f goal e h = record { events = h.events; kept = ap f h.kept ∙ e; map = h.map; resolvers = h.resolvers }
+  keeping_here f goal e h = Standing.keeping_here text c0 f goal e h
 
   -- in a piece, reading isn't right after a line ending
   abbrev pub Within : List Event → Kept → Config Inlines → Type 0

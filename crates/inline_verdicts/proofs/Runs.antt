@@ -53,7 +53,7 @@ pub record IsRest (cs found : List ℕ) : Type 0 where
   pub few : count ≤ length cs
   pub is : found ≡ drop count cs
 
-one_further : (c : ℕ) (cs found : List ℕ) → IsRest cs found → IsRest (c ∷ cs) found
+pub one_further : (c : ℕ) (cs found : List ℕ) → IsRest cs found → IsRest (c ∷ cs) found
 one_further c cs found r = record { count = suc r.count; few = (let f = r.few in omega (arith, f)); is = r.is }
 
 found_by : (c : ℕ) (cs found : List ℕ) (is : Bool) (other : Option (List ℕ)) → (if is then Some (c ∷ cs) else other) ≡ Some found → (other ≡ Some found → IsRest cs found) → IsRest (c ∷ cs) found

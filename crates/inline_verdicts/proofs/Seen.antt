@@ -31,3 +31,14 @@ seen_feed c = feed_by c (is_eol c) refl
 pub no_feed : (b : ℕ) (is : Bool) → (b == 10) ≡ is → is_ascii_punctuation b ≡ true → is ≡ false
 no_feed b true h k = absurd (let f : is_ascii_punctuation 10 ≡ true = ap is_ascii_punctuation (sym (eqb-true b 10 h)) ∙ k in let g : false ≡ true = f in cc)
 no_feed b false h k = refl
+
+-- a sort without line endings has a byte exactly if it has the code
+sort_by : (is : ℕ → Bool) (c : ℕ) (b : Bool) → is 10 ≡ false → is 13 ≡ false → is 257 ≡ false → is_eol c ≡ b → is (if b then 10 else c) ≡ is c
+sort_by is c true feed back both h = elim (or_cases ((c == 10) || (c == 13)) (c == 257) h) [
+  | inl l ↦ elim (or_cases (c == 10) (c == 13) l) [ inl e ↦ ap is (sym (eqb-true c 10 e)) | inr e ↦ feed ∙ sym (ap is (eqb-true c 13 e) ∙ back) ]
+  | inr e ↦ feed ∙ sym (ap is (eqb-true c 257 e) ∙ both)
+]
+sort_by is c false feed back both h = refl
+
+pub seen_sort : (is : ℕ → Bool) → is 10 ≡ false → is 13 ≡ false → is 257 ≡ false → (c : ℕ) → is (seen c) ≡ is c
+seen_sort is feed back both c = sort_by is c (is_eol c) feed back both refl

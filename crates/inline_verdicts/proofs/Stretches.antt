@@ -13,7 +13,7 @@ use Rattle.inline_verdicts.specs.Stretch.{Stretch, ended, longer}
 drop_next : (k c : ℕ) (cs : List ℕ) → drop (1 + k) (c ∷ cs) ≡ drop k cs
 drop_next k c cs = ap (λ (n : ℕ). drop n (c ∷ cs)) (let e : 1 + k ≡ suc k = omega arith in e)
 
-prefix_by : (p : ℕ → Bool) (c : ℕ) (cs : List ℕ) (is : Bool) → p c ≡ is → prefix_len p (c ∷ cs) ≡ (if is then 1 + prefix_len p cs else 0)
+pub prefix_by : (p : ℕ → Bool) (c : ℕ) (cs : List ℕ) (is : Bool) → p c ≡ is → prefix_len p (c ∷ cs) ≡ (if is then 1 + prefix_len p cs else 0)
 prefix_by p c cs is h = ap (λ (b : Bool). if b then 1 + prefix_len p cs else 0) h
 
 -- the rest after a prefix

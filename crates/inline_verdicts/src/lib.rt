@@ -2,6 +2,7 @@
 #![tactic(auto)]
 
 pub mod character_escape;
+pub mod character_reference;
 pub mod code_text;
 pub mod hard_break_escape;
 pub mod math_text;

@@ -1,0 +1,78 @@
+-- What the states of a character reference come to (CommonMark 2.5).
+--
+--     character_reference ::= '&' (name | numeric) ';'
+--     name ::= 1*31(letter | digit), one that the tables have
+--     numeric ::= '#' (1*7digit | ('x' | 'X') 1*6hexadecimal_digit)
+use Rattle.std.specs.Prelude.{◌≡◌, ℕ, ◌<◌, ◌≤◌, Bool, true, false, ◌==◌, ◌||◌, List, [], ◌∷◌, ◌++◌, drop, Option, None, Some}
+use Rattle.std.specs.Char.{is_ascii_alphanumeric, is_ascii_digit, is_ascii_hexdigit}
+use Rattle.definition_inline.specs.CharacterReference.{reference_at}
+use Rattle.definition_inline.specs.Inline.{Leaf}
+use Rattle.engine_events.specs.Events.{event}
+use Rattle.engine_events.specs.declared.event.Event.{Event}
+use Rattle.engine_events.specs.declared.event.Kind.TheVariants.{Enter, Exit}
+use Rattle.engine_events.specs.declared.event.Name.TheVariants as names
+use Rattle.engine_events.specs.declared.place.Point.{Point}
+use Rattle.engine_events.specs.declared.state.Inline.TheVariants as inline_states
+use Rattle.engine_events.specs.declared.state.State.{State}
+use Rattle.markdown_engine.specs.Context.{Context}
+use Rattle.markdown_engine.specs.Kept.{Kept}
+use Rattle.markdown_engine.specs.Reading.{Config, with_byte}
+use Rattle.markdown_engine.specs.VirtualText.{Text, as_byte}
+use Rattle.inline_states_table.specs.Words.{retry}
+use Rattle.inline_states.specs.declared.inlines.Inlines.{Inlines}
+use Rattle.inline_codes.specs.Codes.{Sees}
+use Rattle.inline_codes.specs.TextBytes.{Shows}
+use Rattle.inline_verdicts.specs.RawText.{piece}
+use Rattle.inline_verdicts.specs.Stretch.{Stretch}
+use Rattle.inline_verdicts.specs.Verdicts.{Leaves, Reads}
+
+-- the events of a reference: its `&` is from p to q, and these events follow; its value is between the next two places, and its `;` goes on to the end
+abbrev pub reference_events : Point → Point → List Event → Point → Point → Point → List Event
+reference_events p q kind from to end =
+    event Enter names.CharacterReference p None ∷ piece names.CharacterReferenceMarker p q (kind
+    ++ piece names.CharacterReferenceValue from to (piece names.CharacterReferenceMarkerSemi to end (event Exit names.CharacterReference end None ∷ [])))
+
+-- the events of what tells that a value is a number, and that it is hexadecimal
+abbrev pub numeric_events : Point → Point → List Event
+numeric_events p q = piece names.CharacterReferenceMarkerNumeric p q []
+
+abbrev pub hexadecimal_events : Point → Point → Point → Point → List Event
+hexadecimal_events p q r s = piece names.CharacterReferenceMarkerNumeric p q (piece names.CharacterReferenceMarkerHexadecimal r s [])
+
+-- so many bytes of a sort, one at least and at most so many, and then a `;` from a place to another
+pub record IsValue (text : Text) (is : ℕ → Bool) (most size : ℕ) (from to end : Point) : Type 0 where
+  pub some : 0 < size
+  pub few : size ≤ most
+  pub value : Stretch text is size from to
+  pub semicolon : text.byte (text.start to) ≡ Some (as_byte 59 end)
+
+-- these are the events of a reference after whose `&` is a place, with the byte that tells its kind and the size of its value
+pub data IsReference (text : Text) (p q : Point) : ℕ → ℕ → List Event → Point → Type 0 where
+  named : {size : ℕ} {to end : Point} → IsValue text is_ascii_alphanumeric 31 size q to end
+      → IsReference text p q 38 size (reference_events p q [] (text.start q) (text.start to) end) end
+  decimal : {size : ℕ} {r to end : Point} → text.byte (text.start q) ≡ Some (as_byte 35 r) → IsValue text is_ascii_digit 7 size r to end
+      → IsReference text p q 35 size (reference_events p q (numeric_events (text.start q) r) (text.start r) (text.start to) end) end
+  hexadecimal : {b size : ℕ} {r s to end : Point} → text.byte (text.start q) ≡ Some (as_byte 35 r) → ((b == 120) || (b == 88)) ≡ true
+      → text.byte (text.start r) ≡ Some (as_byte b s) → IsValue text is_ascii_hexdigit 6 size s to end
+      → IsReference text p q 120 size (reference_events p q (hexadecimal_events (text.start q) r (text.start r) s) s (text.start to) end) end
+
+-- what is kept once a reference was read
+abbrev pub referring : ℕ → ℕ → Kept → Kept
+referring marker size k = record k { marker = marker; size = size }
+
+module _ {T : Type 0} (texts : List ℕ → Option (List ℕ)) (is_punctuation : ℕ → Bool) (x : Context T) (text : Text) where
+  -- the attempt fails where there is no reference; otherwise it goes well, with the reference's events, up to where what it leaves of the codes is seen
+  abbrev pub ReferenceVerdict : Config Inlines → State → Point → Point → List ℕ → Option Leaf → Type 0
+  ReferenceVerdict c s p q codes None = (d : Config Inlines) × Reads texts is_punctuation x text c s d false
+  ReferenceVerdict c s p q codes (Some leaf) =
+      (d : Config Inlines) × (marker : ℕ) × (size : ℕ) × (added : List Event) × (end : Point) × Reads texts is_punctuation x text c s d true
+      × IsReference text p q marker size added end × Leaves c d (referring marker size c.tokenize_state) added end × Sees text end (drop leaf.size codes)
+
+-- at an `&`, after which these codes are seen, a reference is read exactly where the definition has one by the same texts of names,
+-- if the letters and digits of the text stand in the bytes in which names are looked up
+abbrev pub CharacterReferenceVerdict : Type 0 → Type 0
+CharacterReferenceVerdict T =
+    (texts : List ℕ → Option (List ℕ)) (is_punctuation : ℕ → Bool) (x : Context T) (text : Text) (c : Config Inlines) (p q : Point) (cs : List ℕ)
+    → Shows x.bytes text → 0 < (text.start q).column → Sees text q cs
+    → ReferenceVerdict texts is_punctuation x text (with_byte c p (Some (as_byte 38 q))) (retry inline_states.CharacterReferenceStart) p q (38 ∷ cs)
+    (reference_at x.options.constructs texts (38 ∷ cs))
