@@ -14,3 +14,4 @@ pub mod NamesSeen
 pub mod ReferenceStates
 pub mod ReferenceValues
 pub mod ReferenceReads
+pub mod AutolinkStates
