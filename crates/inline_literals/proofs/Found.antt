@@ -29,6 +29,7 @@ use Rattle.inline_leaves.proofs.AutolinkLemmas.{plain_join}
 use Rattle.inline_literals.specs.Literals.{StartsLiteral, IsNameEnd, may_begin, size_after, begins_name, begins_domain, domain_size}
 use Rattle.inline_literals.proofs.Names.{run_ends, no_return}
 use Rattle.inline_literals.proofs.Starts.{start_codes}
+use Rattle.inline_literals.proofs.Tails.{tail_fits}
 
 -- the bytes up to what ends a literal are codes
 record IsRun (xs : List ℕ) : Type 0 where
@@ -53,14 +54,6 @@ run_is (b ∷ bs) = elim (cases_Bool (ends_literal b (content_codes bs))) [
     each : (b : ℕ) (bs : List ℕ) (n : ℕ) → (b ≡ 13 → ⊥) → ((k : ℕ) → k < n → get_or bs k 0 ≡ 13 → ⊥) → (k : ℕ) → k < suc n → get_or (b ∷ bs) k 0 ≡ 13 → ⊥
     each b bs n apart rest zero lt = apart
     each b bs n apart rest (suc k) lt = rest k (omega (arith, lt))
-
-tail_fits : (k : ℕ) (bs : List ℕ) → length (without_tail k bs) ≤ length bs
-tail_fits zero [] = omega arith
-tail_fits (suc k) [] = omega arith
-tail_fits zero (c ∷ cs) =
-    cond_both (is_cut c cs) (without_tail (cut_more c cs) cs) (c ∷ cs) (λ (l : List ℕ). length l ≤ length (c ∷ cs))
-    (λ _. omega (arith, tail_fits (cut_more c cs) cs)) (λ _. omega arith)
-tail_fits (suc k) (c ∷ cs) = omega (arith, tail_fits k cs)
 
 -- the bytes of a name are codes
 pub name_plain : (xs : List ℕ) → IsPlain xs (length (literal_name (content_codes xs)))

@@ -291,3 +291,7 @@ next_cut text end (suc m) some le within last first =
     let size : length (take (end - 1) text) ≡ end - 1 = length-take-le (end - 1) text (omega (arith, le)) in
     let at : length (take (end - 1) text) - suc m ≡ end - (1 + suc m) = omega (arith, size) in
     subst (λ b. b < 128) (ap (λ k. get_or (take (end - 1) text) k 0) at ∙ get_or-take (end - 1) text (end - (1 + suc m)) 0 (omega (arith, some, within, size))) (first (omega arith))
+
+-- the last byte of what is left of a rest
+pub rest_last : (end k : ℕ) (xs : List ℕ) → k < end → get_or (drop k xs) (end - k - 1) 0 ≡ get_or xs (end - 1) 0
+rest_last end k xs less = get_or-drop k xs (end - k - 1) 0 ∙ ap (λ n. get_or xs n 0) (omega (arith, less))

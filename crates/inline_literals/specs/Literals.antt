@@ -1,15 +1,17 @@
 -- What is found of literals, in bytes.
-use Rattle.std.specs.Prelude.{◌≡◌, ◌+◌, ◌-◌, ◌<◌, ℕ, zero, suc, Bool, false, not, ◌&&◌, ◌||◌, ◌==◌, if◌then◌else◌, List, [], ◌∷◌, Option, None, Some, codes, length, slice_index, take}
+use Rattle.std.specs.Prelude.{◌≡◌, ◌+◌, ◌-◌, ◌<◌, ◌≤◌, ℕ, zero, suc, Bool, true, false, not, ◌&&◌, ◌||◌, ◌==◌, if◌then◌else◌, List, [], ◌∷◌, Option, None, Some, codes, drop, length, slice_index, take}
 use Rattle.std.specs.Str.{IsCharBoundary}
 use Rattle.definition_text.specs.declared.beside.Kind.TheVariants.{Whitespace}
+use Rattle.definition_text.specs.Bytes.{is_letter_or_digit}
 use Rattle.definition_text.specs.Content.{content_codes}
 use Rattle.definition_text.specs.InlineCode.{first_kind, is_continuation}
 use Rattle.definition_inline.specs.Attention.{is_other}
 use Rattle.definition_inline.specs.GfmAutolinkLiteral as literal
-use Rattle.definition_inline.specs.GfmAutolinkLiteral.{begins_caselessly, has_low_line, is_among, is_control, literal_name, literal_start}
+use Rattle.definition_inline.specs.GfmAutolinkLiteral.{begins_caselessly, has_low_line, is_among, is_control, is_trailing, literal_name, literal_start}
 use Rattle.inline_content.specs.View.{line_left}
 use Rattle.inline_leaves.specs.Leaves.{kind_view, IsPlain}
 use Rattle.inline_literals.specs.declared.gfm_autolink_literal.LiteralStart.{LiteralStart}
+use Rattle.inline_literals.specs.declared.names_in_vain.NamesInVain.{NamesInVain}
 
 -- what begins a literal
 abbrev pub start_view : LiteralStart → literal.LiteralStart
@@ -18,6 +20,19 @@ start_view start = literal_start (kind_view start.kind) start.size
 -- `ww` or `ht` comes first, in either case: only then a literal may begin
 abbrev pub may_begin : List ℕ → Bool
 may_begin bytes = begins_caselessly (codes "ww") bytes || begins_caselessly (codes "ht") bytes
+
+-- a byte that is never cut from a name's end, before these: it isn't cut alone, and ends no reference and stands in none
+abbrev pub is_in_reference : List ℕ → Bool
+is_in_reference [] = false
+is_in_reference (b ∷ bs) = is_letter_or_digit b || (b == 59)
+
+abbrev pub is_kept : ℕ → List ℕ → Bool
+is_kept byte after = not (is_trailing byte) && (not (byte == 41) && not (is_in_reference after))
+
+-- a `_` at a place of a domain, for which it and each of its rests up to there is none
+pub record HasLowLineAt (domain : List ℕ) (at : ℕ) : Type 0 where
+  pub within : at < length domain
+  pub refused : (k : ℕ) → k ≤ at → has_low_line (drop k domain) ≡ true
 
 -- bytes that a literal begins with: none of them is CR, and the last is ASCII and no LF
 pub record StartsLiteral (bytes : List ℕ) (size : ℕ) : Type 0 where
@@ -51,6 +66,15 @@ module _ (p : ℕ → Bool) where
   size_after after =
       let size = length (literal_name (content_codes after)) in
       if begins_name after && not (has_low_line (take (domain_size size after) after)) then Some size else None
+
+  -- no name is that of a literal which begins at one of the first places of a text, so many after the first
+  abbrev pub AreInVain : List ℕ → ℕ → Type 0
+  AreInVain after more = (k : ℕ) → k ≤ more → size_after (drop k after) ≡ None
+
+  -- nor one that begins at a place of a content which is known
+  abbrev pub KnowsNames : List ℕ → NamesInVain → Type 0
+  KnowsNames content known =
+      (left : ℕ) → known.fewest ≤ left → left ≤ known.most → left ≤ length content → size_after (drop (length content - left) content) ≡ None
 
 -- a place after a name
 pub record IsNameEnd (after : List ℕ) (size : ℕ) : Type 0 where

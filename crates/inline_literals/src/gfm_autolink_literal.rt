@@ -3,7 +3,7 @@
 //!     literal ::= start name
 //!     start   ::= 'www.' after nothing, white space or one of '(*_[]~'
 //!               | ('http://' | 'https://') after anything but a letter
-ghost use Rattle.std.specs.Prelude.{◌≡◌, ◌<◌, ◌≤◌, ◌+◌, ◌&&◌, ◌||◌, ℕ, Bool, List, not, IfSome, codes, drop, length, slice_index, take};
+ghost use Rattle.std.specs.Prelude.{◌≡◌, ◌<◌, ◌≤◌, ◌+◌, ◌&&◌, ◌||◌, ℕ, Bool, List, Some, not, IfErr, IfOk, IfSome, codes, drop, length, slice_index, take};
 ghost use Rattle.std.specs.Option.{option_map};
 ghost use Rattle.std.specs.Str.{IsCharBoundary};
 ghost use Rattle.definition_text.specs.Content.{content_codes};
@@ -14,9 +14,10 @@ ghost use Rattle.inline_content.specs.View.{view_at};
 ghost use Rattle.inline_leaves.specs.Leaves.{found_leaf, size_before, IsAfter};
 ghost use Rattle.inline_links.specs.Codes.{IsRest};
 ghost use Rattle.inline_literals.specs.Literals.{begins_domain, begins_name, begins_other, domain_size};
-ghost use Rattle.inline_literals.specs.Literals.{may_begin, size_after, start_view, IsNameEnd, StartsLiteral};
+ghost use Rattle.inline_literals.specs.Literals.{may_begin, size_after, start_view, AreInVain, IsNameEnd, KnowsNames, StartsLiteral};
 
-use crate::name::{has_low_line, name_size};
+use crate::name::{goes_beyond, has_no_parenthesis, last_low_line, name_size};
+use crate::names_in_vain::NamesInVain;
 use definition_text::Kind;
 use inline_content::{Content, first_kind};
 use inline_leaves::cut::{cut_after, text_before};
@@ -31,15 +32,19 @@ struct LiteralStart {
     size: usize,
 }
 
-/// A literal that is no email address, at a rest of a content (GFM 6.9).
+/// A literal that is no email address, at a rest of a content (GFM 6.9), where these are its names
+/// that are known to begin in vain.
 pub fn literal_at<'a, T: Tables>(
     on: &Constructs,
     tables: &T,
     content: Content<'_>,
+    known: &mut NamesInVain,
     rest: &'a str,
 ) -> Option<Leaf<'a>>
     requires rest { IsRest content.text.now rest.now }
     requires codes { content_codes rest.now ≡ drop (size_before content.text.now rest.now) (content_codes content.text.now) }
+    requires known { KnowsNames (T.punctuation_of tables.now) content.text.now known.old }
+    ensures known { KnowsNames (T.punctuation_of tables.now) content.entry.text.now known.new }
     ensures read { found_leaf rest.now result ≡ literal_at on.now (view_at (T.punctuation_of tables.now) content.entry rest.now) }
     ensures place { IfSome result (λ found. IsAfter rest.now found.after.now) }
 {
@@ -50,7 +55,7 @@ pub fn literal_at<'a, T: Tables>(
         return None;
     };
     let after = cut_after(rest, start.size);
-    let Some(size) = size_after(tables, after) else {
+    let Some(size) = size_at(tables, content, known, after) else {
         return None;
     };
     let end = start.size + size;
@@ -78,20 +83,65 @@ fn rest_from(text: &str, at: usize) -> &str
     &text[at..]
 }
 
-/// How many bytes the name after the start of a literal has, where it may stand there (GFM 6.9).
-fn size_after<T: Tables>(tables: &T, after: &str) -> Option<usize>
+/// How many bytes the name has that begins at a rest of a content, where it may stand there (GFM
+/// 6.9). One that is known to begin in vain isn't read.
+fn size_at<T: Tables>(
+    tables: &T,
+    content: Content<'_>,
+    known: &mut NamesInVain,
+    after: &str,
+) -> Option<usize>
+    requires rest { IsRest content.text.now after.now }
+    requires known { KnowsNames (T.punctuation_of tables.now) content.text.now known.old }
+    ensures known { KnowsNames (T.punctuation_of tables.now) content.entry.text.now known.new }
     ensures read { result ≡ size_after (T.punctuation_of tables.now) after.now }
     ensures place { IfSome result (IsNameEnd after.now) }
 {
+    if known.has(after) {
+        return None;
+    }
+    match size_after(tables, after) {
+        Ok(size) => Some(size),
+        Err(more) => {
+            *known = NamesInVain::from_rest(after, more);
+            None
+        }
+    }
+}
+
+/// How many bytes the name after the start of a literal has, where it may stand there (GFM 6.9), or
+/// else at how many places after its first one no other name may stand.
+fn size_after<T: Tables>(tables: &T, after: &str) -> Result<usize, usize>
+    ensures read { IfOk result (λ size. size_after (T.punctuation_of tables.now) after.now ≡ Some size) }
+    ensures place { IfOk result (IsNameEnd after.now) }
+    ensures within { IfErr result (λ more. more ≤ length after.now) }
+    ensures vain { IfErr result (AreInVain (T.punctuation_of tables.now) after.now) }
+{
     if !begins_name(tables, after) {
-        return None;
+        return Err(0);
     }
-    let size = name_size(after.as_bytes());
-    let domain = domain_size(tables, after, size);
-    if has_low_line(&after.as_bytes()[..domain]) {
-        return None;
+    let bytes = after.as_bytes();
+    let domain = domain_in_name(tables, after);
+    match last_low_line(&bytes[..domain]) {
+        Some(at) if has_no_parenthesis(&bytes[..at]) => Err(at),
+        Some(_) => Err(0),
+        None => Ok(name_size(bytes)),
     }
-    Some(size)
+}
+
+/// How many bytes the domain has in the name after the start of a literal (GFM 6.9). What comes
+/// after it is read only as far as is needed to tell that the name doesn't end before.
+fn domain_in_name<T: Tables>(tables: &T, after: &str) -> usize
+    ensures size { result ≡ domain_size (T.punctuation_of tables.now) (length (literal_name (content_codes after.now))) after.now }
+    ensures within { result ≤ length after.now }
+{
+    let bytes = after.as_bytes();
+    let domain = domain_size(tables, after, bytes.len());
+    if goes_beyond(bytes, domain) {
+        return domain;
+    }
+    let size = name_size(bytes);
+    if size < domain { size } else { domain }
 }
 
 /// Whether the first character after the start of a literal may stand there: it is no whitespace,

@@ -2,13 +2,14 @@
 //!
 //!     name ::= byte+ up to white space, '<', a ']' that may end a label, or nothing, without its tail
 //!     tail ::= (trailing byte | '&' (letter | digit)+ ';' | ')' while there are more of them than '(')*
-ghost use Rattle.std.specs.Prelude.{◌≡◌, ◌<◌, ◌≤◌, ◌+◌, ◌-◌, ℕ, Bool, drop, length, reverse, slice_index, take};
+ghost use Rattle.std.specs.Prelude.{◌≡◌, ◌<◌, ◌≤◌, ◌+◌, ◌-◌, ℕ, Bool, true, false, drop, length, reverse, slice_index, take, MatchOption};
 ghost use Rattle.std.specs.List.{prefix_len, suffix_len};
 ghost use Rattle.definition_text.specs.Bytes.{is_letter_or_digit};
 ghost use Rattle.definition_text.specs.Content.{content_codes};
 ghost use Rattle.definition_inline.specs.GfmAutolinkLiteral.{count_of, cut_more, ends_label, ends_literal, is_trailing};
 ghost use Rattle.definition_inline.specs.GfmAutolinkLiteral.{literal_name, literal_run, low_line_in, has_low_line, without_tail};
 ghost use Rattle.inline_leaves.specs.Leaves.{IsPlain};
+ghost use Rattle.inline_literals.specs.Literals.{is_in_reference, is_kept, HasLowLineAt};
 
 use inline_links::part::from;
 use text_bytes::is_space;
@@ -124,19 +125,58 @@ fn letters_and_digits(text: &[u8]) -> usize
     text.len() - start
 }
 
-/// Whether `_` stands in one of the last two parts of a domain (GFM 6.9).
-pub(crate) fn has_low_line(domain: &[u8]) -> bool
-    ensures { result ≡ has_low_line domain.now }
+/// Whether a name has more than so many bytes, as far as that can be told by the first byte after
+/// them that is never cut: where nothing else says so, what comes next isn't read to the name's end.
+pub(crate) fn goes_beyond(after: &[u8], size: usize) -> bool
+    ensures { result ≡ true → size < length (literal_name (content_codes after.now)) }
+{
+    for (i, b) in after.iter().enumerate() {
+        let next = from(after, i + 1);
+        if ends_literal(*b, next) {
+            return false;
+        }
+        if i >= size && is_kept(*b, next) {
+            return true;
+        }
+    }
+    false
+}
+
+/// Whether a byte before these is never cut from a name's end (GFM 6.9).
+fn is_kept(byte: u8, after: &[u8]) -> bool
+    ensures { result ≡ is_kept byte after.now }
+{
+    !is_trailing(byte) && byte != b')' && !is_in_reference(after)
+}
+
+/// Whether a letter, a digit or `;` comes first.
+fn is_in_reference(after: &[u8]) -> bool
+    ensures { result ≡ is_in_reference after.now }
+{
+    !after.is_empty() && (after[0].is_ascii_alphanumeric() || after[0] == b';')
+}
+
+/// Whether a text has no parenthesis.
+pub(crate) fn has_no_parenthesis(text: &[u8]) -> bool
+    ensures opened { result ≡ true → count_of 40 (reverse text.now) ≡ 0 }
+    ensures closed { result ≡ true → count_of 41 (reverse text.now) ≡ 0 }
+{
+    count_of(b'(', text) == 0 && count_of(b')', text) == 0
+}
+
+/// Where the last `_` stands in the last two parts of a domain, if one does (GFM 6.9).
+pub(crate) fn last_low_line(domain: &[u8]) -> Option<usize>
+    ensures { MatchOption result (has_low_line domain.now ≡ false) (HasLowLineAt domain.now) }
 {
     let mut parts: usize = 2;
     let mut end = domain.len();
     while end > 0 && parts > 0 {
         end -= 1;
         match domain[end] {
-            b'_' => return true,
+            b'_' => return Some(end),
             b'.' => parts -= 1,
             _ => {}
         }
     }
-    false
+    None
 }

@@ -17,6 +17,7 @@ use Rattle.inline_leaves.specs.Scanned.{leaf_in, without_labels}
 use Rattle.inline_labels.specs.declared.table.LabelTable.{LabelTable}
 use Rattle.inline_labels.specs.Table.{HasLabels}
 use Rattle.inline_links.specs.Codes.{IsRest}
+use Rattle.inline_literals.specs.Literals.{KnowsNames}
 use Rattle.inline_runs.specs.declared.run.Run.{Run}
 use Rattle.inline_parser.specs.declared.label.LabelStart.{LabelStart}
 use Rattle.inline_parser.specs.declared.scan.Scanner.{Scanner}
@@ -48,9 +49,10 @@ pub record IsPlace (content rest : List ℕ) : Type 0 where
   pub fewer : length (content_codes rest) ≤ length (content_codes content)
   pub codes : content_codes rest ≡ drop (size_before content rest) (content_codes content)
 
--- what is left, of the content and of what stands after each label start that is open
-pub record IsPlaced {A : Type 0} (content : Content) (s : Scanner A) : Type 0 where
+-- what is left, of the content and of what stands after each label start that is open, and names that are known to begin in vain
+pub record IsPlaced {A : Type 0} (is_punctuation : ℕ → Bool) (content : Content) (s : Scanner A) : Type 0 where
   pub searched : s.searches.content ≡ content.text
+  pub known : KnowsNames is_punctuation content.text.now s.names
   pub place : IsPlace content.text.now s.rest.now
   pub labels : StartsBefore s.rest.now s.reading
   pub sound : IsSound s.reading
@@ -85,7 +87,7 @@ scanned options names is_punctuation ds content start =
 
 -- a content that is being read from this place to this end
 pub record IsScanning {A : Type 0} (options : ParseOptions) (names : List ℕ → Option (List ℕ)) (is_punctuation : ℕ → Bool) (labels footnotes : LabelTable A) (content : Content) (start : List ℕ) (s : Scanner A) : Type 0 where
-  pub placed : IsPlaced content s
+  pub placed : IsPlaced is_punctuation content s
   pub follows : (ds : Targets) → HasTargets labels footnotes ds
       → Follows options names is_punctuation ds content s (scanned options names is_punctuation ds content start)
 
@@ -97,7 +99,7 @@ GoesOn names is_punctuation source old result new =
 
 -- what is left stays a rest of the content, unless memory ran out
 abbrev pub StaysPlaced : {A B C : Type 0} → Scanner A → Result B C → Scanner A → Type 0
-StaysPlaced old result new = (content : Content) → IsPlaced content old → OnOk result (IsPlaced content new)
+StaysPlaced old result new = (is_punctuation : ℕ → Bool) (content : Content) → IsPlaced is_punctuation content old → OnOk result (IsPlaced is_punctuation content new)
 
 -- less is left, unless memory ran out
 abbrev pub Shortens : {A B C : Type 0} → Scanner A → Result B C → Scanner A → Type 0

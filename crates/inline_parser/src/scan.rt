@@ -40,7 +40,7 @@ use inline_leaves::cut::{cut_after, text_before};
 use inline_leaves::leaf_at::leaf_at;
 use inline_leaves::searches::Searches;
 use inline_leaves::space::white_size;
-use inline_literals::literal_at;
+use inline_literals::{NamesInVain, literal_at};
 use inline_rows::InlineRow;
 use inline_runs::Run;
 use markdown_options::{Constructs, ParseOptions, Tables};
@@ -60,6 +60,8 @@ pub(crate) struct Source<'a, T, A: Allocator + Clone> {
 #[derive(Drop)]
 pub(crate) struct Scanner<'a, A: Allocator> {
     pub(crate) searches: Searches<'a, A>,
+    /// Where names of literals begin in vain.
+    pub(crate) names: NamesInVain,
     /// What is left of it.
     pub(crate) rest: &'a str,
     pub(crate) reading: Reading<'a, A>,
@@ -116,6 +118,7 @@ fn span_rows<'a, T: Tables, A: Allocator + Clone>(
     };
     let mut scanner = Scanner {
         searches: Searches::new(room.alloc.clone()?, content.text()),
+        names: NamesInVain::new(),
         rest: start,
         reading: Reading::new(room)?,
     };
@@ -167,9 +170,9 @@ fn first_byte(text: &str) -> &str
 impl<'a, A: Allocator + Clone> Scanner<'a, A> {
     /// Reads what comes next.
     fn step<T: Tables>(&mut self, source: &Source<'a, T, A>) -> Result<(), AllocError>
-        requires placed { IsPlaced source.now.content self.old }
+        requires placed { IsPlaced (T.punctuation_of source.now.tables.now) source.now.content self.old }
         requires some { 0 < length self.old.rest.now }
-        ensures placed { OnOk result (IsPlaced source.now.content self.new) }
+        ensures placed { OnOk result (IsPlaced (T.punctuation_of source.now.tables.now) source.now.content self.new) }
         ensures shorter { Shortens self.old result self.new }
         ensures read { GoesOn (T.reference_of source.now.tables.now) (T.punctuation_of source.now.tables.now) source.now self.old result self.new }
     {
@@ -186,11 +189,11 @@ impl<'a, A: Allocator + Clone> Scanner<'a, A> {
 
     /// A literal, a run, a label start, a `]`, or a byte of text.
     fn literal_or_run<T: Tables>(&mut self, source: &Source<'a, T, A>) -> Result<(), AllocError>
-        requires placed { IsPlaced source.now.content self.old }
+        requires placed { IsPlaced (T.punctuation_of source.now.tables.now) source.now.content self.old }
         requires some { 0 < length self.old.rest.now }
         requires no_leaf { HasNoLeaf (T.reference_of source.now.tables.now) source.now self.old.rest.now }
         requires first { IsSingle self.old.rest.now }
-        ensures placed { OnOk result (IsPlaced source.now.content self.new) }
+        ensures placed { OnOk result (IsPlaced (T.punctuation_of source.now.tables.now) source.now.content self.new) }
         ensures shorter { Shortens self.old result self.new }
         ensures read { GoesOn (T.reference_of source.now.tables.now) (T.punctuation_of source.now.tables.now) source.now self.old result self.new }
     {
@@ -198,6 +201,7 @@ impl<'a, A: Allocator + Clone> Scanner<'a, A> {
             &source.options.constructs,
             source.tables,
             source.content,
+            &mut self.names,
             self.rest,
         ) {
             Some(leaf) => self.leaf(leaf),
@@ -234,11 +238,11 @@ impl<'a, A: Allocator + Clone> Scanner<'a, A> {
 
     /// A run, a label start, a `]`, or a byte of text.
     fn run_or_label<T: Tables>(&mut self, source: &Source<'a, T, A>) -> Result<(), AllocError>
-        requires placed { IsPlaced source.now.content self.old }
+        requires placed { IsPlaced (T.punctuation_of source.now.tables.now) source.now.content self.old }
         requires some { 0 < length self.old.rest.now }
         requires no_leaf { HasNoLeafHere (T.reference_of source.now.tables.now) (T.punctuation_of source.now.tables.now) source.now self.old.rest.now }
         requires first { IsSingle self.old.rest.now }
-        ensures placed { OnOk result (IsPlaced source.now.content self.new) }
+        ensures placed { OnOk result (IsPlaced (T.punctuation_of source.now.tables.now) source.now.content self.new) }
         ensures shorter { Shortens self.old result self.new }
         ensures read { GoesOn (T.reference_of source.now.tables.now) (T.punctuation_of source.now.tables.now) source.now self.old result self.new }
     {
@@ -267,12 +271,12 @@ impl<'a, A: Allocator + Clone> Scanner<'a, A> {
 
     /// A label start, a `]`, or a byte of text.
     fn label_or_byte<T: Tables>(&mut self, source: &Source<'a, T, A>) -> Result<(), AllocError>
-        requires placed { IsPlaced source.now.content self.old }
+        requires placed { IsPlaced (T.punctuation_of source.now.tables.now) source.now.content self.old }
         requires some { 0 < length self.old.rest.now }
         requires no_leaf { HasNoLeafHere (T.reference_of source.now.tables.now) (T.punctuation_of source.now.tables.now) source.now self.old.rest.now }
         requires first { IsSingle self.old.rest.now }
         requires no_run { HasNoRun (T.punctuation_of source.now.tables.now) source.now self.old.rest.now }
-        ensures placed { OnOk result (IsPlaced source.now.content self.new) }
+        ensures placed { OnOk result (IsPlaced (T.punctuation_of source.now.tables.now) source.now.content self.new) }
         ensures shorter { Shortens self.old result self.new }
         ensures read { GoesOn (T.reference_of source.now.tables.now) (T.punctuation_of source.now.tables.now) source.now self.old result self.new }
     {
@@ -304,14 +308,14 @@ impl<'a, A: Allocator + Clone> Scanner<'a, A> {
 
     /// A `]`: what it forms, or else text (CommonMark 6.3 and 6.4).
     fn end<T: Tables>(&mut self, source: &Source<'a, T, A>) -> Result<(), AllocError>
-        requires placed { IsPlaced source.now.content self.old }
+        requires placed { IsPlaced (T.punctuation_of source.now.tables.now) source.now.content self.old }
         requires some { 0 < length self.old.rest.now }
         requires no_leaf { HasNoLeafHere (T.reference_of source.now.tables.now) (T.punctuation_of source.now.tables.now) source.now self.old.rest.now }
         requires first { IsSingle self.old.rest.now }
         requires no_run { HasNoRun (T.punctuation_of source.now.tables.now) source.now self.old.rest.now }
         requires no_start { label_start_at source.now.options.now.constructs (content_codes self.old.rest.now) ≡ None }
         requires bracket { (source.now.options.now.constructs.label_end && (slice_index self.old.rest.now 0 == 93)) ≡ true }
-        ensures placed { OnOk result (IsPlaced source.now.content self.new) }
+        ensures placed { OnOk result (IsPlaced (T.punctuation_of source.now.tables.now) source.now.content self.new) }
         ensures shorter { Shortens self.old result self.new }
         ensures read { GoesOn (T.reference_of source.now.tables.now) (T.punctuation_of source.now.tables.now) source.now self.old result self.new }
     {

@@ -22,6 +22,7 @@ loop-source-init g c =
     record {
       placed = record {
         searched = c.new.ensures ∙ c.text.ensures;
+        known = c.new-2.ensures p content.text.now;
         place = c.requires;
         labels = subst (All (λ (o : OpenLabel). IsRest o.from.now c.args.start.now)) (sym c.in_ok-new.ensures.none) (λ k d lt. absurd (omega (arith, lt)));
         sound = c.in_ok-new.ensures.sound;

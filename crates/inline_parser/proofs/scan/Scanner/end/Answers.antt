@@ -44,6 +44,7 @@ returns-in_ok-form-in-Some-Leads-clause-placed g c =
     let middle = views.next_place content.text.now rest (drop 1 rest) c.requires.placed.place first in
     record {
       searched = c.requires.placed.searched;
+      known = c.requires.placed.known;
       place = views.next_place content.text.now (drop 1 rest) c.in-Some-Leads.end.after.now middle next;
       labels = c.in_ok-form-in-Some-Leads.ensures.from c.in-Some-Leads.end.after.now
           (placed.labels_rest (drop 1 rest) c.in-Some-Leads.end.after.now s.reading.labels.items next.rest_of (placed.labels_rest rest (drop 1 rest) s.reading.labels.items first.rest_of c.requires.placed.labels));
@@ -85,6 +86,7 @@ returns-in_ok-call-in-Some-Calls-clause-placed g c =
     let left = c.cut_after-after.ensures.rest in
     record {
       searched = c.requires.placed.searched;
+      known = c.requires.placed.known;
       place = subst (IsPlace content.text.now) (sym left) (views.next_place content.text.now rest (drop 1 rest) c.requires.placed.place first);
       labels = c.in_ok-call-in-Some-Calls.ensures.from c.cut_after-after.result.now
           (subst (λ r. StartsBefore r s.reading) (sym left) (placed.labels_rest rest (drop 1 rest) s.reading.labels.items first.rest_of c.requires.placed.labels));
@@ -119,9 +121,10 @@ returns-in_ok-call-in-Some-Calls-clause-read g c ds final has f =
 pub returns-in-None-clause-placed : goal.returns-in-None-clause-placed
 returns-in-None-clause-placed g c =
     let s = c.args.self.now in
-    c.text.ensures.placed c.args.source.now.content
+    c.text.ensures.placed (g.T.Tables.punctuation_of c.args.source.now.tables.now) c.args.source.now.content
     (record {
       searched = c.requires.placed.searched;
+      known = c.requires.placed.known;
       place = c.requires.placed.place;
       labels = c.unform.ensures.from s.rest.now c.requires.placed.labels;
       sound = c.unform.ensures.sound;

@@ -11,6 +11,17 @@ use Rattle.inline_parser.proofs.Follow as follow
 use Rattle.inline_parser.proofs.Follow.{on_ok}
 use Rattle.inline_parser.proofs.scan.Scanner.literal_or_run.Goals as goal
 
+pub run_or_label-requires-clause-placed : goal.run_or_label-requires-clause-placed
+run_or_label-requires-clause-placed g c =
+    let p = c.requires.placed in
+    record { searched = p.searched; known = c.literal_at.ensures.known; place = p.place; labels = p.labels; sound = p.sound }
+
+pub returns-in-Some-clause-placed : goal.returns-in-Some-clause-placed
+returns-in-Some-clause-placed g c =
+    let p = c.requires.placed in
+    c.leaf.ensures.placed (g.T.Tables.punctuation_of c.args.source.now.tables.now) c.args.source.now.content
+    (record { searched = p.searched; known = c.literal_at.ensures.known; place = p.place; labels = p.labels; sound = p.sound })
+
 pub run_or_label-requires-clause-no_leaf : goal.run_or_label-requires-clause-no_leaf
 run_or_label-requires-clause-no_leaf g c =
     let source = c.args.source.now in

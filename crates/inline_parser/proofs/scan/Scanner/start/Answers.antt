@@ -14,12 +14,13 @@ text_before-requires g c =
     IsCharBoundary-from_drop rest size within (subst (λ xs. IsUtf8 xs) c.cut_after-after.ensures.rest c.cut_after-after.utf8)
 
 pub returns-clause-placed : goal.returns-clause-placed
-returns-clause-placed g c content p =
+returns-clause-placed g c is_punctuation content p =
     let s = c.args.self.now in
     let after = c.cut_after-after.result.now in
     let a = c.cut_after-after.ensures.place in
     record {
       searched = p.searched;
+      known = p.known;
       place = place_after content.text.now s.rest.now after p.place a;
       labels = c.in_ok-start.ensures.from after (labels_after s.rest.now after s.reading.labels.items a p.labels) (whole_rest after);
       sound = c.in_ok-start.ensures.sound;
