@@ -36,8 +36,11 @@ FAMILIES = {
     "long list": lambda n: "- a\n" * n,
     "loose list": lambda n: "- a\n\n" * n,
     "blank lines in a deep list": lambda n: deep_list(200) + "\n" * n + "b\n",
-    # as many open items as half the blank lines: each blank line goes through all of them
+    # as many open items as half the blank lines, which all other programs take through each of them
     "blank lines in a list as deep": lambda n: "- " * (n // 100) + "a\n" + "\n" * (n // 50) + "b\n",
+    "blank lines of code in a list as deep": lambda n: "- " * (n // 100) + "```\n" + "\n" * (n // 50),
+    "blank lines in a quoted list as deep": lambda n: "> " + "- " * (n // 100) + "a\n" + ">\n" * (n // 50) + "b\n",
+    "blank lines after a quote in a list as deep": lambda n: "- " * (n // 100) + "> a\n" + "\n" * (n // 50) + "b\n",
     "one long paragraph": lambda n: "lorem ipsum dolor sit amet\n" * n,
     "indented code": lambda n: "    a\n\n" * n,
     "unclosed fence": lambda n: "```\n" + "x\n" * n,

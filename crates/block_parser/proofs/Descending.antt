@@ -25,7 +25,7 @@ use Rattle.block_parser.proofs.Closing.{opening_depth, length-around, length-con
 
 -- ---- the container at a depth
 
-get-append : {X : Type 0} (xs : List X) (x : X) (ys : List X) (d : X) → get_or (xs ++ x ∷ ys) (length xs) d ≡ x
+pub get-append : {X : Type 0} (xs : List X) (x : X) (ys : List X) (d : X) → get_or (xs ++ x ∷ ys) (length xs) d ≡ x
 get-append [] x ys d = refl
 get-append (z ∷ xs) x ys d = get-append xs x ys d
 
@@ -142,7 +142,7 @@ blank-rows (Cons b (Cons c bs)) = none b ∙ parts b c (all_endings (Cons b (Con
     parts (Blank e) (Blank f) true h = refl
     parts b c true h = cc
 
-and-swap : (a b : Bool) → (a && b) ≡ (b && a)
+pub and-swap : (a b : Bool) → (a && b) ≡ (b && a)
 and-swap true true = refl
 and-swap true false = refl
 and-swap false true = refl

@@ -8,7 +8,7 @@ use Rattle.definition_text.specs.BlockLines.{BlockLine, own_lines, last_ending}
 use Rattle.definition_text.specs.Columns.{Rest, bare, bytes_of}
 use Rattle.definition_text.specs.Indents.{small_indent}
 use Rattle.definition_block.specs.declared.align_kind.AlignKind.{AlignKind}
-use Rattle.definition_block.specs.Definitions.{Cut, cut, cut_into, cut_most}
+use Rattle.definition_block.specs.Definitions.{cut, cut_into, cut_most}
 use Rattle.definition_block.specs.GfmTable.{alignments_of, cells, delimiter_row, delimiters, is_bar_or_colon, is_head, line_cells, some_alignments}
 use Rattle.definition_block.specs.Tree.{Nil, Paragraph, Tree, ended, is_some_line, paragraph_of, table_if}
 use Rattle.block_rows.specs.declared.row.Piece.{Piece}

@@ -1,5 +1,5 @@
 -- What a text after a frontmatter stands for.
-use Rattle.std.specs.Prelude.{ℕ, ◌≤◌, List, Option, None, Some, length}
+use Rattle.std.specs.Prelude.{ℕ, List, Option, None, Some}
 use Rattle.std.proofs.Common.{Bor}
 use Rattle.definition_text.specs.Lines.{TextLine, lines}
 

@@ -1,5 +1,5 @@
 -- What a row of delimiters makes of the open paragraph.
-use Rattle.std.specs.Prelude.{Bool, false, ◌&&◌, if◌then◌else◌, List, [], ◌∷◌, Option, None, Some, length}
+use Rattle.std.specs.Prelude.{Bool, false, if◌then◌else◌, List, [], ◌∷◌, Option, None, Some, length}
 use Rattle.markdown_options.specs.declared.configuration.Constructs.{Constructs}
 use Rattle.definition_text.specs.BlockLines.{BlockLine}
 use Rattle.definition_block.specs.declared.align_kind.AlignKind.{AlignKind}

@@ -1,4 +1,5 @@
 pub mod Spine
+pub mod Quotes
 pub mod Waits
 pub mod Shows
 pub mod Leaves

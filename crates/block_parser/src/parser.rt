@@ -1,9 +1,10 @@
 //! Blocks, line by line (CommonMark 4, 5 and appendix, phase 1).
-ghost use Rattle.std.specs.Prelude.{◌≡◌, ◌≤◌, ◌<◌, ◌+◌, false, ◌^◌, [], IfOk, length, vec_len};
+ghost use Rattle.std.specs.Prelude.{◌≡◌, ◌≤◌, ◌<◌, ◌+◌, true, false, ◌^◌, [], IfOk, length, vec_len};
 ghost use Rattle.definition_text.specs.Lines.{lines};
 ghost use Rattle.definition_block.specs.Tree.{blocks, children, rest_line};
 ghost use Rattle.block_rows.specs.Rows.{rows_size, piece_line, piece_lines, rows_of, rows_value, value_with};
-ghost use Rattle.block_starts.specs.View.{rest_of};
+ghost use Rattle.block_starts.specs.View.{rest_of, container_view, container_views};
+ghost use Rattle.block_parser.specs.Quotes.{NoQuoteFrom, is_quote};
 ghost use Rattle.block_parser.specs.Leaves.{lines_needed};
 
 use crate::code_fenced::opening_fence;
@@ -44,6 +45,8 @@ pub(crate) struct Parser<'a, A: Allocator> {
     pub(crate) lines_in_rows: usize,
     /// The containers that are open, the outermost first.
     pub(crate) open: Vec<Container<'a>, A>,
+    /// No container from this depth on is a quote.
+    pub(crate) quotes_end: usize,
     pub(crate) leaf: OpenLeaf<'a>,
     /// The text from the line on that is read.
     pub(crate) rest: &'a str,
@@ -51,6 +54,7 @@ pub(crate) struct Parser<'a, A: Allocator> {
     pub(crate) paragraph: &'a str,
     ghost counted: { lines_in_rows ≡ rows_size rows.rows.items },
     ghost enough: { lines_in_rows + lines_needed leaf ≤ vec_len pieces },
+    ghost no_quotes: { NoQuoteFrom quotes_end (container_views open.items) },
     ghost rest_fits: { length rest.now < 2 ^ 61 },
     ghost paragraph_fits: { length paragraph.now < 2 ^ 61 },
 }
@@ -59,7 +63,7 @@ pub(crate) struct Parser<'a, A: Allocator> {
 pub(crate) const NOTHING: OpenLeaf<'static> = OpenLeaf::Text;
 
 impl<'a, A: Allocator> Parser<'a, A> {
-    ghost use Rattle.std.specs.Prelude.{◌≡◌, ◌==◌, ◌&&◌, OnOk, IfOk, List, Option, false};
+    ghost use Rattle.std.specs.Prelude.{◌≡◌, ◌==◌, ◌&&◌, OnOk, IfOk, List, Option, true, false};
     ghost use Rattle.markdown_options.specs.declared.line_ending.LineEnding.{LineEnding};
     ghost use Rattle.definition_text.specs.Lines.{text_line};
     ghost use Rattle.definition_block.specs.Tree.{Tree, Block, Blocks, tree, nothing, Nil, one, ended, step, new, close, close_leaf, is_ending};
@@ -69,12 +73,13 @@ impl<'a, A: Allocator> Parser<'a, A> {
     ghost use Rattle.definition_block.specs.Tree.{Blank as BlankBlock, Leaf as OpenedLeaf, Inside, Text as TextLeaf};
     ghost use Rattle.block_rows.specs.Rows.{block_rows, row_value, row_size};
     ghost use Rattle.block_parser.specs.Spine.{Level, Spine, level, spine, spine_at, spine_of, without_innermost};
+    ghost use Rattle.block_parser.specs.Quotes.{NoQuoteFrom, NoneBeganBlank};
     ghost use Rattle.block_parser.specs.Shows.{leaf_lines};
     ghost use Rattle.block_parser.specs.View.{Becomes, Closes, HasRead, Adds, Grows, Descent, Entered, beside_at};
     ghost use Rattle.definition_block.specs.Container.{Container as Holder};
     ghost use Rattle.definition_text.specs.BlockLines.{BlockLine, last_ending};
     ghost use Rattle.block_parser.specs.Waits.{enter_row};
-    ghost use Rattle.std.specs.Prelude.{◌≤◌, ◌<◌, ◌+◌, ◌-◌, ◌∷◌, [], length, vec_len, take, drop};
+    ghost use Rattle.std.specs.Prelude.{◌≤◌, ◌<◌, ◌+◌, ◌-◌, ◌∷◌, ◌++◌, [], length, vec_len, take, drop};
     ghost use Rattle.block_starts.specs.View.{rest_of, container_view, container_views};
 
     /// Reads a line after a character of a kind: the containers that go on, then the leaf that takes
@@ -121,6 +126,10 @@ impl<'a, A: Allocator> Parser<'a, A> {
         let mut rest = line;
         let mut outer = line;
         for depth in 0..self.open.len() {
+            if self.all_go_on(depth, rest) {
+                let all = self.open.len();
+                return (all, rest, self.beside_at(all, rest, beside));
+            }
             match continues(on, self.open[depth], self.began_blank(depth), rest) {
                 Some(after) => {
                     outer = rest;
@@ -131,6 +140,24 @@ impl<'a, A: Allocator> Parser<'a, A> {
         }
         let depth = self.open.len();
         (depth, rest, self.beside_at(depth, outer, beside))
+    }
+
+    /// Whether all containers from a depth on go on because nothing is left of the line: they are no
+    /// quotes, and the innermost didn't begin with a blank line. So a run of blank lines costs one walk
+    /// through the containers.
+    fn all_go_on(&self, depth: usize, rest: Cursor<'a>) -> bool
+        requires { depth < vec_len self.now.open }
+        ensures empty { result ≡ true → rest_of rest.entry ≡ [] }
+        ensures none { result ≡ true → NoQuoteFrom depth (container_views self.now.open.items) }
+        ensures began { result ≡ true → (t : Tree) → HasRead self.now (spine_of t) → NoneBeganBlank t }
+    {
+        if self.quotes_end > depth {
+            return false;
+        }
+        if !is_empty(rest) {
+            return false;
+        }
+        !self.began_blank(self.open.len() - 1)
     }
 
     /// What stands beside a rest that so many containers leave, the last of them of this one.
@@ -309,6 +336,17 @@ impl<'a, A: Allocator> Parser<'a, A> {
         }
     }
 
+    /// The depth from which on no container is a quote, where this one is open, too.
+    fn quotes_end_with(&self, container: Container<'a>) -> usize
+        ensures { NoQuoteFrom result (container_views self.now.open.items ++ container_view container.entry ∷ []) }
+    {
+        if is_quote(container) {
+            self.open.len() + 1
+        } else {
+            self.quotes_end
+        }
+    }
+
     /// A container without a line of its own starts, where no leaf is open.
     fn enter_alone(&mut self, container: Container<'a>) -> Result<(), AllocError>
         requires { row_size (enter_row (container_view container)) ≡ 0 }
@@ -316,7 +354,9 @@ impl<'a, A: Allocator> Parser<'a, A> {
             HasRead self.new (spine (level (container_view container.entry) kids ∷ around) Nil (TextLeaf []))) }
     {
         self.rows.enter(container)?;
+        let end = self.quotes_end_with(container);
         self.open.push(container)?;
+        self.quotes_end = end;
         Ok(())
     }
 
@@ -339,7 +379,10 @@ impl<'a, A: Allocator> Parser<'a, A> {
         ensures count { OnOk result (vec_len self.new.open ≡ vec_len self.old.open - 1) }
     {
         match self.open.pop() {
-            Some(container) => self.rows.exit(container)?,
+            Some(container) => {
+                self.quotes_end = quotes_end(self.quotes_end, &self.open);
+                self.rows.exit(container)?;
+            }
             None => {}
         }
         Ok(())
@@ -395,6 +438,38 @@ impl<'a, A: Allocator> Parser<'a, A> {
     }
 }
 
+/// Whether nothing is left of a line.
+fn is_empty(rest: Cursor<'_>) -> bool
+    ensures { result ≡ true → rest_of rest.entry ≡ [] }
+{
+    rest.is_blank() && rest.indent() == 0
+}
+
+/// A depth from which on no container is a quote, after one was closed where there was such a depth:
+/// not beyond the innermost.
+fn quotes_end(end: usize, containers: &[Container<'_>]) -> usize
+    requires { NoQuoteFrom end (container_views containers.now) }
+    ensures { NoQuoteFrom result (container_views containers.now) }
+{
+    if end <= containers.len() {
+        return end;
+    }
+    let mut depth = containers.len();
+    while depth > 0 && !is_quote(containers[depth - 1]) {
+        depth -= 1;
+    }
+    depth
+}
+
+fn is_quote(container: Container<'_>) -> bool
+    ensures { result ≡ is_quote (container_view container.entry) }
+{
+    match container {
+        Container::Quote => true,
+        Container::Item(_) | Container::Footnote(_) => false,
+    }
+}
+
 /// The line of a block that a rest is.
 pub(crate) fn piece<'a>(rest: Cursor<'a>, beside: Beside) -> Piece<'a>
     ensures { piece_line result ≡ rest_line (rest_of rest.entry) beside }
@@ -442,6 +517,7 @@ fn child_rows<'a, A: Allocator + Clone>(
         aligns: Vec::new(alloc.clone()?),
         lines_in_rows: 0,
         open: Vec::new(alloc),
+        quotes_end: 0,
         leaf: NOTHING,
         rest: text,
         paragraph: text,

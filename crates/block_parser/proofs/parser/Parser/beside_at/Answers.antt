@@ -1,4 +1,4 @@
-use Rattle.std.proofs.Common.{◌≡◌, ℕ, suc, ◌-◌, ◌<◌, length, sym, ap, ◌∙◌, arith}
+use Rattle.std.proofs.Common.{◌≡◌, suc, ◌-◌, ◌<◌, length, sym, ap, ◌∙◌, arith}
 use Rattle.definition_text.specs.declared.beside.Beside.{Beside}
 use Rattle.definition_text.specs.declared.beside.Kind.{Kind}
 use Rattle.definition_block.specs.Container.{Container}

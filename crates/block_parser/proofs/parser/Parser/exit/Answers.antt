@@ -1,4 +1,4 @@
-use Rattle.std.proofs.Common.{◌∷◌, [], List, ap, length, arith}
+use Rattle.std.proofs.Common.{◌≡◌, ◌++◌, ◌∷◌, [], List, ap, length, arith}
 use Rattle.std.proofs.lemmas.List.{length-append}
 use Rattle.definition_block.specs.Tree.{Blocks, OpenLeaf}
 use Rattle.block_rows.specs.Rows.{piece_lines}
@@ -9,6 +9,7 @@ use Rattle.block_parser.specs.Leaves.{leaf_state}
 use Rattle.block_parser.specs.View.{HasRead}
 use Rattle.block_parser.proofs.Leaves as leaves
 use Rattle.block_parser.proofs.Closing as closing
+use Rattle.block_parser.proofs.Quotes as quotes
 use Rattle.block_parser.proofs.parser.Parser.exit.Goals as goal
 
 pub returns-in_ok-exit-in-Some-clause-read : goal.returns-in_ok-exit-in-Some-clause-read
@@ -26,3 +27,11 @@ returns-in_ok-exit-in-Some-clause-read g c = λ s leaf h. some_case s.around s.k
           opened = parts.0;
           same_state = h.same_state;
         }
+
+pub quotes_end-self-requires : goal.quotes_end-self-requires
+quotes_end-self-requires g c =
+    let p = c.args.self.now in
+    let before = c.in-Some.ensures.items in
+    let left = c.deref.ensures.value in
+    let same : p.open.items ≡ c.deref.result.now ++ c.in-Some.container ∷ [] = cc in
+    quotes.popped p.quotes_end p.open.items c.deref.result.now c.in-Some.container same p.no_quotes

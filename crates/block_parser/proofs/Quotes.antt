@@ -1,0 +1,95 @@
+-- Blank lines in items and footnote definitions, which all go on.
+use Rattle.std.proofs.Common.{◌≡◌, ℕ, zero, suc, ◌+◌, ◌-◌, ◌<◌, Bool, true, false, not, List, [], ◌∷◌, ◌++◌, Some, inl, inr, refl, sym, ap, ◌∙◌, subst, length, get_or, arith}
+use Rattle.std.proofs.Math.Seq.{drop-nil}
+use Rattle.std.proofs.lemmas.Bool.{cases_lt, cond-true, and_parts}
+use Rattle.std.proofs.lemmas.List.{get_or_append_left, get_or_default, length-append, map-append}
+use Rattle.markdown_options.specs.declared.configuration.Constructs.{Constructs}
+use Rattle.definition_text.specs.declared.beside.Beside.{Beside}
+use Rattle.definition_text.specs.Columns.{Rest, is_white, is_blank, indent}
+use Rattle.definition_block.specs.declared.container.Container.{Container as CodeContainer}
+use Rattle.definition_block.specs.Container.{Container, Quote, Item, Footnote}
+use Rattle.definition_block.specs.Containers.{continues}
+use Rattle.definition_block.specs.Tree.{Blocks, Opening, Leaf, Inside, Tree, began_blank, is_one_blank}
+use Rattle.block_starts.specs.View.{container_view, container_views}
+use Rattle.block_parser.specs.Spine.{Level, Spine, spine_at, spine_of, containers_of}
+use Rattle.block_parser.specs.Quotes.{is_quote, NoQuoteFrom, NoneBeganBlank}
+use Rattle.block_parser.specs.View.{Descent, beside_at}
+use Rattle.block_parser.proofs.Closing.{beside_more, length-containers}
+use Rattle.block_parser.proofs.Descending.{get-append, goes_inside, and-swap}
+
+pub empty_rest : (r : Rest) → is_blank r ≡ true → 0 ≡ indent r → r ≡ []
+empty_rest [] h k = refl
+empty_rest (c ∷ cs) h k = absurd (omega (arith, k, cond-true (is_white c) (1 + indent cs) 0 (and_parts (is_white c) (is_blank cs) h).0))
+
+-- ---- where the quotes end
+
+pub no_quote_more : (n : ℕ) (cs : List Container) (c : Container) → is_quote c ≡ false → NoQuoteFrom n cs → NoQuoteFrom n (cs ++ c ∷ [])
+no_quote_more n cs c is h = λ k from to. elim (cases_lt k (length cs)) [
+  | inl before ↦ ap is_quote (get_or_append_left cs (c ∷ []) Quote k before) ∙ h k from before
+  | inr past ↦
+      let last : k ≡ length cs = omega (arith, to, past, length-append cs (c ∷ [])) in
+      ap (λ i. is_quote (get_or (cs ++ c ∷ []) i Quote)) last ∙ ap is_quote (get-append cs c [] Quote) ∙ is
+]
+
+pub no_quote_less : (n : ℕ) (cs : List Container) (c : Container) → NoQuoteFrom n (cs ++ c ∷ []) → NoQuoteFrom n cs
+no_quote_less n cs c h = λ k from to. ap is_quote (sym (get_or_append_left cs (c ∷ []) Quote k to)) ∙ h k from (omega (arith, to, length-append cs (c ∷ [])))
+
+pub no_quote_before : (n : ℕ) (cs : List Container) → is_quote (get_or cs n Quote) ≡ false → NoQuoteFrom (n + 1) cs → NoQuoteFrom n cs
+no_quote_before n cs is h = λ k from to. elim (cases_lt n k) [
+  | inl after ↦ h k (omega (arith, after)) to
+  | inr past ↦ let here : k ≡ n = omega (arith, from, past) in ap (λ i. is_quote (get_or cs i Quote)) here ∙ is
+]
+
+pub popped : (n : ℕ) (old new : List CodeContainer) (c : CodeContainer) → old ≡ new ++ c ∷ [] → NoQuoteFrom n (container_views old) → NoQuoteFrom n (container_views new)
+popped n old new c is h =
+    no_quote_less n (container_views new) (container_view c)
+    (subst (λ (cs : List Container). NoQuoteFrom n cs) (ap container_views is ∙ map-append container_view new (c ∷ [])) h)
+
+pub pushed : (n : ℕ) (old new : List CodeContainer) (c : CodeContainer) → new ≡ old ++ c ∷ [] → NoQuoteFrom n (container_views old ++ container_view c ∷ []) → NoQuoteFrom n (container_views new)
+pushed n old new c is h = subst (λ (cs : List Container). NoQuoteFrom n cs) (sym (ap container_views is ∙ map-append container_view old (c ∷ []))) h
+
+pub not_true : (b : Bool) → not b ≡ true → b ≡ false
+not_true true h = sym h
+not_true false h = refl
+
+-- ---- only the innermost container can have begun with a blank line
+
+pub none_began : (t : Tree) (containers : List Container) → containers ≡ containers_of (spine_of t).around
+    → ((around : List Level) (kids inner_kids : Blocks) (c : Container) (inner : Opening) → length containers ≡ length around + 1 → spine_at around kids (Inside c inner_kids inner) ≡ spine_of t → began_blank inner_kids inner ≡ false)
+    → NoneBeganBlank t
+none_began t containers opened last around kids inner_kids c (Leaf leaf) same =
+    last around kids inner_kids c (Leaf leaf)
+    (omega (arith, ap length opened, length-containers (spine_of t).around, ap (λ (s : Spine). length s.around) same)) same
+none_began t containers opened last around kids inner_kids c (Inside inner_c others inner) same = and-swap (is_one_blank inner_kids) false
+
+-- ---- an empty rest in containers without quotes
+
+module _ (on : Constructs) (beside : Beside) (line : Rest) (t : Tree) (containers : List Container) (opened : containers ≡ containers_of (spine_of t).around) (none : NoneBeganBlank t) where
+  goes-on : (c : Container) → is_quote c ≡ false → continues on c false [] ≡ Some []
+  goes-on Quote h = let wrong : true ≡ false = h in cc
+  goes-on (Item item) h = ap (λ r. Some r) (drop-nil item.size)
+  goes-on (Footnote label) h = refl
+
+  one-more : (depth : ℕ) (outer : Rest) → depth < length containers → NoQuoteFrom depth containers
+      → Descent on beside line t 0 depth [] (beside_at containers depth outer beside) → Descent on beside line t 0 (depth + 1) [] (beside_at containers (depth + 1) [] beside)
+  one-more depth outer lt quotes d =
+      let c = get_or containers depth Quote in
+      subst (λ (b : Beside). Descent on beside line t 0 (depth + 1) [] b) (beside_more containers depth c outer [] beside refl)
+      (goes_inside on beside line t depth [] (beside_at containers depth outer beside) containers opened lt c (get_or_default containers depth Quote c lt) false
+      (λ around kids inner_kids holder inner deep same. sym (none around kids inner_kids holder inner same))
+      [] (goes-on c (quotes depth (omega arith) lt)) d)
+
+  all-from : (n depth : ℕ) → depth + n ≡ length containers → NoQuoteFrom depth containers
+      → Descent on beside line t 0 depth [] (beside_at containers depth [] beside) → Descent on beside line t 0 (length containers) [] (beside_at containers (length containers) [] beside)
+  all-from zero depth e quotes d =
+      let same : depth ≡ length containers = omega (arith, e) in
+      subst (λ m. Descent on beside line t 0 m [] (beside_at containers m [] beside)) same d
+  all-from (suc n) depth e quotes d =
+      all-from n (depth + 1) (omega (arith, e)) (λ k from to. quotes k (omega (arith, from)) to) (one-more depth [] (omega (arith, e)) quotes d)
+
+  pub all_go_on : (depth : ℕ) (outer : Rest) → depth < length containers → NoQuoteFrom depth containers
+      → Descent on beside line t 0 depth [] (beside_at containers depth outer beside)
+      → Descent on beside line t (length containers) (length containers) [] (beside_at containers (length containers) [] beside)
+  all_go_on depth outer lt quotes d =
+      let all = all-from (length containers - (depth + 1)) (depth + 1) (omega (arith, lt)) (λ k from to. quotes k (omega (arith, from)) to) (one-more depth outer lt quotes d) in
+      record { around = all.around; kids = all.kids; now = all.now; deep = all.deep; same = all.same; grows = all.grows; stuck = λ wrong. absurd (omega (arith, wrong)) }

@@ -1,0 +1,14 @@
+use Rattle.std.proofs.Common.{◌∙◌, sym, subst, arith}
+use Rattle.block_starts.specs.View.{container_views}
+use Rattle.block_parser.specs.View.{HasRead}
+use Rattle.block_parser.proofs.Closing as closing
+use Rattle.block_parser.proofs.Quotes as quotes
+use Rattle.block_parser.proofs.parser.Parser.all_go_on.Goals as goal
+
+pub returns-clause-began : goal.returns-clause-began
+returns-clause-began g c = λ yes t h.
+    let p = c.args.self.now in
+    quotes.none_began t (container_views p.open.items) h.opened
+    (λ around kids inner_kids holder inner deep same.
+    sym (c.began_blank.ensures around kids inner_kids holder inner (omega (arith, deep, c.len.ensures, p.open.ok.0, closing.views_length p.open.items)) (subst (HasRead p) (sym same) h))
+    ∙ quotes.not_true c.began_blank.result yes)

@@ -1,0 +1,14 @@
+use Rattle.std.proofs.Common.{◌≤◌, length}
+use Rattle.block_starts.specs.View.{container_views}
+use Rattle.block_parser.specs.Quotes.{NoQuoteFrom}
+use Rattle.block_parser.proofs.parser.quotes_end.Given as goal
+
+-- no quote stands behind
+abbrev pub invariant-loop-depth : goal.invariant-loop-depth
+invariant-loop-depth l = record {
+  within : l.depth ≤ length l.containers;
+  none : NoQuoteFrom l.depth (container_views l.containers);
+}
+
+abbrev pub decreases-loop-depth : goal.decreases-loop-depth
+decreases-loop-depth l = l.depth
