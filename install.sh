@@ -8,9 +8,9 @@
 # It says which crates are proved so far. As many are proved side by side as there are processors, with 2 GB each;
 # $JOBS sets another number. What is proved stays in the crates' out/ folders, so that a second run is short.
 set -eu
-crate=markdown_program what=program folder=$HOME/.local/bin
-[ "${1:-}" = --library ] && { crate=markdown_c what=library folder=$HOME/.local; shift; }
-folder=${1:-$folder}
+crate=markdown_program what=program below=.local/bin
+[ "${1:-}" = --library ] && { crate=markdown_c what=library below=.local; shift; }
+folder=${1:-$HOME/$below}
 case $folder in /*) ;; *) folder=$PWD/$folder ;; esac
 cd "$(dirname "$0")"
 log=$(mktemp)
@@ -61,11 +61,7 @@ install_program() {
 
 install_library() {
     quietly rt lib
-    mkdir -p "$folder/lib" "$folder/include"
-    cp ../../include/markdown.h "$folder/include/markdown.h"
-    printf 'create out/libmarkdown.a\naddlib out/libmarkdown_c.a\naddlib %s/c/liblibc_c.a\nsave\nend\n' "$(dirname "$(rt doc)")" | ar -M
-    mv out/libmarkdown.a "$folder/lib/libmarkdown.a"
-    ${CC:-cc} -shared -o "$folder/lib/libmarkdown.so" -Wl,--whole-archive "$folder/lib/libmarkdown.a" -Wl,--no-whole-archive
+    ../../bin/archive "$folder"
     echo "built crates/markdown_c/out/libmarkdown_c.a, installed below $folder as lib/libmarkdown.a, lib/libmarkdown.so and include/markdown.h" >&2
 }
 

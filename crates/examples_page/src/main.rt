@@ -1,11 +1,26 @@
-//! A page with each feature, from standard input to its HTML on standard output.
+//! A page with each feature, from standard input to its HTML on standard output, by the library.
 #![tactic(auto)]
 
-use markdown::{Watched, program};
-use std::process::ExitCode;
+ghost use Rattle.std.specs.Prelude.{◌≡◌, false};
+ghost use Rattle.markdown_options.specs.Mdx.{has_mdx};
 
-fn main(rt: HostRuntime) -> ExitCode {
+use markdown::{Builtin, Options, RunError, Watched, run};
+use std::io::Write;
+
+fn main(rt: HostRuntime) -> Result<(), RunError> {
     let mut reader = Watched::new(rt.stdin());
     let mut writer = Watched::new(rt.stdout());
-    ExitCode::from(program(&rt, &[], &mut reader, &mut writer, &mut rt.stderr()))
+    run(rt.alloc(), &mut reader, &mut writer, &options(), &Builtin)?;
+    writer.flush().map_err(RunError::Write)
+}
+
+/// All that can be read.
+fn options() -> Options
+    ensures { has_mdx result.parse.constructs ≡ false }
+{
+    let mut options = Options::gfm();
+    options.parse.constructs.math_text = true;
+    options.parse.constructs.math_flow = true;
+    options.parse.constructs.frontmatter = true;
+    options
 }
