@@ -8,7 +8,8 @@ use Rattle.markdown_options.specs.Defaults.{no_constructs, default_constructs, d
 abbrev pub has_flag : ℕ → ℕ → Bool
 has_flag flag flags = flags / flag % 2 == 1
 
--- the constructs of a sum of flags; 2: none is on; 4: strikethrough; 8: math in a text and in blocks; 16: frontmatter; 32: task list items; 64: tables; 128: links with no brackets; 256: footnotes
+-- the constructs of a sum of flags; 2: none is on; 4: strikethrough; 8: math in a text and in blocks; 16: frontmatter; 32: task list items; 64: tables;
+-- 128: links with no brackets; 256: footnotes
 abbrev pub flagged_constructs : ℕ → Constructs
 flagged_constructs flags =
     if has_flag 2 flags then no_constructs
