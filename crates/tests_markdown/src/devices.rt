@@ -4,7 +4,7 @@ use std::io::{self, Read, Write};
 use tests_helpers::plain;
 
 /// A device that moves at most so many bytes a call. After some calls it fails to read, and takes
-/// nothing. A stuck one can't be flushed.
+/// nothing. A stuck one then fails to write, too, and can't be flushed.
 #[derive(Drop)]
 pub(crate) struct Short<D> {
     device: D,
@@ -51,6 +51,9 @@ impl<D: Read> Read for Short<D> {
 
 impl<D: Write> Write for Short<D> {
     fn write(&mut self, buf: &[u8]) -> io::Result<usize> {
+        if self.calls == 0 && self.stuck {
+            return Err(io::Error::from(io::ErrorKind::BrokenPipe));
+        }
         if self.calls == 0 {
             return Ok(0);
         }
@@ -94,6 +97,19 @@ fn answers_failed_reads(rt: HostRuntime) {
         assert!(rt; matches!(result, Err(RunError::Read(_))), "at {calls}");
         assert!(rt; reader.failed() && !reader.ended(), "at {calls}");
         assert!(rt; writer.into_inner().is_empty(), "at {calls}");
+    }
+}
+
+#[test]
+fn answers_failed_writes(rt: HostRuntime) {
+    for calls in 0..PAGE.len() {
+        let mut reader = Watched::new(TEXT);
+        let mut writer = Watched::new(Short::stuck(Vec::new(rt.alloc()), 1, calls));
+        let result = run(rt.alloc(), &mut reader, &mut writer, &plain(), &Builtin);
+        assert!(rt; matches!(result, Err(RunError::Write(_))), "at {calls}");
+        assert!(rt; writer.failed(), "at {calls}");
+        let out = writer.into_inner().into_inner();
+        assert_eq!(rt; out.as_slice(), &PAGE[..calls], "at {calls}");
     }
 }
 

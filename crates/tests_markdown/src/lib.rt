@@ -29,3 +29,5 @@ mod references;
 mod rows;
 #[cfg(test)]
 mod tables;
+#[cfg(test)]
+mod worked;

@@ -42,8 +42,18 @@ const CONTAINERS: [(&str, &str); 6] = [
     ),
 ];
 
-/// The first of these texts that one of the others can't stand after, with an empty line between.
-fn first_unjoined<'a>(
+/// Whether a text is printed with another after it and an empty line between.
+fn is_joined(alloc: Global, first: &str, second: &str, options: &Options) -> Result<bool, RunError>
+    requires { has_mdx options.now.parse.constructs ≡ false }
+{
+    let mut text = String::from_str(alloc, first).map_err(|_| RunError::Memory)?;
+    text.push_str("\n\n").map_err(|_| RunError::Memory)?;
+    text.push_str(second).map_err(|_| RunError::Memory)?;
+    Ok(fits(&text) && to_html_with_options(alloc, &text, options).is_ok())
+}
+
+/// The first of these texts after which one of them can't stand, with an empty line between.
+pub(crate) fn first_unjoined<'a>(
     alloc: Global,
     rows: &[(&'a str, &str)],
     options: &Options,
@@ -52,10 +62,26 @@ fn first_unjoined<'a>(
 {
     for (first, _) in rows {
         for (second, _) in rows {
-            let mut text = String::from_str(alloc, first).map_err(|_| RunError::Memory)?;
-            text.push_str("\n\n").map_err(|_| RunError::Memory)?;
-            text.push_str(second).map_err(|_| RunError::Memory)?;
-            if !fits(&text) || to_html_with_options(alloc, &text, options).is_err() {
+            if !is_joined(alloc, first, second, options)? {
+                return Ok(Some(first));
+            }
+        }
+    }
+    Ok(None)
+}
+
+/// The first of these texts after which one of the others can't stand, with an empty line between.
+pub(crate) fn first_unjoined_with<'a>(
+    alloc: Global,
+    rows: &[(&'a str, &str)],
+    others: &[(&str, &str)],
+    options: &Options,
+) -> Result<Option<&'a str>, RunError>
+    requires { has_mdx options.now.parse.constructs ≡ false }
+{
+    for (first, _) in rows {
+        for (second, _) in others {
+            if !is_joined(alloc, first, second, options)? {
                 return Ok(Some(first));
             }
         }
