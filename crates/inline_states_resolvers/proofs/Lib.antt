@@ -1,3 +1,4 @@
 pub mod Containers
 pub mod Ordered
 pub mod Steps
+pub mod GfmAutolinkLiteral

@@ -5,6 +5,7 @@ use Rattle.engine_events.specs.declared.event.Event.{Event}
 use Rattle.engine_edits.specs.Edits.{Placed}
 use Rattle.markdown_engine.specs.Context.{Context}
 use Rattle.inline_states_resolvers.specs.Attention.{nothing_sought, run_edit, run_edits, sought, with_index}
+use Rattle.inline_states_resolvers.specs.GfmAutolinkLiteral.{address_edit, address_edits, links_after, links_before}
 use Rattle.inline_states_resolvers.specs.Data.{data_edits, seam_edit}
 use Rattle.inline_states_resolvers.specs.Whitespace.{index_edit, white_edits}
 
@@ -23,6 +24,22 @@ white_start in_text hard bytes events = refl
 pub white_more : (in_text hard : Bool) (bytes : List ℕ) (events : List Event) (i : ℕ) → white_edits in_text hard bytes events (i + 1) ≡ index_edit in_text hard bytes events i (white_edits in_text hard bytes events i)
 unfolding white_edits
 white_more in_text hard bytes events i = ap (white_edits in_text hard bytes events) (add-one i)
+
+pub links_start : (events : List Event) → links_before events 0 ≡ 0
+unfolding links_before
+links_start events = refl
+
+pub links_more : (events : List Event) (i : ℕ) → links_before events (i + 1) ≡ links_after (slice_get events i) (links_before events i)
+unfolding links_before
+links_more events i = ap (links_before events) (add-one i)
+
+pub addresses_start : (bytes : List ℕ) (events : List Event) → address_edits bytes events 0 ≡ []
+unfolding address_edits
+addresses_start bytes events = refl
+
+pub addresses_more : (bytes : List ℕ) (events : List Event) (i : ℕ) → address_edits bytes events (i + 1) ≡ address_edit bytes events (links_before events i) i (address_edits bytes events i)
+unfolding address_edits
+addresses_more bytes events i = ap (address_edits bytes events) (add-one i)
 
 pub runs_start : (events : List Event) (entries : List ℕ) (runs : List Run) (edits : List Placed) → run_edits events entries runs 0 edits ≡ edits
 unfolding run_edits

@@ -5,7 +5,8 @@ pub mod Each
 pub mod Data
 pub mod LabelEnd
 pub mod Attention
-pub mod Views
 pub mod Whitespace
+pub mod GfmAutolinkLiteral
+pub mod Views
 pub mod Resolving
 pub mod ResolvingLaws

@@ -1,5 +1,5 @@
 -- What the resolvers of texts and strings do: each makes its edits, if these leave whole events.
-use Rattle.std.specs.Prelude.{ℕ, Bool, true, false, length}
+use Rattle.std.specs.Prelude.{ℕ, Bool, true, false, if◌then◌else◌, length}
 use Rattle.engine_events.specs.declared.resolve.Name.{Name as Resolver}
 use Rattle.engine_events.specs.declared.resolve.Name.TheVariants as resolvers
 use Rattle.markdown_engine.specs.Context.{Context}
@@ -8,6 +8,7 @@ use Rattle.markdown_engine.specs.Resolving.{Resolves, nothing_found}
 use Rattle.inline_states_resolvers.specs.Attention.{attention_edits}
 use Rattle.inline_states_resolvers.specs.Data.{data_edits}
 use Rattle.inline_states_resolvers.specs.Edited.{with_edited}
+use Rattle.inline_states_resolvers.specs.GfmAutolinkLiteral.{address_edits}
 use Rattle.inline_states_resolvers.specs.LabelEnd.{label_edits}
 use Rattle.inline_states_resolvers.specs.Whitespace.{white_edits}
 
@@ -23,8 +24,15 @@ module _ {T M : Type 0} (is_punctuation : ℕ → Bool) (x : Context T) where
   attention_resolved c = with_edited (attention_edits is_punctuation x c.events) c
 
   -- texts lose white space at their ends, too
+  abbrev pub text_trimmed : Config M → Config M
+  text_trimmed c = with_edited (white_edits true x.options.constructs.hard_break_trailing x.bytes c.events (length c.events)) c
+
+  -- where literals are on, email addresses are found
+  abbrev pub text_linked : Config M → Config M
+  text_linked c = if x.options.constructs.gfm_autolink_literal then with_edited (address_edits x.bytes c.events (length c.events)) c else c
+
   abbrev pub text_resolved : Config M → Config M
-  text_resolved c = with_edited (white_edits true x.options.constructs.hard_break_trailing x.bytes c.events (length c.events)) c
+  text_resolved c = text_linked (text_trimmed c)
 
   abbrev pub string_resolved : Config M → Config M
   string_resolved c = with_edited (white_edits false false x.bytes c.events (length c.events)) c

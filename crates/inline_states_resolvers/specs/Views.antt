@@ -1,9 +1,12 @@
--- What the runs' resolver holds, as its definition has it.
+-- What the code of resolvers holds, as its definition has it.
+use Rattle.std.specs.Prelude.{ℕ, List}
 use Rattle.engine_edits.specs.Edits.{edits_of}
 use Rattle.inline_runs.specs.View.{runs_view}
 use Rattle.inline_states_resolvers.specs.declared.attention.Search.{Search}
 use Rattle.inline_states_resolvers.specs.declared.attention.Writing.{Writing}
+use Rattle.inline_states_resolvers.specs.declared.gfm_autolink_literal.Linking.{Linking}
 use Rattle.inline_states_resolvers.specs.Attention.{Sought, Written}
+use Rattle.inline_states_resolvers.specs.GfmAutolinkLiteral as literal
 
 module _ {A : Type 0} where
   abbrev pub written_view : Writing A → Written
@@ -11,3 +14,7 @@ module _ {A : Type 0} where
 
   abbrev pub sought_view : Search A → Sought
   sought_view s = record { entries = s.entries.items; runs = runs_view s.runs.items; starts = s.starts.items; edits = edits_of s.edits }
+
+  -- with the bytes that come next
+  abbrev pub linking_view : Linking A → List ℕ → literal.Linking
+  linking_view l run = literal.linking l.events.items l.point run

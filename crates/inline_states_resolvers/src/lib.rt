@@ -3,6 +3,7 @@
 
 pub mod attention;
 pub mod edited;
+pub mod gfm_autolink_literal;
 pub mod label_end;
 pub mod partial_data;
 pub mod partial_whitespace;

@@ -53,7 +53,7 @@ fn column_past(column: usize, part: &[u8]) -> usize
 }
 
 /// The place after some bytes of a line.
-fn place_past(point: Point, part: &[u8]) -> Point
+pub(crate) fn place_past(point: Point, part: &[u8]) -> Point
     ensures { result ≡ place_past point part.now }
 {
     if part.is_empty() {
@@ -165,7 +165,7 @@ fn tail_name(breaks: bool) -> Name
 }
 
 /// Adds something between two places.
-fn push_around<A: Allocator>(
+pub(crate) fn push_around<A: Allocator>(
     events: &mut Vec<Event, A>,
     name: Name,
     from: Point,
@@ -182,7 +182,7 @@ fn push_around<A: Allocator>(
 }
 
 /// Adds something between two places, if it is there.
-fn push_if<A: Allocator>(
+pub(crate) fn push_if<A: Allocator>(
     there: bool,
     events: &mut Vec<Event, A>,
     name: Name,
@@ -224,13 +224,13 @@ fn trimmed<A: Allocator>(
 }
 
 /// The bytes of data that begins at an index.
-fn data_part<'a>(trimming: &Trimming<'a>, events: &[Event], index: usize) -> &'a [u8]
+pub(crate) fn data_part<'a>(bytes: &'a [u8], events: &[Event], index: usize) -> &'a [u8]
     requires { index < 2 ^ 64 - 1 }
-    ensures { result.now ≡ data_part trimming.now.bytes.now events.now index }
+    ensures { result.now ≡ data_part bytes.now events.now index }
 {
     let from = place_at(events, index).index;
     let to = place_at(events, index + 1).index;
-    part(trimming.bytes, from, to.saturating_sub(from))
+    part(bytes, from, to.saturating_sub(from))
 }
 
 /// Whether data that begins at an index is cut at its start.
@@ -338,7 +338,7 @@ fn add_index<A: Allocator + Clone>(
     if !is_data_at(Kind::Exit, events, index + 1) {
         return Ok(());
     }
-    let part = data_part(trimming, events, index);
+    let part = data_part(trimming.bytes, events, index);
     let head = head_size(begins(trimming.in_text, events, index), part);
     add_part(edits, alloc, trimming, events, index, part, head)
 }

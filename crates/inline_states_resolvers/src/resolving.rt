@@ -3,10 +3,11 @@ ghost use Rattle.std.specs.Prelude.{◌≡◌, OnOk, IfErr};
 ghost use Rattle.markdown_options.specs.Messages.{IsOutOfMemory};
 ghost use Rattle.markdown_engine.specs.Machine.{config, read_with};
 ghost use Rattle.inline_states_resolvers.specs.Resolving.{attention_resolved, data_resolved, inline_resolved, label_resolved, resolved_config};
-ghost use Rattle.inline_states_resolvers.specs.Resolving.{string_resolved, text_resolved};
+ghost use Rattle.inline_states_resolvers.specs.Resolving.{string_resolved, text_linked, text_resolved, text_trimmed};
 
 use crate::attention::attention_edits;
 use crate::edited::make;
+use crate::gfm_autolink_literal::address_edits;
 use crate::label_end::label_edits;
 use crate::partial_data::data_edits;
 use crate::partial_whitespace::{Trimming, white_edits};
@@ -56,10 +57,10 @@ pub fn resolve_attention<M, T: Tables, A: Allocator + Clone>(
 }
 
 /// Cuts white space off the ends of a text, and of its lines.
-pub fn resolve_text<M, T: Tables, A: Allocator + Clone>(
+fn trim_text<M, T: Tables, A: Allocator + Clone>(
     tokenizer: &mut Tokenizer<'_, M, T, A>,
 ) -> Result<(), Message>
-    ensures became { OnOk result (config tokenizer.new ≡ text_resolved (T.punctuation_of (read_with tokenizer.old).tables) (read_with tokenizer.old) (config tokenizer.old)) }
+    ensures became { OnOk result (config tokenizer.new ≡ text_trimmed (T.punctuation_of (read_with tokenizer.old).tables) (read_with tokenizer.old) (config tokenizer.old)) }
     ensures parse_state { tokenizer.new.parse_state ≡ tokenizer.old.parse_state }
     ensures memory { IfErr result (λ message. IsOutOfMemory message) }
 {
@@ -71,6 +72,39 @@ pub fn resolve_text<M, T: Tables, A: Allocator + Clone>(
     let alloc = tokenizer.events.allocator().clone()?;
     let edits = white_edits(alloc, &trimming, &tokenizer.events)?;
     make(tokenizer, edits)
+}
+
+/// Puts email addresses in place of data, where literals are on.
+fn link_text<M, T: Tables, A: Allocator + Clone>(
+    tokenizer: &mut Tokenizer<'_, M, T, A>,
+) -> Result<(), Message>
+    ensures became { OnOk result (config tokenizer.new ≡ text_linked (T.punctuation_of (read_with tokenizer.old).tables) (read_with tokenizer.old) (config tokenizer.old)) }
+    ensures parse_state { tokenizer.new.parse_state ≡ tokenizer.old.parse_state }
+    ensures memory { IfErr result (λ message. IsOutOfMemory message) }
+{
+    if !tokenizer
+        .parse_state
+        .options
+        .constructs
+        .gfm_autolink_literal
+    {
+        return Ok(());
+    }
+    let alloc = tokenizer.events.allocator().clone()?;
+    let edits = address_edits(&alloc, tokenizer.parse_state.bytes, &tokenizer.events)?;
+    make(tokenizer, edits)
+}
+
+/// Cuts white space off the ends of a text, and of its lines, and finds email addresses.
+pub fn resolve_text<M, T: Tables, A: Allocator + Clone>(
+    tokenizer: &mut Tokenizer<'_, M, T, A>,
+) -> Result<(), Message>
+    ensures became { OnOk result (config tokenizer.new ≡ text_resolved (T.punctuation_of (read_with tokenizer.old).tables) (read_with tokenizer.old) (config tokenizer.old)) }
+    ensures parse_state { tokenizer.new.parse_state ≡ tokenizer.old.parse_state }
+    ensures memory { IfErr result (λ message. IsOutOfMemory message) }
+{
+    trim_text(tokenizer)?;
+    link_text(tokenizer)
 }
 
 /// Cuts white space off the ends of the lines of a string.

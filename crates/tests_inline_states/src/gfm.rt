@@ -1,5 +1,6 @@
 //! Events of texts by GFM.
-use crate::display::is_gfm;
+use crate::display::{is_gfm, resolved_events};
+use markdown_engine::ParseOptions;
 use std::test::Fail;
 
 #[test]
@@ -186,5 +187,27 @@ fn what_is_no_literal(rt: HostRuntime) -> Result<(), Fail> {
              +GfmAutolinkLiteralWww6 -GfmAutolinkLiteralWww11 ",
         )?
     );
+    Ok(())
+}
+
+#[test]
+fn addresses(rt: HostRuntime) -> Result<(), Fail> {
+    let options = ParseOptions::gfm();
+    let out = resolved_events(&rt, &options, "", "", b"x a@b.c mailto:d@e.f xmpp:g@h.i/j.")?;
+    let wanted = "+Data0 -Data2 +GfmAutolinkLiteralEmail2 -GfmAutolinkLiteralEmail7 +Data7 -Data8 \
+         +GfmAutolinkLiteralMailto8 -GfmAutolinkLiteralMailto20 +Data20 -Data21 \
+         +GfmAutolinkLiteralXmpp21 -GfmAutolinkLiteralXmpp33 +Data33 -Data34 ";
+    assert!(rt; out.as_str() == wanted);
+    let out = resolved_events(&rt, &options, "", "", b"*a@b.c*")?;
+    let wanted = "+Emphasis0 +EmphasisSequence0 -EmphasisSequence1 +EmphasisText1 \
+         +GfmAutolinkLiteralEmail1 -GfmAutolinkLiteralEmail6 -EmphasisText6 +EmphasisSequence6 \
+         -EmphasisSequence7 -Emphasis7 ";
+    assert!(rt; out.as_str() == wanted);
+    let out = resolved_events(&rt, &options, "", "a@b.c", b"[^a@b.c]@")?;
+    let wanted = "+GfmFootnoteCall0 +Label0 +GfmFootnoteCallLabel0 +LabelMarker0 -LabelMarker1 \
+         +GfmFootnoteCallMarker1 -GfmFootnoteCallMarker2 -GfmFootnoteCallLabel2 +LabelText2 \
+         +Data2 -Data7 -LabelText7 +LabelEnd7 +LabelMarker7 -LabelMarker8 -LabelEnd8 -Label8 \
+         -GfmFootnoteCall8 +Data8 -Data9 ";
+    assert!(rt; out.as_str() == wanted);
     Ok(())
 }
