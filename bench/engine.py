@@ -1,9 +1,11 @@
 #!/usr/bin/env python3
-"""Prints how many steps a second the tokenizer takes, by a machine that consumes every byte, on plain paragraphs.
+"""Prints how much a second a program counts in a text, and its time: steps of the tokenizer, events or rows.
 
-    engine.py [PROGRAM] [BYTES]
+    engine.py [PROGRAM] [BYTES] [plain|dense]
 
-PROGRAM is `crates/engine_bench`, built by `rt run`. The best of 20 rounds counts; reading the text is part of the time.
+PROGRAM is `crates/engine_bench`, which counts steps, or `engine_bench_text`, events, or `inline_bench_rows`, rows, built by
+`rt run`. A plain text has paragraphs of words, a dense one a construct in every four bytes. The best of 20 rounds counts;
+reading the text is part of the time.
 """
 import os
 import subprocess
@@ -13,6 +15,7 @@ import time
 
 HERE = os.path.dirname(os.path.abspath(__file__))
 ROUNDS = 20
+DENSE = b"a [b](c 'd') *e* **f** `g` &amp; \\! <h:i> <j k='l'> ![m](n) [o] ~p~\n" * 4 + b"\n"
 
 
 def seconds(program, path):
@@ -23,15 +26,24 @@ def seconds(program, path):
         return time.perf_counter() - start, int(out)
 
 
+def write(path, size, kind):
+    """Writes a text of about so many bytes."""
+    with open(path, "wb") as out:
+        if kind == "dense":
+            out.write(DENSE * (int(size) // len(DENSE)))
+        else:
+            subprocess.run([sys.executable, HERE + "/paragraphs.py", size], stdout=out, check=True)
+
+
 def main():
     program = sys.argv[1] if len(sys.argv) > 1 else HERE + "/../crates/engine_bench/out/engine_bench"
     size = sys.argv[2] if len(sys.argv) > 2 else "10000000"
+    kind = sys.argv[3] if len(sys.argv) > 3 else "plain"
     with tempfile.TemporaryDirectory() as folder:
         path = folder + "/text"
-        with open(path, "wb") as out:
-            subprocess.run([sys.executable, HERE + "/paragraphs.py", size], stdout=out, check=True)
+        write(path, size, kind)
         best, steps = min(seconds(program, path) for _ in range(ROUNDS))
-    print("%d steps in %.1f ms: %.0f million a second" % (steps, best * 1000, steps / best / 1e6))
+    print("%d in %.1f ms: %.0f million a second" % (steps, best * 1000, steps / best / 1e6))
 
 
 main()

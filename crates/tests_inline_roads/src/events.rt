@@ -1,7 +1,8 @@
 //! Events of a text, spelled.
-use crate::rows::{push_definition, push_part, push_resource};
+use crate::rows::{push_check, push_definition, push_literal, push_part, push_resource};
 use engine_text::bytes::part;
 use inline_labels::LabelTable;
+use inline_leaves::LiteralKind;
 use markdown_engine::event::{Event, Kind, Name};
 use markdown_options::Tables;
 use markdown_tables::Builtin;
@@ -145,6 +146,52 @@ impl<'a> Read<'a> {
         }
     }
 
+    /// The text of a call between two events.
+    fn call_text(&self, from: usize, to: usize) -> &'a [u8] {
+        let start = self.find(from, to, Kind::Enter, Name::LabelText);
+        let end = self.find_last(from, to, Kind::Exit, Name::LabelText);
+        self.between(start.unwrap_or(from), end.unwrap_or(to))
+    }
+
+    /// A link with no brackets that is entered at an index; answers whether it is that. In a link
+    /// it is text.
+    fn push_literal(
+        &self,
+        out: &mut Vec<u8>,
+        name: Name,
+        from: usize,
+        to: usize,
+    ) -> Result<bool, Fail> {
+        let kind = match name {
+            Name::GfmAutolinkLiteralWww => LiteralKind::Www,
+            Name::GfmAutolinkLiteralEmail => LiteralKind::Email,
+            Name::GfmAutolinkLiteralProtocol => LiteralKind::Protocol,
+            Name::GfmAutolinkLiteralMailto => LiteralKind::Protocol,
+            Name::GfmAutolinkLiteralXmpp => LiteralKind::Protocol,
+            _ => return Ok(false),
+        };
+        if self.is_in_link(from) {
+            out.extend_from_slice(self.between(from, to))?;
+        } else {
+            push_literal(out, kind, self.between(from, to))?;
+        }
+        Ok(true)
+    }
+
+    /// Whether an index is in a link.
+    fn is_in_link(&self, index: usize) -> bool {
+        let mut depth = 0usize;
+        for at in 0..index {
+            if self.is_at(at, Kind::Enter, Name::Link) {
+                depth = depth.saturating_add(1);
+            }
+            if self.is_at(at, Kind::Exit, Name::Link) {
+                depth = depth.saturating_sub(1);
+            }
+        }
+        depth > 0
+    }
+
     /// What is entered at an index and holds no other; answers whether it is that.
     fn push_whole(
         &self,
@@ -171,7 +218,12 @@ impl<'a> Read<'a> {
             Name::HtmlText => push_part(out, b"html ", self.between(from, to))?,
             Name::HardBreakEscape => push_part(out, b"break", b"\\")?,
             Name::HardBreakTrailing => push_part(out, b"break", b" ")?,
-            _ => return Ok(false),
+            Name::GfmFootnoteCall => push_part(out, b"call ", self.call_text(from, to))?,
+            Name::GfmTaskListItemCheck => {
+                let done = self.find(from, to, Kind::Enter, Name::GfmTaskListItemValueChecked);
+                push_check(out, done.is_some())?;
+            },
+            _ => return self.push_literal(out, name, from, to),
         }
         Ok(true)
     }

@@ -61,6 +61,50 @@ const PARTS: [&str; 56] = [
     "\"",
 ];
 
+/// What contents of GFM have besides.
+const GFM_PARTS: [&str; 40] = [
+    "www.",
+    "www.a.b",
+    "WWW.a_b",
+    "http://",
+    "https://a.b",
+    "hTTp://c_d.e",
+    "https",
+    "w",
+    "h",
+    "@",
+    "a@b.c",
+    "d.e@f-g.h",
+    "mailto:",
+    "xmpp:",
+    "mailto:a@b.c",
+    "xmpp:a@b.c/d",
+    "/",
+    "_",
+    ".",
+    ",",
+    "?",
+    "(",
+    ")",
+    "&lt;",
+    "-",
+    "+",
+    "[^a]",
+    "[^A]",
+    "[^x]",
+    "[^",
+    "[^b]",
+    "![^a]",
+    "^",
+    "[x]",
+    "[ ]",
+    "[x] ",
+    "~",
+    "~~",
+    "<",
+    "\u{1F44D}",
+];
+
 /// Numbers that look random, and are the same each time.
 #[derive(Clone, Copy)]
 pub struct Numbers {
@@ -84,19 +128,21 @@ impl Numbers {
     }
 
     /// A part at random.
-    fn part(&mut self) -> &'static str {
-        let place = self.below(PARTS.len());
-        PARTS.get(place).copied().unwrap_or("a")
+    fn part(&mut self, gfm: bool) -> &'static str {
+        let of_gfm = gfm && self.below(2) == 0;
+        let parts: &[&'static str] = if of_gfm { &GFM_PARTS } else { &PARTS };
+        let place = self.below(parts.len());
+        parts.get(place).copied().unwrap_or("a")
     }
 
     /// A content at random, of up to 24 parts: no line of it is blank.
-    pub fn content(&mut self, rt: &HostRuntime) -> Result<String, Fail> {
+    pub fn content(&mut self, rt: &HostRuntime, gfm: bool) -> Result<String, Fail> {
         let mut text = String::new(rt.alloc());
         let count = self.below(24);
         let mut blank = true;
         text.push_str("")?;
         for _index in 0..count {
-            let part = self.part();
+            let part = self.part(gfm);
             let ends = part.ends_with("\n");
             if ends && blank {
                 continue;

@@ -4,9 +4,15 @@
 #[cfg(test)]
 mod compare;
 #[cfg(test)]
+mod contents;
+#[cfg(test)]
 mod events;
 #[cfg(test)]
 mod generate;
+#[cfg(test)]
+mod parts;
+#[cfg(test)]
+mod roads;
 #[cfg(test)]
 mod rows;
 #[cfg(test)]

@@ -1,5 +1,5 @@
 //! Rows of inline structure, spelled.
-use inline_leaves::LeafPart;
+use inline_leaves::{LeafPart, LiteralKind};
 use inline_rows::{InlineRow, LinkTarget};
 use inline_runs::Span;
 use std::test::Fail;
@@ -36,6 +36,21 @@ pub fn push_part(out: &mut Vec<u8>, name: &[u8], text: &[u8]) -> Result<(), Fail
     Ok(())
 }
 
+/// A link with no brackets, by what it leads to.
+pub fn push_literal(out: &mut Vec<u8>, kind: LiteralKind, text: &[u8]) -> Result<(), Fail> {
+    match kind {
+        LiteralKind::Www => push_part(out, b"www ", text),
+        LiteralKind::Protocol => push_part(out, b"protocol ", text),
+        LiteralKind::Email => push_part(out, b"email ", text),
+    }
+}
+
+/// A check of a task list item.
+pub fn push_check(out: &mut Vec<u8>, done: bool) -> Result<(), Fail> {
+    let sign: &[u8] = if done { b"x" } else { b"" };
+    push_part(out, b"check", sign)
+}
+
 fn push_target(out: &mut Vec<u8>, target: &LinkTarget<'_>) -> Result<(), Fail> {
     match target {
         LinkTarget::Definition(place) => push_definition(out, *place),
@@ -66,7 +81,7 @@ fn push_leaf(out: &mut Vec<u8>, part: &LeafPart<'_>) -> Result<(), Fail> {
             Ok(())
         },
         LeafPart::Autolink { text, .. } => push_part(out, b"autolink ", text.as_bytes()),
-        LeafPart::Literal { text, .. } => push_part(out, b"literal ", text.as_bytes()),
+        LeafPart::Literal { kind, text } => push_literal(out, *kind, text.as_bytes()),
         LeafPart::Html(text) => push_part(out, b"html ", text.as_bytes()),
         LeafPart::EscapedBreak => push_part(out, b"break", b"\\"),
         LeafPart::TrailingBreak => push_part(out, b"break", b" "),
@@ -98,11 +113,10 @@ fn push_row(out: &mut Vec<u8>, row: &InlineRow<'_>) -> Result<(), Fail> {
     }
 }
 
-/// Rows, spelled.
-pub fn spelled(rt: &HostRuntime, rows: &[InlineRow<'_>]) -> Result<Vec<u8>, Fail> {
-    let mut out = Vec::new(rt.alloc());
+/// Adds rows, spelled.
+pub fn push_rows(out: &mut Vec<u8>, rows: &[InlineRow<'_>]) -> Result<(), Fail> {
     for row in rows {
-        push_row(&mut out, row)?;
+        push_row(out, row)?;
     }
-    Ok(out)
+    Ok(())
 }

@@ -51,3 +51,31 @@ pub const TEXTS: [&str; 48] = [
     "[*a*][a] ![*b*]",
     "\u{201C}*a*\u{201D}*b*\u{E9}*c*",
 ];
+
+/// Contents with each construct of GFM, alone and in others.
+pub const GFM_TEXTS: [&str; 24] = [
+    "www.a.b http://c.d https://e_f.g.",
+    "(www.a.b) www.a.b) *www.a.b* _http://a_b.c.d_",
+    "[www.a.b](c) ![www.a.b](c) [http://a ![www.b](c)](d)",
+    "www.a&amp; www.a&b;c www.a]b www.a](b) [www.a](b",
+    "a@b.c mailto:d@e.f xmpp:g@h.i/j",
+    "[a@b.c](d) ![a@b.c](d) *a@b.c* **a@b.c_",
+    "a_b@c.d a*b@c.d a~b@c.d a`b`@c.d",
+    "a@b c@d. @e.f g@h_.i j@k.l- /m@n.o",
+    "a\nb@c.d  \ne@f.g\\\nh@i.j",
+    "  a@b.c  ",
+    "a@b.c@d.e f@g.h.i,",
+    "xmpp:a@b.c/d/e amailto:f@g.h 1xmpp:i@j.k/l",
+    "www.a@b.c http://a@b.c [b@c.d",
+    "\u{E9}a@b.c\u{E9} a@b.c\u{E9}",
+    "[^a] [^A][^x] [^b] ![^a]",
+    "[^a](b) [^b](c) [^b][a] [a][^x]",
+    "[a [^x] b](c) [a [^b] c](d) [^x [^a]]",
+    "[^*a*] [^`a`] [^a\nb] [^^d] [^]",
+    "*[^a*] [^a]* ~[^x]~",
+    "[x] a",
+    "[X]\nb",
+    "[ ] *c*",
+    "[x]a",
+    "[ ]",
+];

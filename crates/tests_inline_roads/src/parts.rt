@@ -1,0 +1,102 @@
+//! Contents that are handed to the machine in ranges, and heaps in which memory runs out.
+use crate::contents::CONTENTS;
+use crate::generate::Numbers;
+use crate::roads::{Roads, full};
+use crate::texts::{GFM_TEXTS, TEXTS};
+use inline_states::reading::{read_text, read_text_in_ranges, resolved_text};
+use linked_list_allocator::LocalHeap;
+use markdown_engine::Message;
+use std::test::Fail;
+
+/// How much a heap grows from one reading to the next, which is less than most requests.
+const STEP: usize = 32;
+
+/// How many times a heap may grow until it has more than a content needs.
+const STEPS: usize = 4096;
+
+/// Whether the events of a content are the same in two ranges, wherever it is cut.
+fn is_same_in_ranges(rt: &HostRuntime, roads: &Roads, text: &str) -> Result<bool, Fail> {
+    let state = roads.state(rt.alloc(), text)?;
+    let whole = read_text(rt.alloc(), &state, &[0])?;
+    for index in 0..state.bytes.len() {
+        let parts = read_text_in_ranges(rt.alloc(), &state, &[0], &[(index, 0)])?;
+        if parts.as_slice() != whole.as_slice() {
+            println!(rt; "{text:?} cut at {index}")?;
+            return Ok(false);
+        }
+    }
+    Ok(true)
+}
+
+/// Whether the events of a content come in a heap of some size, and each smaller one refuses them.
+fn is_same_in_heaps(rt: &HostRuntime, roads: &Roads, text: &str) -> Result<bool, Fail> {
+    let state = roads.state(rt.alloc(), text)?;
+    let whole = resolved_text(rt.alloc(), &state, &[0])?;
+    for steps in 0..STEPS {
+        let heap = LocalHeap::new(rt.alloc(), steps * STEP)?;
+        let events = match roads.state(&heap, text) {
+            Ok(state) => resolved_text(&heap, &state, &[0]),
+            Err(message) => Err(message),
+        };
+        match events {
+            Ok(events) => return Ok(events.as_slice() == whole.as_slice()),
+            Err(message) if message == Message::out_of_memory() => {},
+            Err(_) => return Ok(false),
+        }
+    }
+    Ok(false)
+}
+
+#[test]
+fn contents_in_ranges(rt: HostRuntime) -> Result<(), Fail> {
+    let roads = Roads::new(&rt, full())?;
+    for text in TEXTS {
+        assert!(rt; is_same_in_ranges(&rt, &roads, text)?);
+    }
+    for text in GFM_TEXTS {
+        assert!(rt; is_same_in_ranges(&rt, &roads, text)?);
+    }
+    Ok(())
+}
+
+#[test]
+fn contents_of_constructs_in_ranges(rt: HostRuntime) -> Result<(), Fail> {
+    let roads = Roads::new(&rt, full())?;
+    for contents in CONTENTS {
+        for text in contents.split("\n\n") {
+            assert!(rt; is_same_in_ranges(&rt, &roads, text)?);
+        }
+    }
+    Ok(())
+}
+
+#[test]
+fn contents_at_random_in_ranges(rt: HostRuntime) -> Result<(), Fail> {
+    let roads = Roads::new(&rt, full())?;
+    let mut numbers = Numbers::from(5);
+    for _count in 0..200 {
+        let text = numbers.content(&rt, true)?;
+        assert!(rt; is_same_in_ranges(&rt, &roads, &text)?);
+    }
+    Ok(())
+}
+
+#[test]
+fn contents_in_heaps(rt: HostRuntime) -> Result<(), Fail> {
+    let roads = Roads::new(&rt, full())?;
+    for text in GFM_TEXTS {
+        assert!(rt; is_same_in_heaps(&rt, &roads, text)?);
+    }
+    Ok(())
+}
+
+#[test]
+fn contents_at_random_in_heaps(rt: HostRuntime) -> Result<(), Fail> {
+    let roads = Roads::new(&rt, full())?;
+    let mut numbers = Numbers::from(6);
+    for _count in 0..20 {
+        let text = numbers.content(&rt, true)?;
+        assert!(rt; is_same_in_heaps(&rt, &roads, &text)?);
+    }
+    Ok(())
+}

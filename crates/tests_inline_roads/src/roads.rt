@@ -1,0 +1,150 @@
+//! What comes of a content by either road.
+use crate::events::Read;
+use crate::rows;
+use crate::rows::push_check;
+use inline_content::whole_content;
+use inline_labels::LabelTable;
+use inline_leaves::gfm_task_list_item::check_at;
+use inline_parser::{Room, content_start, inline_rows};
+use inline_states::reading::resolved_text;
+use markdown_engine::{Message, ParseState};
+use markdown_options::{Constructs, ParseOptions};
+use markdown_tables::Builtin;
+use std::alloc::{AllocError, Allocator, Global};
+use std::test::Fail;
+
+/// The labels that are defined.
+const LABELS: [&str; 5] = ["a", "b c", "foo", "bar", "ref"];
+
+/// The labels of the footnotes that are defined.
+const FOOTNOTES: [&str; 3] = ["a", "^d", "x"];
+
+/// CommonMark, with strikethrough and math.
+pub fn plain() -> ParseOptions {
+    ParseOptions {
+        constructs: Constructs {
+            gfm_strikethrough: true,
+            math_text: true,
+            ..Constructs::default()
+        },
+        ..ParseOptions::default()
+    }
+}
+
+/// GFM, with math.
+pub fn full() -> ParseOptions {
+    ParseOptions {
+        constructs: Constructs {
+            math_text: true,
+            ..Constructs::gfm()
+        },
+        ..ParseOptions::default()
+    }
+}
+
+/// Labels by their places.
+fn table(rt: &HostRuntime, labels: &[&str]) -> Result<LabelTable<Global>, Fail> {
+    let mut table = LabelTable::new(rt.alloc())?;
+    for (place, label) in labels.iter().enumerate() {
+        table.insert(label.as_bytes(), place)?;
+    }
+    Ok(table)
+}
+
+/// Adds labels.
+fn push_labels<A: Allocator + Clone>(
+    all: &mut Vec<String<A>, A>,
+    alloc: &A,
+    labels: &[&str],
+) -> Result<(), AllocError> {
+    for label in labels {
+        all.push(String::from_str(alloc.clone()?, label)?)?;
+    }
+    Ok(())
+}
+
+/// What contents are read with.
+#[derive(Drop)]
+pub struct Roads {
+    options: ParseOptions,
+    labels: LabelTable<Global>,
+    footnotes: LabelTable<Global>,
+}
+
+impl Roads {
+    pub fn new(rt: &HostRuntime, options: ParseOptions) -> Result<Roads, Fail> {
+        Ok(Roads {
+            options,
+            labels: table(rt, &LABELS)?,
+            footnotes: table(rt, &FOOTNOTES)?,
+        })
+    }
+
+    /// A content by its rows, spelled. It may begin with a check.
+    pub fn by_rows(&self, rt: &HostRuntime, text: &str) -> Result<Vec<u8>, Fail> {
+        let mut out = Vec::new(rt.alloc());
+        let content = whole_content(text.len(), text);
+        let mut start = content_start(content);
+        let first = start.len() == text.len();
+        if let Some(check) = check_at(&self.options.constructs, first, start) {
+            push_check(&mut out, check.done)?;
+            start = check.after;
+        }
+        let mut room = Room::new(rt.alloc())?;
+        let found = inline_rows(
+            &mut room,
+            &self.options,
+            &Builtin,
+            &self.labels,
+            &self.footnotes,
+            content,
+            start,
+        )?;
+        rows::push_rows(&mut out, &found)?;
+        Ok(out)
+    }
+
+    /// A text with the labels that are defined, in some heap.
+    pub fn state<'a, A: Allocator + Clone>(
+        &'a self,
+        alloc: A,
+        text: &'a str,
+    ) -> Result<ParseState<'a, Builtin, A>, Message> {
+        let mut state = ParseState::new(alloc.clone()?, text.as_bytes(), &self.options, &Builtin)?;
+        push_labels(&mut state.definitions, &alloc, &LABELS)?;
+        push_labels(&mut state.gfm_footnote_definitions, &alloc, &FOOTNOTES)?;
+        Ok(state)
+    }
+
+    /// A content by its events, spelled. It may begin with a check.
+    pub fn by_events(&self, rt: &HostRuntime, text: &str) -> Result<Vec<u8>, Fail> {
+        let state = self.state(rt.alloc(), text)?;
+        let events = resolved_text(rt.alloc(), &state, &[0])?;
+        let read = Read {
+            events: &events,
+            bytes: text.as_bytes(),
+            labels: &self.labels,
+        };
+        read.spelled(rt)
+    }
+
+    /// Whether a content is the same by both roads; where it isn't, it is printed.
+    pub fn is_same(&self, rt: &HostRuntime, text: &str) -> Result<bool, Fail> {
+        let rows = self.by_rows(rt, text)?;
+        let events = self.by_events(rt, text)?;
+        if rows.as_slice() == events.as_slice() {
+            return Ok(true);
+        }
+        let rows = shown(&rows);
+        let events = shown(&events);
+        println!(rt; "{text:?}\n  rows   {rows:?}\n  events {events:?}")?;
+        Ok(false)
+    }
+}
+
+fn shown(text: &[u8]) -> &str {
+    match str::from_utf8(text) {
+        Ok(text) => text,
+        Err(_) => "no UTF-8",
+    }
+}
