@@ -19,14 +19,26 @@ pub struct ByteClass {
 pub fn run_of(bytes: &[u8], class: ByteClass) -> usize
     ensures { result ≡ position_or_len (is_outside class) bytes.now }
 {
+    if bytes.len() < LANES {
+        return run_in_few(bytes, class);
+    }
+    let last = bytes.len() - LANES;
     let mut at = 0;
-    'by_block: while bytes.len() - at >= LANES {
+    'by_block: while at < last {
         let run = run_in(bytes, at, class);
         if run < LANES {
             return at + run;
         }
         at += LANES;
     }
+    last + run_in(bytes, last, class)
+}
+
+/// The same in few bytes, looked at one by one.
+fn run_in_few(bytes: &[u8], class: ByteClass) -> usize
+    ensures { result ≡ position_or_len (is_outside class) bytes.now }
+{
+    let mut at = 0;
     while at < bytes.len() && !is_outside(class, bytes[at]) {
         at += 1;
     }

@@ -21,14 +21,26 @@ pub(crate) const LANES: usize = 16;
 pub fn next_of(bytes: &[u8], set: ByteSet) -> usize
     ensures { result ≡ position_or_len (holds set) bytes.now }
 {
+    if bytes.len() < LANES {
+        return next_in_few(bytes, set);
+    }
+    let last = bytes.len() - LANES;
     let mut at = 0;
-    'by_block: while bytes.len() - at >= LANES {
+    'by_block: while at < last {
         let run = run_in(bytes, at, set);
         if run < LANES {
             return at + run;
         }
         at += LANES;
     }
+    last + run_in(bytes, last, set)
+}
+
+/// The same in few bytes, looked at one by one.
+fn next_in_few(bytes: &[u8], set: ByteSet) -> usize
+    ensures { result ≡ position_or_len (holds set) bytes.now }
+{
+    let mut at = 0;
     while at < bytes.len() && !holds(set, bytes[at]) {
         at += 1;
     }

@@ -1,4 +1,4 @@
-use Rattle.std.proofs.Common.{◌+◌, sym, arith, inl, inr}
+use Rattle.std.proofs.Common.{◌+◌, ◌-◌, length, sym, arith, inl, inr}
 use Rattle.std.proofs.lemmas.Bool.{cases_lt}
 use Rattle.std.proofs.lemmas.List.Sums.{position_or_len_is}
 use Rattle.text_search.specs.Sets.{holds}
@@ -11,10 +11,10 @@ returns-then-run-lt-LANES c =
     (λ k below. elim (cases_lt k c.by_block.at) [ inl early ↦ c.by_block.invariant.1 k early | inr late ↦ run.passed k late below ])
     (λ inside. run.hit c.if-run-lt-LANES.true))
 
-pub returns-else-not-holds : goal.returns-else-not-holds
-returns-else-not-holds c =
-    sym (position_or_len_is (holds c.args.set) c.args.bytes.now c.loop-at.at 0 c.loop-at.invariant.0 c.loop-at.invariant.1 (λ inside. sym c.if-not-holds.ensures))
-
-pub returns-after-loop-at : goal.returns-after-loop-at
-returns-after-loop-at c =
-    sym (position_or_len_is (holds c.args.set) c.args.bytes.now c.loop-at.at 0 c.loop-at.invariant.0 c.loop-at.invariant.1 (λ inside. absurd (omega (arith, c.loop-at-test.false, inside))))
+pub returns : goal.returns
+returns c =
+    let run = c.run_in.ensures in
+    let last = c.if-bytes-lt-LANES.false in
+    sym (position_or_len_is (holds c.args.set) c.args.bytes.now (length c.args.bytes.now - 16 + c.run_in.result) 0 (omega (arith, run.within, last))
+    (λ k below. elim (cases_lt k c.by_block.at) [ inl early ↦ c.by_block.invariant.1 k early | inr late ↦ run.passed k (omega (arith, late, c.by_block-test.false)) below ])
+    (λ inside. run.hit (omega (arith, inside, last))))

@@ -8,9 +8,3 @@ invariant-by_block l = (l.at ≤ length l.bytes) × ((k : ℕ) → k < l.at → 
 
 abbrev pub decreases-by_block : goal.decreases-by_block
 decreases-by_block l = length l.bytes - l.at
-
-abbrev pub invariant-loop-at : goal.invariant-loop-at
-invariant-loop-at l = (l.at ≤ length l.bytes) × ((k : ℕ) → k < l.at → holds l.set (get_or l.bytes k 0) ≡ false)
-
-abbrev pub decreases-loop-at : goal.decreases-loop-at
-decreases-loop-at l = length l.bytes - l.at
