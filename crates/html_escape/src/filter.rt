@@ -21,8 +21,8 @@ use text_search::ByteSet;
 
 /// NUL and `<`.
 const OPENINGS: ByteSet = ByteSet {
-    first: [0, 0, 0, 0, 0, 0, 0, 0, 0, 0, 0, 0, b'<', 0, 0, 0],
-    second: [1, 0, 0, 0, 0, 0, 0, 0, 0, 0, 0, 0, 0, 0, 0, 0],
+    first: [0, 2, 3, 4, 5, 6, 7, 8, 9, 10, 11, 12, b'<', 14, 15, 0],
+    second: [1, 2, 3, 4, 5, 6, 7, 8, 9, 10, 11, 12, 13, 14, 15, 0],
 };
 
 /// The `<` of filtered tags is replaced.

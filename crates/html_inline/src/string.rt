@@ -29,9 +29,9 @@ use text_search::{ByteSet, next_of};
 /// The bytes at which something may begin in a string: `\\`, `&`, line endings, spaces and tabs.
 const STARTS: ByteSet = ByteSet {
     first: [
-        b' ', 0, 0, 0, 0, 0, b'&', 0, 0, b'\t', b'\n', 0, b'\\', b'\r', 0, 0,
+        b' ', 2, 3, 4, 5, 6, b'&', 8, 9, b'\t', b'\n', 12, b'\\', b'\r', 15, 0,
     ],
-    second: [b' ', 0, 0, 0, 0, 0, 0, 0, 0, 0, 0, 0, 0, 0, 0, 0],
+    second: [b' ', 2, 3, 4, 5, 6, 7, 8, 9, 10, 11, 12, 13, 14, 15, 0],
 };
 
 /// Prints the text that a string stands for (CommonMark 2.4 and 2.5).

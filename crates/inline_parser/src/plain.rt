@@ -19,18 +19,18 @@ use text_search::{ByteSet, next_of};
 /// The bytes that are no space or tab at which a construct may start (CommonMark 6).
 const STARTS: ByteSet = ByteSet {
     first: [
-        b'`', b'!', 0, 0, b'$', 0, b'&', 0, 0, 0, b'*', b'[', b'\\', b']', b'~', b'_',
+        b'`', b'!', 3, 4, b'$', 6, b'&', 8, 9, 10, b'*', b'[', b'\\', b']', b'~', b'_',
     ],
-    second: [1, 0, 0, 0, 0, 0, 0, 0, 0, 0, b'\n', 0, b'<', b'\r', 0, 0],
+    second: [1, 2, 3, 4, 5, 6, 7, 8, 9, 10, b'\n', 12, b'<', b'\r', 15, 0],
 };
 
 /// The same bytes, and the letters that a literal may begin with (GFM 6.9).
 const STARTS_OR_LETTERS: ByteSet = ByteSet {
     first: [
-        b'`', b'!', 0, 0, b'$', 0, b'&', b'w', b'h', 0, b'*', b'[', b'\\', b']', b'~', b'_',
+        b'`', b'!', 3, 4, b'$', 6, b'&', b'w', b'h', 10, b'*', b'[', b'\\', b']', b'~', b'_',
     ],
     second: [
-        1, 0, 0, 0, 0, 0, 0, b'W', b'H', 0, b'\n', 0, b'<', b'\r', 0, 0,
+        1, 2, 3, 4, 5, 6, 7, b'W', b'H', 10, b'\n', 12, b'<', b'\r', 15, 0,
     ],
 };
 
