@@ -48,7 +48,6 @@ SHARED = {
     "definition_inline/Attention.antt": "gfm_strikethrough",
     "definition_inline/NextPair.antt": "attention gfm_strikethrough",
     "definition_inline/Pairing.antt": "attention gfm_strikethrough",
-    "definition_inline/References.antt": "character_reference",
     "definition_inline/Resource.antt": "label_end",
     "definition_inline/RunPairs.antt": "attention gfm_strikethrough",
     "definition_inline/Scan.antt": "label_start_image label_start_link",

@@ -1,6 +1,6 @@
 -- The named character references that are built in: the 252 names of HTML 4 and 44 more of HTML 5.
 use Rattle.std.specs.Prelude.{ℕ, List, ◌++◌, codes}
-use Rattle.definition_inline.specs.References.{Names}
+use Rattle.definition_inline.specs.CharacterReference.{Names}
 use Rattle.definition_inline.specs.ReferenceRows.{Row, rows, text_in}
 
 -- their rows as a text

@@ -1,9 +1,9 @@
 -- Character references (CommonMark 2.5): `&` a name `;`, `&#` 1 to 7 digits `;`, `&#x` or `&#X` 1 to 6 hexadecimal digits `;`.
-use Rattle.std.specs.Prelude.{ℕ, ◌+◌, ◌-◌, ◌*◌, ◌%◌, Bool, if◌then◌else◌, ◌==◌, ◌&&◌, ◌||◌, nat_le, nat_lt, List, [], ◌∷◌, Option, None, Some, take, drop, length}
+use Rattle.std.specs.Prelude.{ℕ, ◌+◌, ◌-◌, ◌*◌, ◌%◌, Bool, if◌then◌else◌, ◌==◌, ◌&&◌, ◌||◌, nat_le, List, [], ◌∷◌, Option, None, Some, take, drop, length}
 use Rattle.std.specs.Char.{is_ascii_digit, is_ascii_hexdigit, is_ascii_alphanumeric, digit_value, encode_utf8}
+use Rattle.std.specs.Int.{is_in_range}
 use Rattle.std.specs.List.{prefix_len, fold}
 use Rattle.markdown_options.specs.declared.configuration.Constructs.{Constructs}
-use Rattle.definition_text.specs.Encode.{replacement_character}
 use Rattle.definition_text.specs.Content.{Part, part}
 use Rattle.definition_inline.specs.Inline.{Leaf, leaf, Character}
 
@@ -63,19 +63,26 @@ abbrev pub reference_form : List ℕ → Option CharacterReference
 reference_form [] = None
 reference_form (c ∷ cs) = if c == 38 then reference_after cs else None
 
--- a number that stands for no character that is printed as it is: NUL, the control characters but tab, line feed, form feed and return, surrogates, noncharacters, and all above U+10FFFF
+-- a number that stands for no character of a text: NUL, the control characters but tab, line feed, form feed and return, surrogates, noncharacters, and all above U+10FFFF
 abbrev pub is_replaced : ℕ → Bool
 is_replaced number =
-    nat_le number 8 || ((number == 11) || ((nat_le 14 number && nat_le number 31) || ((nat_le 127 number && nat_le number 159)
-    || ((nat_le 0xD800 number && nat_le number 0xDFFF) || ((nat_le 0xFDD0 number && nat_le number 0xFDEF)
-    || (nat_le 0xFFFE (number % 0x1_0000) || nat_lt 0x10_FFFF number))))))
+    nat_le number 8 || (number == 11) || is_in_range 14 31 number || is_in_range 127 159 number
+    || is_in_range 0xD800 0xDFFF number || is_in_range 0xFDD0 0xFDEF number || nat_le 0xFFFE (number % 0x1_0000) || nat_le 0x11_0000 number
 
--- the bytes that a number stands for (CommonMark 2.5)
+-- the character that a number stands for: U+FFFD in place of those (CommonMark 2.5)
+abbrev pub character_of : ℕ → ℕ
+character_of number = if is_replaced number then 0xFFFD else number
+
+-- its bytes
 abbrev pub numbered_text : ℕ → List ℕ
-numbered_text number = if is_replaced number then replacement_character else encode_utf8 number
+numbered_text number = encode_utf8 (character_of number)
 
--- the bytes that a name or a number stands for, where the names are given by a table
-abbrev pub reference_text : (List ℕ → Option (List ℕ)) → CharacterName → Option (List ℕ)
+-- the names that are known: the text of each, and none for the others
+abbrev pub Names : Type 0
+Names = List ℕ → Option (List ℕ)
+
+-- the bytes that a name or a number stands for
+abbrev pub reference_text : Names → CharacterName → Option (List ℕ)
 reference_text names (Named name) = names name
 reference_text names (Numbered number) = Some (numbered_text number)
 
@@ -85,10 +92,10 @@ reference_leaf size None = None
 reference_leaf size (Some text) = Some (leaf (Character text ∷ []) size)
 
 -- a reference of this form in a content
-abbrev pub reference_of : (List ℕ → Option (List ℕ)) → List ℕ → Option CharacterReference → Option Leaf
+abbrev pub reference_of : Names → List ℕ → Option CharacterReference → Option Leaf
 reference_of names content None = None
 reference_of names content (Some found) = reference_leaf (length content - length found.rest) (reference_text names found.name)
 
 -- a character reference, whose name the table has (CommonMark 2.5)
-abbrev pub reference_at : Constructs → (List ℕ → Option (List ℕ)) → List ℕ → Option Leaf
+abbrev pub reference_at : Constructs → Names → List ℕ → Option Leaf
 reference_at on names content = if on.character_reference then reference_of names content (reference_form content) else None

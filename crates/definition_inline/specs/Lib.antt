@@ -27,7 +27,6 @@ pub mod Spans
 pub mod Scan
 pub mod LabelPairs
 pub mod Strings
-pub mod References
 pub mod ReferenceRows
 pub mod BuiltinReferences
 pub mod Decoded

@@ -9,7 +9,7 @@ use Rattle.definition_text.specs.Content.{before}
 use Rattle.definition_text.specs.InlineCode.{InlineCode, codes_of}
 use Rattle.definition_inline.specs.Inline.{Target, Inline, Data, Link, Image, Call, Inlines, Leaf, or_else}
 use Rattle.definition_inline.specs.CharacterEscape.{escape_at}
-use Rattle.definition_inline.specs.CharacterReference.{reference_at}
+use Rattle.definition_inline.specs.CharacterReference.{Names, reference_at}
 use Rattle.definition_inline.specs.CodeText.{code_text_at}
 use Rattle.definition_inline.specs.MathText.{math_text_at}
 use Rattle.definition_inline.specs.Autolink.{autolink_at}
@@ -24,7 +24,7 @@ use Rattle.definition_inline.specs.Spans.{Token, Item, Delimiters, emphasized}
 -- what a content is read by: the options, the texts of named characters, and whether a label is that of a link reference definition, and of a footnote definition, of the document
 pub record InlineContext : Type 0 where
   pub options : ParseOptions
-  pub names : List ℕ → Option (List ℕ)
+  pub names : Names
   pub is_defined : List ℕ → Bool
   pub is_footnote : List ℕ → Bool
 

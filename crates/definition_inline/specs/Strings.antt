@@ -6,7 +6,7 @@ use Rattle.definition_text.specs.Columns.{indent, bare}
 use Rattle.definition_text.specs.Content.{is_eol}
 use Rattle.definition_inline.specs.Inline.{Inline, Data, Escape, Character, LineEnd, Leaf, leaf, or_else}
 use Rattle.definition_inline.specs.CharacterEscape.{escape_at}
-use Rattle.definition_inline.specs.CharacterReference.{reference_at}
+use Rattle.definition_inline.specs.CharacterReference.{Names, reference_at}
 use Rattle.definition_inline.specs.HardBreak.{line_end_at}
 
 -- a line ending comes first
@@ -19,7 +19,7 @@ abbrev pub spaces_at : List ℕ → Option Leaf
 spaces_at content = if nat_le 1 (indent content) && begins_with_eol (bare content) then Some (leaf [] (indent content)) else None
 
 -- what a string begins with: an escape, a character reference, or a line ending with the spaces and tabs around it
-abbrev pub string_leaf_at : Constructs → (List ℕ → Option (List ℕ)) → List ℕ → Option Leaf
+abbrev pub string_leaf_at : Constructs → Names → List ℕ → Option Leaf
 string_leaf_at on names content =
     or_else (escape_at on content) (or_else (reference_at on names content) (or_else (line_end_at content) (spaces_at content)))
 
@@ -29,7 +29,7 @@ or_byte code None = leaf (Data code ∷ []) 1
 or_byte code (Some found) = found
 
 -- the parts of a string, of which so many codes are taken already
-abbrev pub string_parts : Constructs → (List ℕ → Option (List ℕ)) → ℕ → List ℕ → List Inline
+abbrev pub string_parts : Constructs → Names → ℕ → List ℕ → List Inline
 string_parts on names k [] = []
 string_parts on names zero (c ∷ cs) =
     let found = or_byte c (string_leaf_at on names (c ∷ cs)) in found.parts ++ string_parts on names (found.size - 1) cs
@@ -48,5 +48,5 @@ string_bytes (LineEnd code) = eol_bytes code
 string_bytes i = []
 
 -- the text that a string stands for (CommonMark 2.4 and 2.5)
-abbrev pub string_text : Constructs → (List ℕ → Option (List ℕ)) → List ℕ → List ℕ
+abbrev pub string_text : Constructs → Names → List ℕ → List ℕ
 string_text on names string = flat_map string_bytes (string_parts on names 0 string)

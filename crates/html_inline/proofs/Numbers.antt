@@ -5,11 +5,7 @@ use Rattle.std.specs.Char.{encode_utf8}
 use Rattle.std.specs.Int.{is_in_range}
 use Rattle.std.proofs.lemmas.Bool.{cases_Bool, cond-true, le-leb, leb-true, leb-false}
 use Rattle.std.proofs.Math.Nat.{le-mul_of_pos_right, mul-zero}
-use Rattle.definition_text.specs.Encode.{replacement_character}
-use Rattle.definition_inline.specs.CharacterReference as written
-use Rattle.definition_inline.specs.References as references
-use Rattle.inline_references.proofs.ReferenceForms as forms
-use Rattle.inline_references.proofs.ReferenceForms.{same_replaced}
+use Rattle.definition_inline.specs.CharacterReference.{is_replaced, character_of, numbered_text}
 
 -- the greatest number that fits
 abbrev pub greatest : ℕ
@@ -24,25 +20,27 @@ is_large n h = leb-false n greatest h
 exceeds : (n : ℕ) → nat_le n greatest ≡ false → greatest ≡ min n greatest
 exceeds n h = omega (arith, leb-false n greatest h)
 
-or_true : (t : Bool) → (t || true) ≡ true
-or_true true = refl
-or_true false = refl
-
-large_replaced : (n : ℕ) → 0x10_FFFF < n → written.is_replaced n ≡ true
+large_replaced : (n : ℕ) → 0x10_FFFF < n → is_replaced n ≡ true
 large_replaced n large =
     let front = nat_le n 8 || (n == 11) || is_in_range 14 31 n || is_in_range 127 159 n || is_in_range 0xD800 0xDFFF n || is_in_range 0xFDD0 0xFDEF n || nat_le 0xFFFE (n % 0x1_0000) in
-    same_replaced n ∙ ap (λ t. front || t) (le-leb 0x11_0000 n (omega arith)) ∙ or_true front
+    ap (λ t. front || t) (le-leb 0x11_0000 n (omega arith)) ∙ or_true front
+  where
+    or_true : (t : Bool) → (t || true) ≡ true
+    or_true true = refl
+    or_true false = refl
 
--- the text of a number, by the character of one that stops at the greatest that fits
-pub number_text : (n : ℕ) → written.numbered_text n ≡ encode_utf8 (references.character_of (min n greatest))
-number_text n = elim (cases_Bool (nat_le n greatest)) [
-  | inl h ↦ forms.number_text n ∙ ap (λ m. encode_utf8 (references.character_of m)) (fits n h)
+-- the character of a number, by that of one that stops at the greatest that fits
+same_character : (n : ℕ) → character_of n ≡ character_of (min n greatest)
+same_character n = elim (cases_Bool (nat_le n greatest)) [
+  | inl h ↦ ap character_of (fits n h)
   | inr h ↦
-      cond-true (written.is_replaced n) replacement_character (encode_utf8 n) (large_replaced n (omega (arith, is_large n h)))
-      ∙ sym (cond-true (written.is_replaced greatest) replacement_character (encode_utf8 greatest) (large_replaced greatest (omega arith)))
-      ∙ forms.number_text greatest
-      ∙ ap (λ m. encode_utf8 (references.character_of m)) (exceeds n h)
+      cond-true (is_replaced n) 0xFFFD n (large_replaced n (omega (arith, is_large n h)))
+      ∙ sym (cond-true (is_replaced greatest) 0xFFFD greatest (large_replaced greatest (omega arith)))
+      ∙ ap character_of (exceeds n h)
 ]
+
+pub number_text : (n : ℕ) → numbered_text n ≡ encode_utf8 (character_of (min n greatest))
+number_text n = ap encode_utf8 (same_character n)
 
 -- ---- one more digit
 

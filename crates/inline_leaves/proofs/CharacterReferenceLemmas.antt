@@ -1,27 +1,22 @@
 -- Character references in codes and in bytes.
-use Rattle.std.proofs.Common.{◌≡◌, ℕ, ◌+◌, ◌-◌, List, [], ◌∷◌, Bool, true, false, cond, ◌&&◌, ◌||◌, eqb, leb, Option, None, Some, refl, sym, ap, ◌∙◌, get_or, length, drop, take, arith, inl, inr}
-use Rattle.std.proofs.lemmas.Bool.{cases_Bool, cond-true, eqb-true, eqb-false}
-use Rattle.std.proofs.lemmas.Str.{IsCharBoundary-before_ascii}
-use Rattle.std.specs.Str.{IsCharBoundary}
+use Rattle.std.proofs.Common.{◌≡◌, ℕ, suc, ◌+◌, ◌-◌, List, [], ◌∷◌, ◌++◌, Bool, true, false, cond, ◌&&◌, ◌||◌, eqb, leb, Option, None, Some, refl, sym, ap, ◌∙◌, append_assoc, get_or, length, length-append, drop, take, arith, inl, inr}
+use Rattle.std.proofs.lemmas.Bool.{cases_Bool, cond-true, cond-false, eqb-true, eqb-false, ne_eqb}
 use Rattle.std.proofs.lemmas.List.Sums.{prefix_len-le-length}
-use Rattle.std.proofs.lemmas.List.{drop-drop, length-drop, length-take-le, get_or-drop}
+use Rattle.std.proofs.lemmas.List.{drop-drop, take-append-drop}
+use Rattle.std.proofs.Math.Seq.{drop-append_seam, get_or-append_seam}
 use Rattle.std.specs.Char.{is_ascii_digit, is_ascii_hexdigit, is_ascii_alphanumeric}
 use Rattle.std.specs.List.{prefix_len}
 use Rattle.std.specs.Option.{option_map}
 use Rattle.markdown_options.specs.declared.configuration.Constructs.{Constructs}
 use Rattle.definition_text.specs.Content.{Part, part, content_codes}
-use Rattle.definition_text.specs.Bytes.{begins_with}
-use Rattle.inline_leaves.proofs.Fronts.{begun}
-use Rattle.definition_inline.specs.CharacterReference.{CharacterReference, character_reference, before_semicolon, terminated, numbered, named, number_reference, reference_after, reference_form, reference_text, reference_leaf, reference_of, reference_at}
-use Rattle.definition_inline.specs.References as values
-use Rattle.definition_inline.specs.References.{value_text}
-use Rattle.inline_references.proofs.ReferenceForms.{name_in, span_of, same_form, same_meaning}
-use Rattle.inline_references.specs.Places.{IsPlaced, reference_of as seen_reference}
-use Rattle.inline_references.specs.declared.reference.Reference.{Reference}
+use Rattle.definition_inline.specs.CharacterReference.{CharacterReference, character_reference, Names, before_semicolon, terminated, numbered, named, number_reference, reference_after, reference_form, reference_text, reference_leaf, reference_of, reference_at}
+use Rattle.inline_references.specs.Markers.{marker_size}
+use Rattle.inline_references.specs.Places.{IsCutFrom}
+use Rattle.inline_references.specs.declared.reference.CharacterReference.{CharacterReference as TextReference}
 use Rattle.std.proofs.lemmas.Option.{none-some, same_Some}
 use Rattle.definition_inline.specs.Inline.{Inline, leaf}
-use Rattle.inline_leaves.specs.Leaves.{IsEnd, character_parts, size_before}
-use Rattle.inline_leaves.proofs.Codes.{at_return, plain_code, prefix_codes, prefix_plain, plain_take, plain_drop, end_after}
+use Rattle.inline_leaves.specs.Leaves.{IsAfter, character_parts, size_before}
+use Rattle.inline_leaves.proofs.Codes.{at_return, plain_code, prefix_codes, prefix_plain, plain_take, plain_drop, is_after, cut_after_byte}
 
 -- a part and a reference, with what follows in codes
 abbrev coded : Part → Part
@@ -107,7 +102,7 @@ after_codes (c ∷ cs) = elim (cases_Bool (eqb c 13)) [
     by_case a b x y true e f = e
     by_case a b x y false e f = f
 
-pub form_codes : (xs : List ℕ) → reference_form (content_codes xs) ≡ option_map coded_reference (reference_form xs)
+form_codes : (xs : List ℕ) → reference_form (content_codes xs) ≡ option_map coded_reference (reference_form xs)
 form_codes [] = refl
 form_codes (c ∷ cs) = elim (cases_Bool (eqb c 13)) [
   | inl h ↦
@@ -122,59 +117,50 @@ form_codes (c ∷ cs) = elim (cases_Bool (eqb c 13)) [
     by_case true e = e
     by_case false e = refl
 
--- ---- by places
+by_form : (on : Constructs) (names : Names) (xs : List ℕ) → on.character_reference ≡ true
+    → reference_at on names (content_codes xs) ≡ reference_of names (content_codes xs) (option_map coded_reference (reference_form xs))
+by_form on names xs is_on = cond-true _ _ _ is_on ∙ ap (reference_of names (content_codes xs)) (form_codes xs)
 
--- after an `&`
-ampersand_form : (xs : List ℕ) → begins_with (38 ∷ []) xs ≡ true → reference_form xs ≡ option_map (span_of (drop 1 xs)) (values.reference_at (drop 1 xs))
-ampersand_form xs there = ap reference_form (begun (38 ∷ []) xs there) ∙ same_form (drop 1 xs)
+-- ---- after an `&`
 
-pub reference_none : (on : Constructs) (names : List ℕ → Option (List ℕ)) (xs : List ℕ) → on.character_reference ≡ true → begins_with (38 ∷ []) xs ≡ true
-    → None ≡ values.reference_at (drop 1 xs) → reference_at on names (content_codes xs) ≡ None
-reference_none on names xs is_on there none =
-    let form : reference_form xs ≡ None = ampersand_form xs there ∙ ap (option_map (span_of (drop 1 xs))) (sym none) in
-    cond-true _ _ _ is_on ∙ ap (reference_of names (content_codes xs)) (form_codes xs ∙ ap (option_map coded_reference) form)
-
-pub reference_some : (on : Constructs) (names : List ℕ → Option (List ℕ)) (xs : List ℕ) (r : Reference) → on.character_reference ≡ true → begins_with (38 ∷ []) xs ≡ true
-    → IsPlaced (drop 1 xs) r → Some (seen_reference (drop 1 xs) r) ≡ values.reference_at (drop 1 xs)
-    → reference_at on names (content_codes xs) ≡ reference_leaf (size_before xs (drop (r.end + 2) xs)) (value_text names r.marker (take (r.end - r.start) (drop (r.start + 1) xs)))
-reference_some on names xs r is_on there placed found =
-    let after = drop 1 xs in
-    let seen = seen_reference after r in
-    let form : reference_form xs ≡ Some (span_of after seen) = ampersand_form xs there ∙ ap (option_map (span_of after)) (sym found) in
-    let value : length seen.value ≡ r.end - r.start = length-take-le (r.end - r.start) (drop r.start after) (omega (arith, placed.within, placed.nonempty, length-drop r.start after)) in
-    let size : values.reference_size seen ≡ r.end + 1 = omega (arith, value, placed.start, placed.nonempty) in
-    let rest : drop (values.reference_size seen) after ≡ drop (r.end + 2) xs =
-    ap (λ k. drop k after) size ∙ drop-drop (r.end + 1) 1 xs ∙ ap (λ k. drop k xs) (three r.end) in
-    let start : drop r.start after ≡ drop (r.start + 1) xs = drop-drop r.start 1 xs ∙ ap (λ k. drop k xs) (two r.start) in
-    cond-true _ _ _ is_on ∙ ap (reference_of names (content_codes xs)) (form_codes xs ∙ ap (option_map coded_reference) form)
-    ∙ ap (λ ys. reference_leaf (size_before xs ys) (reference_text names (name_in seen))) rest
-    ∙ ap (reference_leaf (size_before xs (drop (r.end + 2) xs))) (same_meaning names seen ∙ ap (λ ys. value_text names r.marker (take (r.end - r.start) ys)) start)
+pub reference_other : (on : Constructs) (names : Names) (xs : List ℕ) → on.character_reference ≡ true → ((rest : List ℕ) → xs ≡ 38 ∷ rest → ⊥)
+    → reference_at on names (content_codes xs) ≡ None
+reference_other on names xs is_on other = by_form on names xs is_on ∙ ap (λ o. reference_of names (content_codes xs) (option_map coded_reference o)) (no_form xs other)
   where
-    three : (k : ℕ) → 1 + (k + 1) ≡ k + 2
-    three k = omega arith
+    no_form : (xs : List ℕ) → ((rest : List ℕ) → xs ≡ 38 ∷ rest → ⊥) → reference_form xs ≡ None
+    no_form [] other = refl
+    no_form (c ∷ cs) other = cond-false (eqb c 38) (reference_after cs) None (ne_eqb c 38 (λ e. other cs (ap (λ x. x ∷ cs) e)))
 
-    two : (k : ℕ) → 1 + k ≡ k + 1
-    two k = omega arith
+pub reference_none : (on : Constructs) (names : Names) (xs after : List ℕ) → on.character_reference ≡ true → xs ≡ 38 ∷ after → None ≡ reference_after after
+    → reference_at on names (content_codes xs) ≡ None
+reference_none on names xs after is_on is none =
+    by_form on names xs is_on ∙ ap (λ o. reference_of names (content_codes xs) (option_map coded_reference o)) (ap reference_form is ∙ sym none)
 
--- ---- where a value stands
+pub reference_some : (on : Constructs) (names : Names) (xs after : List ℕ) (r : CharacterReference) → on.character_reference ≡ true → xs ≡ 38 ∷ after
+    → Some r ≡ reference_after after → reference_at on names (content_codes xs) ≡ reference_leaf (size_before xs r.rest) (reference_text names r.name)
+reference_some on names xs after r is_on is found =
+    by_form on names xs is_on ∙ ap (λ o. reference_of names (content_codes xs) (option_map coded_reference o)) (ap reference_form is ∙ sym found)
 
-pub value_start : (xs : List ℕ) (r : Reference) → IsPlaced (drop 1 xs) r → IsCharBoundary xs (r.start + 1)
-value_start xs r placed =
-    let place : 1 + r.start ≡ r.start + 1 = omega arith in
-    let first : get_or (drop 1 xs) r.start 0 ≡ get_or xs (r.start + 1) 0 = get_or-drop 1 xs r.start 0 ∙ ap (λ k. get_or xs k 0) place in
-    IsCharBoundary-before_ascii xs (r.start + 1) (omega (arith, placed.nonempty, placed.within, length-drop 1 xs)) (omega (arith, placed.first, first))
+-- what follows a byte that isn't CR
+after_byte : (xs front rest : List ℕ) (b : ℕ) → xs ≡ front ++ b ∷ rest → (b ≡ 13 → ⊥) → IsAfter xs rest
+after_byte xs front rest b is apart =
+    let size : length xs ≡ length front + suc (length rest) = ap length is ∙ length-append front (b ∷ rest) in
+    let last : get_or xs (length front) 0 ≡ b = ap (λ x. get_or x (length front) 0) is ∙ get_or-append_seam front b rest 0 in
+    let first : suc (length front) - 1 ≡ length front = omega arith in
+    let place : rest ≡ drop (suc (length front)) xs =
+    sym (ap (drop 1) (ap (drop (length front)) is ∙ drop-append_seam front (b ∷ rest))) ∙ drop-drop 1 (length front) xs ∙ ap (λ n. drop n xs) (add_one (length front)) in
+    is_after xs rest (suc (length front)) place (omega arith) (omega arith) (cut_after_byte xs (suc (length front)) (omega arith) (λ e. apart (sym last ∙ ap (λ k. get_or xs k 0) (sym first) ∙ e)))
+  where
+    add_one : (n : ℕ) → n + 1 ≡ suc n
+    add_one n = omega arith
 
-pub value_stop : (xs : List ℕ) (r : Reference) → IsPlaced (drop 1 xs) r → IsCharBoundary xs (r.end + 1)
-value_stop xs r placed =
-    let place : 1 + r.end ≡ r.end + 1 = omega arith in
-    let next : get_or (drop 1 xs) r.end 0 ≡ get_or xs (r.end + 1) 0 = get_or-drop 1 xs r.end 0 ∙ ap (λ k. get_or xs k 0) place in
-    IsCharBoundary-before_ascii xs (r.end + 1) (omega (arith, placed.within, length-drop 1 xs)) (omega (arith, placed.semicolon, next))
-
-pub value_end : (xs : List ℕ) (r : Reference) → IsPlaced (drop 1 xs) r → IsEnd xs (r.end + 2)
-value_end xs r placed =
-    let place : 1 + r.end ≡ r.end + 2 - 1 = omega arith in
-    let last : get_or xs (r.end + 2 - 1) 0 ≡ 59 = ap (λ k. get_or xs k 0) (sym place) ∙ sym (get_or-drop 1 xs r.end 0) ∙ placed.semicolon in
-    end_after xs (r.end + 2) (omega arith) (omega (arith, placed.within, length-drop 1 xs)) (omega arith) (λ e. omega arith)
+-- what follows a reference
+pub after_reference : (xs after : List ℕ) (r : TextReference) → xs ≡ 38 ∷ after → IsCutFrom after r → IsAfter xs r.rest.now
+after_reference xs after r is cut =
+    let front = 38 ∷ take (marker_size r.marker) after in
+    let parts : xs ≡ (front ++ r.value.now) ++ 59 ∷ r.rest.now =
+    is ∙ ap (λ x. 38 ∷ x) (sym (take-append-drop (marker_size r.marker) after)) ∙ ap (λ x. front ++ x) cut.parts ∙ sym (append_assoc front r.value.now (59 ∷ r.rest.now)) in
+    after_byte xs (front ++ r.value.now) r.rest.now 59 parts (λ e. omega arith)
 
 -- a reference whose text is known or not
 pub unknown_leaf : (size : ℕ) (text : Option (List ℕ)) → None ≡ option_map character_parts text → reference_leaf size text ≡ None

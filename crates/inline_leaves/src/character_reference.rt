@@ -8,12 +8,11 @@ ghost use Rattle.std.specs.Prelude.{◌≡◌, IfSome};
 ghost use Rattle.std.specs.Option.{option_map};
 ghost use Rattle.definition_inline.specs.CharacterReference.{reference_at};
 ghost use Rattle.definition_text.specs.Content.{content_codes};
-ghost use Rattle.definition_inline.specs.References.{value_text};
+ghost use Rattle.inline_references.specs.Markers.{value_text};
 ghost use Rattle.inline_leaves.specs.Leaves.{found_leaf, character_parts, parts_of, IsAfter};
 
-use crate::cut::{cut_after, text_between};
 use crate::leaf::{Leaf, LeafPart};
-use inline_links::part::from;
+use inline_references::character_reference;
 use markdown_options::{Constructs, Tables};
 
 /// A character reference, whose name is known (CommonMark 2.5).
@@ -25,16 +24,14 @@ pub fn reference_at<'a, T: Tables>(
     ensures read { found_leaf content.now result ≡ reference_at on.now (T.reference_of tables.now) (content_codes content.now) }
     ensures place { IfSome result (λ found. IsAfter content.now found.after.now) }
 {
-    let bytes = content.as_bytes();
-    if !on.character_reference || !bytes.starts_with(b"&") {
+    if !on.character_reference {
         return None;
     }
-    let found = inline_references::reference_at(from(bytes, 1))?;
-    let value = text_between(content, found.start + 1, found.end + 1);
-    let part = value_part(found.marker, value, tables)?;
+    let found = character_reference(content.strip_prefix('&')?)?;
+    let part = value_part(found.marker, found.value, tables)?;
     Some(Leaf {
         part,
-        after: cut_after(content, found.end + 2),
+        after: found.rest,
     })
 }
 

@@ -1,11 +1,55 @@
 -- Decoded texts, part by part.
-use Rattle.std.proofs.Common.{◌≡◌, ℕ, zero, suc, ◌+◌, ◌<◌, true, false, List, [], ◌∷◌, ◌++◌, Option, None, Some, refl, sym, ap, ◌∙◌, inl, inr, eqb, length, take, drop, arith, not, subst}
+use Rattle.std.proofs.Common.{◌≡◌, ℕ, zero, suc, ◌+◌, ◌-◌, ◌<◌, true, false, List, [], ◌∷◌, ◌++◌, Option, None, Some, refl, sym, ap, ◌∙◌, inl, inr, eqb, length, take, drop, arith, not, subst, length-append}
 use Rattle.std.specs.Prelude.{is_some, unwrap_or}
 use Rattle.std.specs.List.{position_or_len, before_first, after_first, list_all}
 use Rattle.std.specs.Option.{option_map, option_and_then}
 use Rattle.std.proofs.lemmas.Bool.{cases_Bool, cond-true, cond-false, eqb-true, and_parts}
-use Rattle.definition_inline.specs.References.{Names, Reference, reference_at, reference_size, value_text}
-use Rattle.definition_inline.specs.Decoded.{Replacement, replaced, replacement_of, decoded_after, decoded}
+use Rattle.std.proofs.Math.Seq.{drop-append_seam}
+use Rattle.definition_text.specs.Content.{Part, part}
+use Rattle.definition_inline.specs.CharacterReference.{CharacterName, CharacterReference, Names, reference_after, reference_form, reference_text}
+use Rattle.definition_inline.specs.Decoded.{known_text, known_at, replaced, decoded_after, decoded}
+use Rattle.inline_references.specs.Grammar.{IsWritten, name, digits, lower_x, upper_x}
+use Rattle.inline_references.proofs.Written.{written_is_read, read_is_written}
+
+-- ---- known references
+
+-- one that is written
+pub known_written : (names : Names) (front rest text : List ℕ) (n : CharacterName) → IsWritten front n → reference_text names n ≡ Some text
+    → known_at names (front ++ rest) ≡ Some (part text rest)
+known_written names front rest text n w t =
+    ap (option_and_then (known_text names)) (written_is_read front rest n w) ∙ ap (option_map (λ x. part x rest)) t
+
+-- how one is written
+pub record HasReference (names : Names) (bytes : List ℕ) (p : Part) : Type 0 where
+  pub front : List ℕ
+  pub name : CharacterName
+  pub written : IsWritten front name
+  pub text : reference_text names name ≡ Some p.text
+  pub is : bytes ≡ front ++ p.rest
+
+with_text : (names : Names) (bytes : List ℕ) (p : Part) (r : CharacterReference) → reference_form bytes ≡ Some r → (text : Option (List ℕ)) → reference_text names r.name ≡ text
+    → option_map (λ x. part x r.rest) text ≡ Some p → HasReference names bytes p
+with_text names bytes p r e None t h = cc
+with_text names bytes p r e (Some text) t h =
+    let w = read_is_written bytes r e in
+    let is : part text r.rest ≡ p = cc in
+    record {
+      front = w.0;
+      name = r.name;
+      written = w.1;
+      text = t ∙ ap (λ (x : Part). Some x.text) is;
+      is = w.2 ∙ ap (λ (x : Part). w.0 ++ x.rest) is;
+    }
+
+with_form : (names : Names) (bytes : List ℕ) (p : Part) (found : Option CharacterReference) → reference_form bytes ≡ found
+    → option_and_then (known_text names) found ≡ Some p → HasReference names bytes p
+with_form names bytes p None e h = cc
+with_form names bytes p (Some r) e h = with_text names bytes p r e (reference_text names r.name) refl h
+
+pub known_has : (names : Names) (bytes : List ℕ) (p : Part) → known_at names bytes ≡ Some p → HasReference names bytes p
+known_has names bytes p h = with_form names bytes p (reference_form bytes) refl h
+
+-- ---- what they leave
 
 -- leaving out bytes
 decoded-drop : (names : Names) (skipped : ℕ) (bytes : List ℕ) → decoded_after names skipped bytes ≡ decoded names (drop skipped bytes)
@@ -13,12 +57,38 @@ decoded-drop names zero bytes = refl
 decoded-drop names (suc skipped) [] = refl
 decoded-drop names (suc skipped) (b ∷ bs) = decoded-drop names skipped bs
 
--- a byte other than `&` stays
-pub decoded_byte : (names : Names) (b : ℕ) (bs : List ℕ) → eqb b 38 ≡ false → decoded names (b ∷ bs) ≡ b ∷ decoded names bs
-decoded_byte names b bs h =
-    ap (λ r. replaced b r (λ size. decoded_after names size bs)) (cond-false (eqb b 38) (option_and_then (replacement_of names) (reference_at bs)) None h)
+cut_at : (bs front rest : List ℕ) → bs ≡ front ++ rest → drop (length bs - length rest) bs ≡ rest
+cut_at bs front rest is =
+    let size : length bs - length rest ≡ length front = omega (arith, ap length is, length-append front rest) in
+    ap (λ n. drop n bs) size ∙ ap (drop (length front)) is ∙ drop-append_seam front rest
 
--- the place of the first `&`
+-- past the first byte of a reference
+rest_after : (b : ℕ) (bs front rest : List ℕ) (n : CharacterName) → IsWritten front n → b ∷ bs ≡ front ++ rest → drop (length bs - length rest) bs ≡ rest
+rest_after b bs front rest _ (name value h) is = cut_at bs (value ++ 59 ∷ []) rest cc
+rest_after b bs front rest _ (digits value h) is = cut_at bs (35 ∷ value ++ 59 ∷ []) rest cc
+rest_after b bs front rest _ (lower_x value h) is = cut_at bs (35 ∷ 120 ∷ value ++ 59 ∷ []) rest cc
+rest_after b bs front rest _ (upper_x value h) is = cut_at bs (35 ∷ 88 ∷ value ++ 59 ∷ []) rest cc
+
+-- the text of a known reference stands in place of it
+pub decoded_known : (names : Names) (bytes : List ℕ) (p : Part) → known_at names bytes ≡ Some p → decoded names bytes ≡ p.text ++ decoded names p.rest
+decoded_known names [] p h = cc
+decoded_known names (b ∷ bs) p h =
+    let has = known_has names (b ∷ bs) p h in
+    let size = length bs - length p.rest in
+    ap (λ found. replaced b bs found (λ n. decoded_after names n bs)) h
+    ∙ ap (λ others. p.text ++ others) (decoded-drop names size bs ∙ ap (decoded names) (rest_after b bs has.front p.rest has.name has.written has.is))
+
+-- a byte that begins none stays
+pub decoded_other : (names : Names) (b : ℕ) (bs : List ℕ) → known_at names (b ∷ bs) ≡ None → decoded names (b ∷ bs) ≡ b ∷ decoded names bs
+decoded_other names b bs h = ap (λ found. replaced b bs found (λ n. decoded_after names n bs)) h
+
+-- so does one other than `&`
+decoded_byte : (names : Names) (b : ℕ) (bs : List ℕ) → eqb b 38 ≡ false → decoded names (b ∷ bs) ≡ b ∷ decoded names bs
+decoded_byte names b bs h = decoded_other names b bs (ap (option_and_then (known_text names)) (cond-false (eqb b 38) (reference_after bs) None h))
+
+-- ---- up to the first `&`
+
+-- its place
 abbrev pub place : List ℕ → ℕ
 place bytes = position_or_len (λ b. eqb b 38) bytes
 
@@ -33,7 +103,7 @@ place_other b bs h =
     let e : place (b ∷ bs) ≡ 1 + place bs = cond-true (not (eqb b 38)) (1 + place bs) 0 (ap not h) in
     omega arith
 
--- what stands before the first `&` stays
+-- what stands before it stays
 pub decoded_split : (names : Names) (bytes : List ℕ) → place bytes < length bytes → decoded names bytes ≡ before bytes ++ decoded names (38 ∷ after_and bytes)
 decoded_split names [] lt = absurd (omega arith)
 decoded_split names (b ∷ bs) lt =
@@ -63,42 +133,6 @@ decoded_none names (b ∷ bs) h =
           decoded_byte names b bs p ∙ ap (λ others. b ∷ others) (decoded_none names bs h')
     ]
 
--- a reference and what follows it
-text_or_none : (text : Option (List ℕ)) (size : ℕ) (others : ℕ → List ℕ) → is_some text ≡ true
-    → replaced 38 (option_map (λ (t : List ℕ). let r : Replacement = record { text = t; size = size } in r) text) others ≡ unwrap_or text [] ++ others size
-text_or_none None size others h = cc
-text_or_none (Some text) size others h = refl
-
-no_text : (text : Option (List ℕ)) (size : ℕ) (others : ℕ → List ℕ) → is_some text ≡ false
-    → replaced 38 (option_map (λ (t : List ℕ). let r : Replacement = record { text = t; size = size } in r) text) others ≡ 38 ∷ others 0
-no_text None size others h = refl
-no_text (Some text) size others h = cc
-
--- the text of a reference stands in place of it
-pub decoded_reference : (names : Names) (after : List ℕ) (r : Reference) → Some r ≡ reference_at after → is_some (value_text names r.marker r.value) ≡ true
-    → decoded names (38 ∷ after) ≡ unwrap_or (value_text names r.marker r.value) [] ++ decoded names (drop (reference_size r) after)
-decoded_reference names after r is known =
-    ap (λ found. replaced 38 (option_and_then (replacement_of names) found) (λ size. decoded_after names size after)) (sym is)
-    ∙ text_or_none (value_text names r.marker r.value) (reference_size r) (λ size. decoded_after names size after) known
-    ∙ ap (λ others. unwrap_or (value_text names r.marker r.value) [] ++ others) (decoded-drop names (reference_size r) after)
-
--- an `&` that begins no reference stays
-pub decoded_and : (names : Names) (after : List ℕ) → None ≡ reference_at after → decoded names (38 ∷ after) ≡ 38 ∷ decoded names after
-decoded_and names after is =
-    ap (λ found. replaced 38 (option_and_then (replacement_of names) found) (λ size. decoded_after names size after)) (sym is)
-
--- so does one of a name that isn't known
-pub decoded_unknown : (names : Names) (after : List ℕ) (r : Reference) → Some r ≡ reference_at after → is_some (value_text names r.marker r.value) ≡ false
-    → decoded names (38 ∷ after) ≡ 38 ∷ decoded names after
-decoded_unknown names after r is unknown =
-    ap (λ found. replaced 38 (option_and_then (replacement_of names) found) (λ size. decoded_after names size after)) (sym is)
-    ∙ no_text (value_text names r.marker r.value) (reference_size r) (λ size. decoded_after names size after) unknown
-
-pub none_of : (text : Option (List ℕ)) → is_some text ≡ false → unwrap_or text [] ≡ []
-none_of None h = refl
-none_of (Some text) h = cc
-
--- a text without `&` stays
 pub plain_law : (names : Names) (text : List ℕ) → list_all (λ b. not (eqb b 38)) text ≡ true → decoded names text ≡ text
 plain_law names [] h = refl
 plain_law names (b ∷ bs) h =
@@ -107,3 +141,30 @@ plain_law names (b ∷ bs) h =
       | inl p ↦ let no : false ≡ true = sym (ap not p) ∙ parts.0 in cc
       | inr p ↦ decoded_byte names b bs p ∙ ap (λ others. b ∷ others) (plain_law names bs parts.1)
     ]
+
+-- ---- a reference that was read
+
+text_known : (text : Option (List ℕ)) (rest : List ℕ) → is_some text ≡ true → option_map (λ x. part x rest) text ≡ Some (part (unwrap_or text []) rest)
+text_known None rest h = cc
+text_known (Some text) rest h = refl
+
+no_text : (text : Option (List ℕ)) (rest : List ℕ) → is_some text ≡ false → option_map (λ x. part x rest) text ≡ None
+no_text None rest h = refl
+no_text (Some text) rest h = cc
+
+-- whose text is known
+pub decoded_reference : (names : Names) (bytes : List ℕ) (r : CharacterReference) → Some r ≡ reference_form bytes → is_some (reference_text names r.name) ≡ true
+    → decoded names bytes ≡ unwrap_or (reference_text names r.name) [] ++ decoded names r.rest
+decoded_reference names bytes r is known =
+    decoded_known names bytes (part (unwrap_or (reference_text names r.name) []) r.rest)
+    (ap (option_and_then (known_text names)) (sym is) ∙ text_known (reference_text names r.name) r.rest known)
+
+-- whose name isn't known
+pub decoded_unknown : (names : Names) (b : ℕ) (bs : List ℕ) (r : CharacterReference) → Some r ≡ reference_form (b ∷ bs) → is_some (reference_text names r.name) ≡ false
+    → decoded names (b ∷ bs) ≡ b ∷ decoded names bs
+decoded_unknown names b bs r is unknown =
+    decoded_other names b bs (ap (option_and_then (known_text names)) (sym is) ∙ no_text (reference_text names r.name) r.rest unknown)
+
+pub none_of : (text : Option (List ℕ)) → is_some text ≡ false → unwrap_or text [] ≡ []
+none_of None h = refl
+none_of (Some text) h = cc

@@ -1,4 +1,4 @@
-pub mod ReferenceForms
+pub mod Marked
 pub mod Values
 pub mod Decoding
 pub mod Table

@@ -1,20 +1,17 @@
 -- The bytes and digits of values.
-use Rattle.std.proofs.Common.{◌≡◌, ℕ, ◌<◌, ◌≤◌, ◌&&◌, ◌||◌, Bool, true, List, [], ◌∷◌, inl, inr, length, drop, arith, ap, subst, sym, ◌∙◌, eqb, lit≤}
+use Rattle.std.proofs.Common.{◌≡◌, ℕ, ◌+◌, ◌*◌, ◌<◌, ◌≤◌, ◌||◌, Bool, true, List, [], ◌∷◌, refl, inl, inr, length, arith, ap, subst, eqb, lit≤}
+use Rattle.std.specs.Prelude.{◌^◌}
 use Rattle.std.specs.Char.{digit_value, is_ascii_digit, is_ascii_hexdigit}
 use Rattle.std.specs.Int.{is_in_range}
-use Rattle.std.specs.Str.Parse.{AllDigits, IsNumeral, without_leading_plus}
-use Rattle.std.specs.List.{take_while}
+use Rattle.std.specs.List.{fold, list_all}
+use Rattle.std.specs.Str.Parse.{AllDigits, IsNumeral, digits_value, digits_value_after, without_leading_plus}
 use Rattle.std.proofs.lemmas.Int.Digits.{digits_value-lt}
-use Rattle.std.proofs.lemmas.List.Sums.{take_while-cons}
 use Rattle.std.proofs.Math.Nat.{pow-le-pow_right}
 use Rattle.std.proofs.lemmas.Bool.Decides.{nat_tests}
-use Rattle.std.proofs.lemmas.Bool.{or_cases, and_parts, eqb-true, leb-true, cases_Bool, cond-true, cond-false}
+use Rattle.std.proofs.lemmas.Bool.{or_cases, and_parts, eqb-true, leb-true, cases_Bool}
 use Rattle.std.proofs.lemmas.Str.Parse.{without_leading_plus_none}
-use Rattle.definition_inline.specs.References.{is_value_byte, decimal, hexadecimal}
-use Rattle.inline_references.specs.Markers.{is_radix, IsNumber, IsDecodable}
-use Rattle.definition_inline.specs.References.{Reference, is_value, reference_at, marker_of, marker_size, value_max}
-use Rattle.definition_text.specs.Bytes.{after_all}
-use Rattle.std.specs.Prelude.{◌^◌, Some, nat_le}
+use Rattle.definition_inline.specs.CharacterReference.{number_of}
+use Rattle.inline_references.specs.Markers.{is_value_byte, value_max, decimal_marker, hexadecimal_marker, is_radix, IsNumber, IsDecodable}
 
 -- the end of a range
 in_range_below : (low high b : ℕ) → is_in_range low high b ≡ true → b ≤ high
@@ -34,10 +31,10 @@ three_ranges a b c d e f n p q r h =
 -- bytes of values are below 128
 pub value_byte_ascii : (marker b : ℕ) → is_value_byte marker b ≡ true → b < 128
 value_byte_ascii marker b h =
-    elim (cases_Bool (eqb marker hexadecimal)) [
+    elim (cases_Bool (eqb marker hexadecimal_marker)) [
       | inl x ↦ three_ranges 48 57 65 70 97 102 b (omega arith) (omega arith) (omega arith) (rw x at h)
       | inr x ↦
-          elim (cases_Bool (eqb marker decimal)) [
+          elim (cases_Bool (eqb marker decimal_marker)) [
             | inl y ↦ omega (arith, in_range_below 48 57 b (rw (x, y) at h))
             | inr y ↦ three_ranges 48 57 65 90 97 122 b (omega arith) (omega arith) (omega arith) (rw (x, y) at h)
           ]
@@ -63,14 +60,10 @@ digit_ten b h = grind (arith, nat_tests)
 digit_sixteen : (b : ℕ) → is_ascii_hexdigit b ≡ true → digit_value b < 16
 digit_sixteen b h = grind (arith, nat_tests)
 
--- the bytes at the front that pass a test which digits pass alone are digits
-all_digits : (radix : ℕ) (test : ℕ → Bool) → ((b : ℕ) → test b ≡ true → digit_value b < radix) → (bytes : List ℕ) → AllDigits radix (take_while test bytes)
-all_digits radix test h [] = tt
-all_digits radix test h (b ∷ bs) =
-    elim (cases_Bool (test b)) [
-      | inl p ↦ subst (AllDigits radix) (sym (take_while-cons test b bs ∙ cond-true (test b) _ _ p)) (h b p, all_digits radix test h bs)
-      | inr p ↦ subst (AllDigits radix) (sym (take_while-cons test b bs ∙ cond-false (test b) _ _ p)) tt
-    ]
+-- bytes that pass a test which digits pass alone are digits
+all_digits : (radix : ℕ) (test : ℕ → Bool) → ((b : ℕ) → test b ≡ true → digit_value b < radix) → (bytes : List ℕ) → list_all test bytes ≡ true → AllDigits radix bytes
+all_digits radix test h [] all = tt
+all_digits radix test h (b ∷ bs) all = let parts = and_parts (test b) (list_all test bs) all in (h b parts.0, all_digits radix test h bs parts.1)
 
 -- so few of them that the number fits
 number : (radix most : ℕ) (digits : List ℕ) → 0 < radix → radix ^ most ≤ 2 ^ 32 → 1 ≤ length digits → length digits ≤ most → AllDigits radix digits → IsNumber radix digits
@@ -79,29 +72,18 @@ number radix most digits positive fits nonempty short all = record {
   fits = omega (arith, digits_value-lt radix digits all, pow-le-pow_right positive short);
 }
 
-decodable : (marker : ℕ) (bytes : List ℕ) → is_value marker (take_while (is_value_byte marker) bytes) (after_all (is_value_byte marker) bytes) ≡ true
-    → IsDecodable marker (take_while (is_value_byte marker) bytes)
-decodable marker bytes h =
-    let value = take_while (is_value_byte marker) bytes in
-    let sized = (and_parts (nat_le 1 (length value) && nat_le (length value) (value_max marker)) _ h).0 in
-    let bounds = and_parts (nat_le 1 (length value)) (nat_le (length value) (value_max marker)) sized in
-    let nonempty : 1 ≤ length value = leb-true 1 (length value) bounds.0 in
-    let short : length value ≤ value_max marker = leb-true (length value) (value_max marker) bounds.1 in
-    record {
-      is_decimal = λ e. let most : value_max marker ≡ 7 = ap value_max e in number 10 7 value (omega arith) (lit≤ tt) nonempty (omega arith) (all_digits 10 (is_value_byte marker) (λ b p. digit_ten b (rw e at p)) bytes);
-      is_hexadecimal = λ e. let most : value_max marker ≡ 6 = ap value_max e in number 16 6 value (omega arith) (lit≤ tt) nonempty (omega arith) (all_digits 16 (is_value_byte marker) (λ b p. digit_sixteen b (rw e at p)) bytes);
-    }
-
 -- the value of a reference is a name, or digits of a number that fits
-pub decodable_at : (bytes : List ℕ) (r : Reference) → Some r ≡ reference_at bytes → IsDecodable r.marker r.value
-decodable_at bytes r h =
-    let marker = marker_of bytes in
-    let from = drop (marker_size marker) bytes in
-    let value = take_while (is_value_byte marker) from in
-    let test = is_value marker value (after_all (is_value_byte marker) from) in
-    elim (cases_Bool test) [
-      | inl p ↦
-          let is : r ≡ record { marker = marker; value = value } = let e = h ∙ cond-true test _ _ p in cc in
-          subst (λ (x : Reference). IsDecodable x.marker x.value) (sym is) (decodable marker from p)
-      | inr p ↦ let e = h ∙ cond-false test _ _ p in cc
-    ]
+pub decodable : (marker : ℕ) (value : List ℕ) → 1 ≤ length value → length value ≤ value_max marker → list_all (is_value_byte marker) value ≡ true → IsDecodable marker value
+decodable marker value nonempty short all = record {
+  is_decimal = λ e. let most : value_max marker ≡ 7 = ap value_max e in number 10 7 value (omega arith) (lit≤ tt) nonempty (omega arith) (all_digits 10 (is_value_byte marker) (λ b p. digit_ten b (rw e at p)) value all);
+  is_hexadecimal = λ e. let most : value_max marker ≡ 6 = ap value_max e in number 16 6 value (omega arith) (lit≤ tt) nonempty (omega arith) (all_digits 16 (is_value_byte marker) (λ b p. digit_sixteen b (rw e at p)) value all);
+}
+
+-- ---- numbers
+
+digits_from : (radix n : ℕ) (digits : List ℕ) → fold (λ n digit. n * radix + digit_value digit) n digits ≡ digits_value_after radix n digits
+digits_from radix n [] = refl
+digits_from radix n (d ∷ ds) = digits_from radix (n * radix + digit_value d) ds
+
+pub same_number : (radix : ℕ) (digits : List ℕ) → number_of radix digits ≡ digits_value radix digits
+same_number radix digits = digits_from radix 0 digits

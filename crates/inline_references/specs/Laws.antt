@@ -1,7 +1,7 @@
 -- Laws of decoded texts and of rows of names.
 use Rattle.std.specs.Prelude.{◌≡◌, ℕ, not, ◌==◌, List, Some, IsTrue}
 use Rattle.std.specs.List.{list_all}
-use Rattle.definition_inline.specs.References.{Names}
+use Rattle.definition_inline.specs.CharacterReference.{Names}
 use Rattle.definition_inline.specs.Decoded.{decoded}
 use Rattle.definition_inline.specs.ReferenceRows.{rows, text_in}
 use Rattle.definition_inline.specs.BuiltinReferences.{builtin_names}

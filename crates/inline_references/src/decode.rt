@@ -2,8 +2,8 @@
 ghost use Rattle.std.specs.Prelude.{◌≡◌, ◌++◌, [], IfOk, IfErr, IsTrue, is_some, string_bytes, unwrap_or};
 ghost use Rattle.std.specs.Option.{option_copied, option_map};
 ghost use Rattle.markdown_options.specs.Messages.{IsOutOfMemory};
-ghost use Rattle.definition_inline.specs.References.{numeric_text, value_text};
-ghost use Rattle.inline_references.specs.Markers.{is_marker, is_radix, IsDecodable, IsNumber};
+ghost use Rattle.definition_inline.specs.CharacterReference.{number_of, numbered_text};
+ghost use Rattle.inline_references.specs.Markers.{is_marker, is_radix, value_text, IsDecodable, IsNumber};
 
 use crate::value::numeric_character;
 use markdown_options::{Message, Tables};
@@ -21,7 +21,7 @@ pub fn decode_named<'a, T: Tables>(value: &str, tables: &'a T) -> Option<&'a str
 pub fn decode_numeric<A: Allocator>(alloc: A, value: &str, radix: u32) -> Result<String<A>, Message>
     requires radix { IsTrue (is_radix radix) }
     requires digits { IsNumber radix value.now }
-    ensures text { IfOk result (λ text. string_bytes text ≡ numeric_text radix value.now) }
+    ensures text { IfOk result (λ text. string_bytes text ≡ numbered_text (number_of radix value.now)) }
     ensures memory { IfErr result IsOutOfMemory }
 {
     let mut text = String::new(alloc);

@@ -1,8 +1,9 @@
 //! Where references are.
-ghost use Rattle.std.specs.Prelude.{◌≡◌, ◌≤◌, IfSome, IsTrue, length, drop};
-ghost use Rattle.definition_inline.specs.References.{marker_of, marker_size, reference_at, reference_size};
-ghost use Rattle.inline_references.specs.Markers.{is_marker, IsDecodable};
-ghost use Rattle.inline_references.specs.Places.{found_reference, read_reference, text_reference, IsPlaced};
+ghost use Rattle.std.specs.Prelude.{◌≡◌, ◌≤◌, IfSome, IsTrue, length};
+ghost use Rattle.std.specs.Option.{option_map};
+ghost use Rattle.definition_inline.specs.CharacterReference.{reference_after};
+ghost use Rattle.inline_references.specs.Markers.{is_marker, marker_of, marker_size, IsDecodable};
+ghost use Rattle.inline_references.specs.Places.{placed_reference, text_reference, IsCutFrom, IsPlaced};
 
 use crate::value::{value_len, value_max};
 
@@ -19,7 +20,7 @@ pub struct Reference {
 
 /// The reference whose `&` stands before these bytes (CommonMark 2.5).
 pub fn reference_at(bytes: &[u8]) -> Option<Reference>
-    ensures read { found_reference bytes.now result ≡ reference_at bytes.now }
+    ensures read { option_map (placed_reference bytes.now) result ≡ reference_after bytes.now }
     ensures place { IfSome result (IsPlaced bytes.now) }
 {
     let marker = marker_of(bytes);
@@ -73,8 +74,8 @@ pub struct CharacterReference<'a> {
 
 /// The reference whose `&` stands before a text (CommonMark 2.5).
 pub fn character_reference(text: &str) -> Option<CharacterReference<'_>>
-    ensures read { read_reference result ≡ reference_at text.now }
-    ensures rest { IfSome result (λ r. r.rest.now ≡ drop (reference_size (text_reference r)) text.now) }
+    ensures read { option_map text_reference result ≡ reference_after text.now }
+    ensures cut { IfSome result (IsCutFrom text.now) }
     ensures known { IfSome result (λ r. IsTrue (is_marker r.marker)) }
     ensures value { IfSome result (λ r. IsDecodable r.marker r.value.now) }
 {

@@ -1,9 +1,8 @@
 //! The names and digits of references.
 ghost use Rattle.std.specs.Prelude.{◌≡◌, IsTrue};
 ghost use Rattle.std.specs.List.{prefix_len};
-ghost use Rattle.std.specs.Str.Parse.{digits_value};
-ghost use Rattle.definition_inline.specs.References.{value_max, is_value_byte, is_replaced, character_of};
-ghost use Rattle.inline_references.specs.Markers.{is_marker, is_radix, IsNumber};
+ghost use Rattle.definition_inline.specs.CharacterReference.{is_replaced, character_of, number_of};
+ghost use Rattle.inline_references.specs.Markers.{is_marker, is_radix, is_value_byte, value_max, IsNumber};
 
 use markdown_options::constants::{
     CHARACTER_REFERENCE_DECIMAL_SIZE_MAX, CHARACTER_REFERENCE_HEXADECIMAL_SIZE_MAX,
@@ -48,7 +47,7 @@ pub(crate) fn value_len(marker: u8, bytes: &[u8]) -> usize
 pub fn numeric_character(digits: &str, radix: u32) -> char
     requires radix { IsTrue (is_radix radix) }
     requires digits { IsNumber radix digits.now }
-    ensures { result ≡ character_of (digits_value radix digits.now) }
+    ensures { result ≡ character_of (number_of radix digits.now) }
 {
     match u32::from_str_radix(digits, radix) {
         Ok(code) => character_of(code),

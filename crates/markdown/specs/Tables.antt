@@ -4,7 +4,7 @@ use Rattle.std.specs.Option.{option_or}
 use Rattle.definition_inline.specs.BuiltinReferences.{builtin_names}
 use Rattle.markdown_definition.specs.TextTables.{TextTables}
 use Rattle.definition_inline.specs.ReferenceRows.{rows, text_in}
-use Rattle.definition_inline.specs.References.{Names}
+use Rattle.definition_inline.specs.CharacterReference.{Names}
 use Rattle.markdown_tables.specs.Builtin.{builtin_tables}
 use Rattle.markdown_tables.specs.Punctuation.{builtin_punctuation}
 use Rattle.markdown_tables.specs.RowsFaults.{text_fault}

@@ -5,7 +5,7 @@ pub use Rattle.definition_text.specs.Content
 pub use Rattle.definition_text.specs.Encode
 pub use Rattle.definition_inline.specs.Inline
 pub use Rattle.definition_inline.specs.LabelMatch
-pub use Rattle.definition_inline.specs.References
+pub use Rattle.definition_inline.specs.CharacterReference
 pub use Rattle.definition_block.specs.Blocks
 pub use Rattle.definition_block.specs.Tree
 pub use Rattle.definition_block.specs.Lists

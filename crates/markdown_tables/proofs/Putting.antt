@@ -11,7 +11,7 @@ use Rattle.std.proofs.lemmas.Bool.{and_from, cases_Bool, lt-ltb}
 use Rattle.std.proofs.lemmas.Map.Text.{btree_map_updates_text}
 use Rattle.std.proofs.lemmas.Slice.Eq.{bytes_eq-Decides}
 use Rattle.std.proofs.lemmas.Str.{length-encode, len_utf8_bounds}
-use Rattle.definition_inline.specs.References.{Names}
+use Rattle.definition_inline.specs.CharacterReference.{Names}
 use Rattle.definition_inline.specs.ReferenceRows.{is_name}
 use Rattle.markdown_tables.specs.declared.row.Characters.{Characters}
 use Rattle.markdown_tables.specs.RowParts.{characters_text, second_text}

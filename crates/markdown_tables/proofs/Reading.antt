@@ -5,7 +5,7 @@ use Rattle.std.specs.List.{cons_option, filter_map, find}
 use Rattle.std.specs.Option.{option_map, option_or}
 use Rattle.std.proofs.lemmas.Bool.{cases_Bool, cond-false}
 use Rattle.std.proofs.lemmas.Slice.Eq.{bytes_eq-Decides}
-use Rattle.definition_inline.specs.References.{Names}
+use Rattle.definition_inline.specs.CharacterReference.{Names}
 use Rattle.definition_text.specs.Lines.{TextLine, after_return, in_first_line, lines}
 use Rattle.definition_inline.specs.ReferenceRows.{Row, row_of, rows, text_in}
 use Rattle.markdown_tables.specs.declared.rows_error.RowsError.{RowsError}

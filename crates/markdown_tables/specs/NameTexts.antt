@@ -3,10 +3,10 @@ use Rattle.std.specs.Prelude.{◌≡◌, ℕ, ◌&&◌, nat_lt, bytes_eq, if◌t
 use Rattle.std.specs.Option.{option_map}
 use Rattle.std.specs.BTreeMap.{BTreeMap, get_by_text}
 use Rattle.definition_inline.specs.ReferenceRows.{is_name}
-use Rattle.definition_inline.specs.References.{Names}
+use Rattle.definition_inline.specs.CharacterReference.{Names}
 
 -- the text of a name
-abbrev pub text_of : {Y : Type 0} → BTreeMap (String Y) (String Y) → List ℕ → Option (List ℕ)
+abbrev pub text_of : {Y : Type 0} → BTreeMap (String Y) (String Y) → Names
 text_of texts name = option_map string_bytes (get_by_text texts name)
 
 -- these names, but this one has this text

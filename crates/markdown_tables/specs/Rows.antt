@@ -1,7 +1,7 @@
 -- What rows that were read hold.
 use Rattle.std.specs.Prelude.{◌≡◌, ℕ, List}
 use Rattle.std.specs.Option.{option_or}
-use Rattle.definition_inline.specs.References.{Names}
+use Rattle.definition_inline.specs.CharacterReference.{Names}
 use Rattle.definition_inline.specs.BuiltinReferences.{builtin_names}
 use Rattle.definition_inline.specs.ReferenceRows.{Row, text_in}
 use Rattle.markdown_tables.specs.declared.rows.Rows.{Rows}
