@@ -1,3 +1,4 @@
+mod CompileOptions
 mod Computing
 mod CharacterEscape
 mod CharacterReference

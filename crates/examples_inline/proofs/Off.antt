@@ -40,6 +40,33 @@ without_label_start_link = record default_options { parse = record default_parse
 abbrev without_label_end : Options
 without_label_end = record default_options { parse = record default_parse_options { constructs = record default_constructs { label_end = false } } }
 
+abbrev without_block_quote : Options
+without_block_quote = record default_options { parse = record default_parse_options { constructs = record default_constructs { block_quote = false } } }
+
+abbrev without_code_indented : Options
+without_code_indented = record default_options { parse = record default_parse_options { constructs = record default_constructs { code_indented = false } } }
+
+abbrev without_code_fenced : Options
+without_code_fenced = record default_options { parse = record default_parse_options { constructs = record default_constructs { code_fenced = false } } }
+
+abbrev without_definition : Options
+without_definition = record default_options { parse = record default_parse_options { constructs = record default_constructs { definition = false } } }
+
+abbrev without_heading_atx : Options
+without_heading_atx = record default_options { parse = record default_parse_options { constructs = record default_constructs { heading_atx = false } } }
+
+abbrev without_heading_setext : Options
+without_heading_setext = record default_options { parse = record default_parse_options { constructs = record default_constructs { heading_setext = false } } }
+
+abbrev without_html_flow : Options
+without_html_flow = record default_options { parse = record default_parse_options { constructs = record default_constructs { html_flow = false } } }
+
+abbrev without_list_item : Options
+without_list_item = record default_options { parse = record default_parse_options { constructs = record default_constructs { list_item = false } } }
+
+abbrev without_thematic_break : Options
+without_thematic_break = record default_options { parse = record default_parse_options { constructs = record default_constructs { thematic_break = false } } }
+
 row_0 : page_with without_attention (codes "*a* __b__ `c`") ≡ codes "<p>*a* __b__ <code>c</code></p>"
 unfolding pages
 row_0 = refl
@@ -303,3 +330,77 @@ row_64 = refl
 row_65 : page_with without_label_end (codes "![[a](b)](c)") ≡ codes "<p>![[a](b)](c)</p>"
 unfolding pages
 row_65 = refl
+
+-- ---- blocks: with the construct, and without it
+
+row_66 : page_with default_options (codes "> a") ≡ codes "<blockquote>\n<p>a</p>\n</blockquote>"
+unfolding pages
+row_66 = refl
+
+row_67 : page_with without_block_quote (codes "> a") ≡ codes "<p>&gt; a</p>"
+unfolding pages
+row_67 = refl
+
+row_68 : page_with default_options (codes "a\n\n    b") ≡ codes "<p>a</p>\n<pre><code>b\n</code></pre>"
+unfolding pages
+row_68 = refl
+
+row_69 : page_with without_code_indented (codes "a\n\n    b") ≡ codes "<p>a</p>\n<p>b</p>"
+unfolding pages
+row_69 = refl
+
+row_70 : page_with default_options (codes "```\na\n```") ≡ codes "<pre><code>a\n</code></pre>"
+unfolding pages
+row_70 = refl
+
+row_71 : page_with without_code_fenced (codes "```\na\n```") ≡ codes "<p><code>a</code></p>"
+unfolding pages
+row_71 = refl
+
+row_72 : page_with default_options (codes "[a]: b\n\n[a]") ≡ codes "<p><a href=\"b\">a</a></p>"
+unfolding pages
+row_72 = refl
+
+row_73 : page_with without_definition (codes "[a]: b\n\n[a]") ≡ codes "<p>[a]: b</p>\n<p>[a]</p>"
+unfolding pages
+row_73 = refl
+
+row_74 : page_with default_options (codes "# a") ≡ codes "<h1>a</h1>"
+unfolding pages
+row_74 = refl
+
+row_75 : page_with without_heading_atx (codes "# a") ≡ codes "<p># a</p>"
+unfolding pages
+row_75 = refl
+
+row_76 : page_with default_options (codes "a\n=\n\nb\n-") ≡ codes "<h1>a</h1>\n<h2>b</h2>"
+unfolding pages
+row_76 = refl
+
+row_77 : page_with without_heading_setext (codes "a\n=\n\nb\n-") ≡ codes "<p>a\n=</p>\n<p>b\n-</p>"
+unfolding pages
+row_77 = refl
+
+row_78 : page_with default_options (codes "<div>\n*a*\n</div>") ≡ codes "&lt;div&gt;\n*a*\n&lt;/div&gt;"
+unfolding pages
+row_78 = refl
+
+row_79 : page_with without_html_flow (codes "<div>\n*a*\n</div>") ≡ codes "<p>&lt;div&gt;\n<em>a</em>\n&lt;/div&gt;</p>"
+unfolding pages
+row_79 = refl
+
+row_80 : page_with default_options (codes "- a\n1. b") ≡ codes "<ul>\n<li>a</li>\n</ul>\n<ol>\n<li>b</li>\n</ol>"
+unfolding pages
+row_80 = refl
+
+row_81 : page_with without_list_item (codes "- a\n1. b") ≡ codes "<p>- a\n1. b</p>"
+unfolding pages
+row_81 = refl
+
+row_82 : page_with default_options (codes "***\n---") ≡ codes "<hr />\n<hr />"
+unfolding pages
+row_82 = refl
+
+row_83 : page_with without_thematic_break (codes "***\n---") ≡ codes "<h2>***</h2>"
+unfolding pages
+row_83 = refl
