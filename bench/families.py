@@ -2,9 +2,10 @@
 """Times a program on families of texts at sizes n, 2n and 4n, beside md4c, pulldown-cmark and cmark where they are on the
 PATH. They run in turn, and the least processor time counts.
 
-    families.py PROGRAM [N] [--gfm]
+    families.py PROGRAM [N] [--gfm | --math]
 
-With --gfm these are families of GitHub's constructs, beside cmark-gfm.
+With --gfm these are families of GitHub's constructs, beside cmark-gfm. With --math they are those of math and frontmatter,
+alone, and the program is the example in C (examples/run.sh says how it is built), since the program has no such flags.
 
 Growth is the time at 4n by that at n: at most about 4 where time is linear. Of the others the time at 4n is printed, and
 the growth of their own times.
@@ -141,6 +142,19 @@ GFM_FAMILIES = {
     "tasks": lambda n: "- [ ] a\n" * n,
 }
 
+MATH_FAMILIES = {
+    "`$a `": lambda n: "$a " * n + "\n",
+    "`$a$ `": lambda n: "$a$ " * n + "\n",
+    "dollars of growing lengths": lambda n: growing("$", n) + "\n",
+    "dollars and backticks": lambda n: growing("$", n) + growing("`", n) + "\n",
+    "unclosed math": lambda n: "$$\n" + "x\n" * n,
+    "math in blocks": lambda n: "$$\na\n$$\n" * n,
+    "unclosed frontmatter": lambda n: "---\n" + "a\n" * n,
+    "unclosed frontmatter of plus signs": lambda n: "+++\n" + "a\n" * n,
+    "frontmatter": lambda n: "---\n" + "a\n" * n + "---\n",
+    "fences that don't end frontmatter": lambda n: "---\n" + "---a\n" * n,
+}
+
 
 def times(text, n, commands, path):
     """For each command the seconds at n, 2n and 4n."""
@@ -154,18 +168,21 @@ def times(text, n, commands, path):
 
 
 def main():
-    is_gfm, words = "--gfm" in sys.argv, [word for word in sys.argv[1:] if word != "--gfm"]
+    flags = [word for word in sys.argv[1:] if word in ("--gfm", "--math")]
+    words = [word for word in sys.argv[1:] if word not in flags]
     n = int(words[1]) if len(words) > 1 else 100000
-    if is_gfm:
-        others = [name for name in ("cmark-gfm",) if shutil.which(name)]
-        commands = {"": [words[0], "--gfm"], **{name: GFM for name in others}}
+    if "--gfm" in flags:
+        families, peers = GFM_FAMILIES, {"cmark-gfm": GFM}
+    elif "--math" in flags:
+        flags, families, peers = ["--math", "--frontmatter"], MATH_FAMILIES, {}
     else:
-        others = [name for name in ("md4c", "pulldown-cmark", "cmark") if shutil.which(name)]
-        commands = {"": words[:1], **{name: [name] for name in others}}
+        families, peers = FAMILIES, {name: [name] for name in ("md4c", "pulldown-cmark", "cmark")}
+    others = [name for name in peers if shutil.which(name)]
+    commands = {"": [words[0], *flags], **{name: peers[name] for name in others}}
     print("| Family | n, 2n, 4n (ms) | Growth |" + "".join(" %s | |" % name for name in others))
     print("|---|---|---|" + "---|---|" * len(others))
     with tempfile.TemporaryDirectory() as folder:
-        for name, text in (GFM_FAMILIES if is_gfm else FAMILIES).items():
+        for name, text in families.items():
             rows = times(text, n, commands, folder + "/text")
             own = rows.pop("")
             shown = ", ".join("%.1f" % (t * 1000) for t in own)
