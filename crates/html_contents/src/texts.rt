@@ -17,7 +17,7 @@ use block_rows::Piece;
 use definition_text::Kind;
 use html_footnotes::Output;
 use html_inline::{Printing, Scratch, count_rows, push_encoded_string, push_rows};
-use inline_content::{Content, whole_content};
+use inline_content::{Content, line_content, whole_content};
 use inline_labels::LabelTable;
 use inline_parser::{Room, content_start, inline_rows};
 use inline_rows::Linked;
@@ -68,9 +68,16 @@ impl<'a, T: Tables, A: Allocator + Clone> Texts<'a, T, A> {
             let d = document_by T.Tables self.now ds in
             LaysOut d result out.old out.new (paragraph_of d first (own_lines (piece_lines lines.now))) }
     {
-        buffers.content.join(lines)?;
-        let content = buffers.content.content(Kind::Whitespace);
-        self.push_checked(out, &mut buffers.scratch, &mut buffers.room, first, content)
+        match line_content(lines, Kind::Whitespace) {
+            Some(content) => {
+                self.push_checked(out, &mut buffers.scratch, &mut buffers.room, first, content)
+            }
+            None => {
+                buffers.content.join(lines)?;
+                let content = buffers.content.content(Kind::Whitespace);
+                self.push_checked(out, &mut buffers.scratch, &mut buffers.room, first, content)
+            }
+        }
     }
 
     /// Prints the text of one line, which may be empty, without its ending (CommonMark 4.2).
@@ -84,8 +91,7 @@ impl<'a, T: Tables, A: Allocator + Clone> Texts<'a, T, A> {
             let d = document_by T.Tables self.now ds in LaysOut d result out.old out.new (text_of d (own_lines (piece_line line.now ∷ []))) }
     {
         let lines = [*line];
-        buffers.content.join(&lines)?;
-        let content = buffers.content.content(Kind::Whitespace);
+        let content = buffers.content.content_of(&lines, Kind::Whitespace)?;
         self.push_content(out, &mut buffers.scratch, &mut buffers.room, false, content)
     }
 

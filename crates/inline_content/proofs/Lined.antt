@@ -1,6 +1,6 @@
 -- The content of lines, line by line.
 use Rattle.std.proofs.Common.{◌≡◌, ℕ, ◌+◌, ◌<◌, Bool, true, false, eqb, List, [], ◌∷◌, ◌++◌, Option, None, Some, refl, sym, ap, ◌∙◌, get_or, length, append_assoc, subst, arith, inl, inr, ◌||◌}
-use Rattle.std.specs.Prelude.{map}
+use Rattle.std.specs.Prelude.{map, replicate}
 use Rattle.std.specs.List.{flat_map}
 use Rattle.std.proofs.lemmas.Bool.{cases_Bool, cond-true, cond-false, or_parts, eq-eqb, ne_eqb, true≢false}
 use Rattle.std.proofs.lemmas.List.{append-nil, length-append, map-append}
@@ -13,7 +13,10 @@ use Rattle.definition_text.specs.Lines.{ending_text}
 use Rattle.definition_text.specs.Columns.{code_byte}
 use Rattle.definition_text.specs.BlockLines.{BlockLine, own_lines}
 use Rattle.definition_text.specs.Content.{is_eol, line_ending_code, ending_code, content_codes, content_of, content_text, line_text}
+use Rattle.block_rows.specs.declared.row.Piece.{Piece}
 use Rattle.block_rows.specs.ParagraphLines.{HaveNoEnding, AreLines}
+use Rattle.block_rows.specs.Rows.{piece_lines}
+use Rattle.definition_text.proofs.CodeBytes.{owed_bytes}
 use Rattle.definition_text.specs.InlineCode.{InlineCode, with_kinds, inline_content, inline_code, first_kind, next_kind}
 use Rattle.definition_text.proofs.ContentBytes.{codes_in_line}
 use Rattle.inline_links.proofs.Cuts.{first_code}
@@ -275,3 +278,22 @@ marks_more place (line ∷ others) l =
     let n : place + more + length (flat_map line_text others) ≡ place + length (flat_map line_text (line ∷ others)) = let e = length-append (line_text line) (flat_map line_text others) in omega (arith, e) in
     ap (λ ms. mark_of place line.before ++ ms) (marks_more (place + more) others l ∙ ap (λ m. marks_of (place + more) others ++ mark_of m l.before) n)
     ∙ sym (append_assoc (mark_of place line.before) (marks_of (place + more) others) (mark_of (place + length (flat_map line_text (line ∷ others))) l.before))
+
+-- ---- one line that is its own content
+
+own_content : (p : ℕ → Bool) (end : Kind) (piece : Piece) → ((k : ℕ) → get_or piece.text.now k 0 < 256) → piece.before ≡ Whitespace → piece.owed ≡ 0
+    → AreContentLines (piece_lines (piece ∷ [])) → marked p end [] piece.text.now ≡ inline_content p end (own_lines (piece_lines (piece ∷ [])))
+own_content p end piece bytes white none h =
+    let ls = piece_lines (piece ∷ []) in
+    let apart = content_lines_apart ls h in
+    let text : content_text ls ≡ piece.text.now =
+    append-nil _ ∙ append-nil _ ∙ owed_bytes piece.owed piece.text.now bytes ∙ ap (λ n. replicate n 32 ++ piece.text.now) none in
+    let marks : marks_of 0 ls ≡ [] = ap (λ k. mark_of 0 k ++ []) white in
+    sym (ap (marked p end []) text) ∙ sym (ap (λ ms. marked p end ms (content_text ls)) marks) ∙ content_is p end (marks_of 0 ls) ls apart (lines_agree p ls apart)
+
+pub one_line : (p : ℕ → Bool) (end : Kind) (pieces : List Piece) (none : Piece) → ((k : ℕ) → get_or (get_or pieces 0 none).text.now k 0 < 256) → length pieces ≡ 1
+    → (get_or pieces 0 none).before ≡ Whitespace → (get_or pieces 0 none).owed ≡ 0
+    → AreContentLines (piece_lines pieces) → marked p end [] (get_or pieces 0 none).text.now ≡ inline_content p end (own_lines (piece_lines pieces))
+one_line p end [] none bytes one white owes h = absurd (omega (arith, one))
+one_line p end (piece ∷ []) none bytes one white owes h = own_content p end piece bytes white owes h
+one_line p end (piece ∷ next ∷ others) none bytes one white owes h = absurd (omega (arith, one))
