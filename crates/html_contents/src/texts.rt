@@ -19,8 +19,8 @@ use html_footnotes::Output;
 use html_inline::{Printing, Scratch, count_rows, push_encoded_string, push_rows};
 use inline_content::{Content, line_content, whole_content};
 use inline_labels::LabelTable;
-use inline_parser::{Room, content_start, inline_rows};
-use inline_rows::Linked;
+use inline_parser::{Room, content_start, inline_rows, plain_text};
+use inline_rows::{InlineRow, Linked};
 use markdown_options::{Options, Tables};
 use std::alloc::{AllocError, Allocator};
 
@@ -155,6 +155,18 @@ impl<'a, T: Tables, A: Allocator + Clone> Texts<'a, T, A> {
             LaysOut d result out.old out.new (inline_pieces (meaning_of d) (shown cell structure)) }
     {
         let parse = &self.options.parse;
+        let printing = Printing {
+            on: &parse.constructs,
+            compile: &self.options.compile,
+            tables: self.tables,
+            definitions: self.links,
+            footnotes: self.footnotes,
+            cell,
+        };
+        if let Some(text) = plain_text(parse, start) {
+            let rows = [InlineRow::Text(text)];
+            return push_rows(out, scratch, &printing, &rows);
+        }
         let rows = inline_rows(
             room,
             parse,
@@ -164,16 +176,9 @@ impl<'a, T: Tables, A: Allocator + Clone> Texts<'a, T, A> {
             content,
             start,
         )?;
-        let printing = Printing {
-            on: &parse.constructs,
-            compile: &self.options.compile,
-            tables: self.tables,
-            definitions: self.links,
-            footnotes: self.footnotes,
-            cell,
-        };
         push_rows(out, scratch, &printing, rows.as_slice())
     }
+
     /// Counts the calls of footnotes in a content of a cell that isn't printed (GFM 4.10).
     pub(crate) fn count_content(
         &self,

@@ -21,7 +21,8 @@ ghost use Rattle.definition_page.specs.Targets.{Targets, labels_of, linked_at, l
 ghost use Rattle.inline_runs.specs.View.{run_view};
 ghost use Rattle.inline_content.specs.View.{content_view, view_at};
 ghost use Rattle.inline_leaves.specs.Leaves.{parts_of, size_before, IsAfter};
-ghost use Rattle.inline_rows.specs.View.{rows_view};
+ghost use Rattle.inline_content.specs.declared.content.Content.{Content as SeenContent};
+ghost use Rattle.inline_rows.specs.View.{data_rows, rows_view};
 ghost use Rattle.inline_label_ends.specs.Ends.{IsAfterFormed, IsFormed};
 ghost use Rattle.inline_parser.specs.Scanned.{context_by, ended_here, has_no_return, HasTargets, IsPlace, IsPlaced, IsRunFront, IsSingle, StartsLabel};
 ghost use Rattle.inline_parser.specs.Scanned.{GoesOn, HasNoLeaf, HasNoLeafHere, HasNoRun, Shortens, StaysPlaced};
@@ -136,6 +137,28 @@ pub fn content_start<'a>(content: Content<'a>) -> &'a str
         view_at is_punctuation content.entry result.now ≡ unindented (content_view is_punctuation content.entry) }
 {
     after_white(content.text())
+}
+
+/// What is left of a content from a place on, where it is text alone: nothing starts in it. While
+/// literals are on (GFM 6.9), this is told of no content, since text may hold addresses.
+pub fn plain_text<'a>(options: &ParseOptions, start: &'a str) -> Option<&'a str>
+    ensures { (names : List ℕ → Option (List ℕ)) (is_punctuation : ℕ → Bool) (ds : Targets) (leads : Target → Linked) (content : SeenContent) →
+        IsPlace content.text.now start.now →
+        IfSome result (λ text. data_rows text.now
+        ≡ inline_rows leads (inlines_from (context_by options.now names ds) (view_at is_punctuation content start.now))) }
+{
+    if options.constructs.gfm_autolink_literal {
+        return None;
+    }
+    let size = text_size(false, start.as_bytes());
+    if size == 0 {
+        return None;
+    }
+    if size == start.len() {
+        Some(start)
+    } else {
+        None
+    }
 }
 
 /// A text after its spaces and tabs.
