@@ -14,3 +14,8 @@ pub mod NamesSeen
 pub mod ReferenceStates
 pub mod ReferenceValues
 pub mod ReferenceReads
+pub mod AutolinkStates
+pub mod AutolinkBytes
+pub mod AutolinkDomains
+pub mod AutolinkTexts
+pub mod AutolinkReads

@@ -6,3 +6,4 @@ pub mod HardBreakEscape
 pub mod RawText
 pub mod CodeText
 pub mod MathText
+pub mod Autolink

@@ -1,6 +1,7 @@
 //! What attempts of inline states come to, by the definition.
 #![tactic(auto)]
 
+pub mod autolink;
 pub mod character_escape;
 pub mod character_reference;
 pub mod code_text;

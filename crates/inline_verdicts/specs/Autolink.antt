@@ -1,0 +1,53 @@
+-- What the states of an autolink come to (CommonMark 6.5).
+--
+--     autolink ::= '<' (uri | email) '>'
+--     uri ::= letter 1*31(letter | digit | '+' | '-' | '.') ':' *byte, of which none is a control character, a space, '<' or '>'
+--     email ::= 1*email_byte '@' label *('.' label)
+--     label ::= 1 to 63 letters, digits and '-', with no '-' at either end
+use Rattle.std.specs.Prelude.{◌≡◌, ℕ, Bool, true, false, nat_lt, ◌==◌, ◌||◌, List, [], ◌∷◌, drop, Option, None, Some}
+use Rattle.std.specs.List.{list_all}
+use Rattle.definition_inline.specs.Autolink.{autolink_at}
+use Rattle.definition_inline.specs.Inline.{Leaf}
+use Rattle.engine_events.specs.Events.{event}
+use Rattle.engine_events.specs.declared.event.Event.{Event}
+use Rattle.engine_events.specs.declared.event.Kind.TheVariants.{Enter, Exit}
+use Rattle.engine_events.specs.declared.event.Name.TheVariants as names
+use Rattle.engine_events.specs.declared.place.Point.{Point}
+use Rattle.engine_events.specs.declared.state.Inline.TheVariants as inline_states
+use Rattle.engine_events.specs.declared.state.State.{State}
+use Rattle.markdown_engine.specs.Context.{Context}
+use Rattle.markdown_engine.specs.Kept.{Kept}
+use Rattle.markdown_engine.specs.Reading.{Config, with_byte}
+use Rattle.markdown_engine.specs.VirtualText.{Text, as_byte}
+use Rattle.inline_states_table.specs.Words.{retry}
+use Rattle.inline_states.specs.declared.inlines.Inlines.{Inlines}
+use Rattle.inline_codes.specs.Codes.{Sees}
+use Rattle.inline_verdicts.specs.RawText.{piece}
+use Rattle.inline_verdicts.specs.Verdicts.{Leaves, Reads}
+
+-- the events of an autolink: its `<` is from p to q, what it leads to goes on from there to a third place, and its `>` from there to the end
+abbrev pub autolink_events : Point → Point → Point → Point → List Event
+autolink_events p q to end =
+    event Enter names.Autolink p None ∷ piece names.AutolinkMarker p q (piece names.AutolinkProtocol q to
+    (piece names.AutolinkMarker to end (event Exit names.Autolink end None ∷ [])))
+
+-- a byte, or the one code of CR and LF
+abbrev pub is_whole_code : ℕ → Bool
+is_whole_code code = nat_lt code 256 || (code == 257)
+
+module _ {T : Type 0} (texts : List ℕ → Option (List ℕ)) (is_punctuation : ℕ → Bool) (x : Context T) (text : Text) where
+  -- the attempt fails where there is no autolink; otherwise it goes well, with the autolink's events, up to where what it leaves of the codes is seen
+  abbrev pub AddressVerdict : Config Inlines → State → Point → Point → List ℕ → Option Leaf → Type 0
+  AddressVerdict c s p q codes None = (d : Config Inlines) × Reads texts is_punctuation x text c s d false
+  AddressVerdict c s p q codes (Some leaf) =
+      (d : Config Inlines) × (size : ℕ) × (to : Point) × (end : Point) × Reads texts is_punctuation x text c s d true
+      × (text.byte (text.start to) ≡ Some (as_byte 62 end)) × Leaves c d (record c.tokenize_state { size = size }) (autolink_events p q (text.start to) end) end
+      × Sees text end (drop leaf.size codes)
+
+-- at a `<`, after which these codes are seen, an autolink is read exactly where the definition has one, if no code is a column left of a tab
+abbrev pub AutolinkVerdict : Type 0 → Type 0
+AutolinkVerdict T =
+    (texts : List ℕ → Option (List ℕ)) (is_punctuation : ℕ → Bool) (x : Context T) (text : Text) (c : Config Inlines) (p q : Point) (cs : List ℕ)
+    → list_all is_whole_code cs ≡ true → Sees text q cs
+    → AddressVerdict texts is_punctuation x text (with_byte c p (Some (as_byte 60 q))) (retry inline_states.AutolinkStart) p q (60 ∷ cs)
+    (autolink_at x.options.constructs (60 ∷ cs))
