@@ -19,3 +19,4 @@ pub mod AutolinkBytes
 pub mod AutolinkDomains
 pub mod AutolinkTexts
 pub mod AutolinkReads
+pub mod TrailingReads

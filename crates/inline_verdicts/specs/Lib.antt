@@ -7,3 +7,4 @@ pub mod RawText
 pub mod CodeText
 pub mod MathText
 pub mod Autolink
+pub mod HardBreakTrailing

@@ -6,4 +6,5 @@ pub mod character_escape;
 pub mod character_reference;
 pub mod code_text;
 pub mod hard_break_escape;
+pub mod hard_break_trailing;
 pub mod math_text;

@@ -1,0 +1,8 @@
+//! Hard line breaks by trailing spaces (CommonMark 6.7).
+ghost use Rattle.inline_verdicts.specs.HardBreakTrailing.{TrailingVerdict};
+
+/// Spaces and tabs at the end of data become a hard break in a text exactly where the definition has
+/// one, and white space that isn't printed where it has that.
+pub fn hard_break_trailing_verdict()
+    ensures { TrailingVerdict }
+{}
