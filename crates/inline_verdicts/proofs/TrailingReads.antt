@@ -1,13 +1,14 @@
 -- Spaces and tabs at the end of data become what the definition has there.
-use Rattle.std.proofs.Common.{◌≡◌, ◌∙◌, ℕ, suc, ◌+◌, ◌-◌, ◌<◌, ◌≤◌, Bool, true, false, not, nat_le, nat_lt, ◌==◌, ◌&&◌, ◌||◌, if◌then◌else◌, is_some, List, [], ◌∷◌, ◌++◌, length, take, drop, reverse, slice_get, Option, Some, None, inl, inr, refl, sym, ap, subst, arith}
-use Rattle.std.proofs.lemmas.Bool.{and_from, and_left, and_parts, cases_Bool, eqb-true, leb-false, leb-true, ne_eqb}
+use Rattle.std.proofs.Common.{◌≡◌, ◌∙◌, ℕ, suc, zero, ◌+◌, ◌-◌, ◌<◌, ◌≤◌, Bool, true, false, not, nat_le, nat_lt, ◌==◌, ◌&&◌, ◌||◌, if◌then◌else◌, is_some, List, [], ◌∷◌, ◌++◌, length, take, drop, reverse, slice_get, Option, Some, None, inl, inr, refl, sym, ap, subst, arith}
+use Rattle.std.proofs.lemmas.Bool.{and_from, and_left, and_parts, and_right, cases_Bool, cases_lt, eq-eqb, eqb-true, leb-false, leb-true, ne_eqb, not-true}
 use Rattle.std.proofs.lemmas.List.{drop-drop, length-drop, length-reverse, reverse-append}
 use Rattle.std.proofs.lemmas.List.Folds.{prefix_len-append}
 use Rattle.std.proofs.lemmas.List.Sums.{prefix_len-le-length, suffix_len-le-length, take_while-cons}
 use Rattle.std.specs.List.{list_all, prefix_len, suffix_len, take_while}
 use Rattle.markdown_options.specs.declared.configuration.Constructs.{Constructs}
 use Rattle.definition_text.specs.Columns.{bare, indent, is_white}
-use Rattle.definition_inline.specs.HardBreak.{ends_here, ends_inner_line, line_spaces_at}
+use Rattle.definition_text.specs.Content.{is_eol}
+use Rattle.definition_inline.specs.HardBreak.{ends_here, ends_inner_line, is_trailing_break, line_spaces_at}
 use Rattle.definition_inline.specs.Inline.{Inline, Leaf, TrailingBreak, leaf}
 use Rattle.engine_edits.specs.Edits.{Placed, with_edit}
 use Rattle.engine_events.specs.declared.event.Event.{Event}
@@ -17,7 +18,7 @@ use Rattle.engine_events.specs.declared.place.Point.{Point}
 use Rattle.inline_states_resolvers.specs.Data.{is_data}
 use Rattle.inline_states_resolvers.specs.Each.{place_at}
 use Rattle.inline_states_resolvers.specs.Whitespace.{around, around_if, are_spaces, begins, data_part, ends, head_size, is_line, is_space, may_break, part_edit, place_past, tail_name, tail_size, trimmed}
-use Rattle.inline_verdicts.specs.HardBreakTrailing.{Follows, TrailingVerdict, cut_after, cut_before, data_edit, data_events, is_break, white_events}
+use Rattle.inline_verdicts.specs.HardBreakTrailing.{EarlierVerdict, Follows, TrailingVerdict, cut_after, cut_before, data_edit, data_events, is_break, is_inner, white_events}
 
 -- ---- what ends a list
 
@@ -195,3 +196,57 @@ trailing_verdict on bytes events i edits rest enters exits follows =
     let head = cut_before bytes events i in
     ap (λ (b : Bool). if b then part_edit true on.hard_break_trailing events i part head edits else edits) (and_from (is_data Enter (slice_get events i)) (is_data Exit (slice_get events (i + 1))) enters exits)
     ∙ edit_is on events i rest follows part head (head_few (begins true events i) part) (place_at events i) (place_at events (i + 1)) edits
+
+-- ---- before the end
+
+module _ (rest : List ℕ) where
+  -- where another byte follows, no line ends after the spaces and tabs
+  goes_on : (l : List ℕ) → list_all is_inner l ≡ true → suffix_len is_white l < length l → ends_here (bare (l ++ rest)) ≡ false
+  goes_on [] inner few = absurd (omega (arith, few))
+  goes_on (x ∷ l) inner few =
+      let parts = and_parts (is_inner x) (list_all is_inner l) inner in
+      elim (cases_Bool (is_white x)) [
+        | inl h ↦
+            ap (λ (b : Bool). ends_here (drop (if b then 1 + indent (l ++ rest) else 0) (x ∷ l ++ rest))) h
+            ∙ (ap (λ (n : ℕ). ends_here (drop n (x ∷ l ++ rest))) (let e : 1 + indent (l ++ rest) ≡ suc (indent (l ++ rest)) = omega arith in e) ∙ goes_on l parts.1 (fewer h (suffix_len is_white l == length l) refl))
+        | inr h ↦ ap (λ (b : Bool). ends_here (drop (if b then 1 + indent (l ++ rest) else 0) (x ∷ l ++ rest))) h ∙ not-true (is_eol x) parts.0
+      ]
+    where
+      fewer : is_white x ≡ true → (all : Bool) → (suffix_len is_white l == length l) ≡ all → suffix_len is_white l < length l
+      fewer h true all =
+          absurd (let size : suffix_len is_white (x ∷ l) ≡ length l + 1 =
+          suffix_more is_white x l ∙ (ap (λ (b : Bool). if b then length l + (if is_white x then 1 else 0) else suffix_len is_white l) all ∙ ap (λ (b : Bool). length l + (if b then 1 else 0)) h) in
+          omega (arith, size, few))
+      fewer h false all =
+          let most = suffix_len-le-length is_white l in
+          elim (cases_lt (suffix_len is_white l) (length l)) [
+            | inl less ↦ less
+            | inr more ↦ absurd (let same : suffix_len is_white l ≡ length l = omega (arith, most, more) in let f : true ≡ false = sym (eq-eqb (suffix_len is_white l) (length l) same) ∙ all in cc)
+          ]
+
+  inner_after : (l : List ℕ) (k : ℕ) → list_all is_inner l ≡ true → list_all is_inner (drop k l) ≡ true
+  inner_after l zero inner = inner
+  inner_after [] (suc k) inner = refl
+  inner_after (x ∷ l) (suc k) inner = inner_after l k (and_parts (is_inner x) (list_all is_inner l) inner).1
+
+  few_after : (l : List ℕ) (k : ℕ) → k < length l - suffix_len is_white l → suffix_len is_white (drop k l) < length (drop k l)
+  few_after l zero few = omega (arith, few)
+  few_after [] (suc k) few = absurd (omega (arith, few))
+  few_after (x ∷ l) (suc k) few = few_after l k (by_all (suffix_len is_white l == length l) refl)
+    where
+      by_all : (all : Bool) → (suffix_len is_white l == length l) ≡ all → k < length l - suffix_len is_white l
+      by_all true all =
+          absurd (let size : suffix_len is_white (x ∷ l) ≡ length l + (if is_white x then 1 else 0) =
+          suffix_more is_white x l ∙ ap (λ (b : Bool). if b then length l + (if is_white x then 1 else 0) else suffix_len is_white l) all in
+          omega (arith, size, few))
+      by_all false all =
+          let size : suffix_len is_white (x ∷ l) ≡ suffix_len is_white l = suffix_more is_white x l ∙ ap (λ (b : Bool). if b then length l + (if is_white x then 1 else 0) else suffix_len is_white l) all in
+          let most = suffix_len-le-length is_white l in
+          omega (arith, size, few, most)
+
+pub earlier_verdict : EarlierVerdict
+earlier_verdict on part rest k inner few =
+    let l = drop k part in
+    let goes = goes_on rest l (inner_after rest part k inner) (few_after rest part k few) in
+    ap (λ (b : Bool). if b then Some (leaf (if on.hard_break_trailing && is_trailing_break (l ++ rest) then TrailingBreak ∷ [] else []) (indent (l ++ rest))) else None)
+    (and_right (nat_le 1 (indent (l ++ rest))) (ends_here (bare (l ++ rest))) goes)

@@ -1,7 +1,9 @@
 -- What becomes of spaces and tabs at the end of data: they aren't printed, or they are a hard break (CommonMark 6.7 and 6.8).
-use Rattle.std.specs.Prelude.{◌≡◌, ℕ, ◌+◌, ◌-◌, Bool, true, false, not, ◌==◌, ◌&&◌, nat_lt, if◌then◌else◌, is_some, List, [], ◌∷◌, ◌++◌, length, take, drop, slice_get, Option, None, Some}
+use Rattle.std.specs.Prelude.{◌≡◌, ℕ, ◌+◌, ◌-◌, ◌<◌, Bool, true, false, not, ◌==◌, ◌&&◌, nat_lt, if◌then◌else◌, is_some, List, [], ◌∷◌, ◌++◌, length, take, drop, slice_get, Option, None, Some}
+use Rattle.std.specs.List.{list_all, suffix_len}
 use Rattle.markdown_options.specs.declared.configuration.Constructs.{Constructs}
-use Rattle.definition_text.specs.Columns.{indent}
+use Rattle.definition_text.specs.Columns.{indent, is_white}
+use Rattle.definition_text.specs.Content.{is_eol}
 use Rattle.definition_inline.specs.HardBreak.{ends_here, ends_inner_line, line_spaces_at}
 use Rattle.definition_inline.specs.Inline.{Inline, Leaf, TrailingBreak}
 use Rattle.engine_edits.specs.Edits.{Placed, with_edit}
@@ -53,3 +55,12 @@ TrailingVerdict =
     → is_data Enter (slice_get events i) ≡ true → is_data Exit (slice_get events (i + 1)) ≡ true → Follows events i rest
     → index_edit true on.hard_break_trailing bytes events i edits
     ≡ data_edit on (data_part bytes events i) (cut_before bytes events i) (cut_after bytes events i) rest i (place_at events i) (place_at events (i + 1)) edits
+
+-- a byte of data ends no line
+abbrev pub is_inner : ℕ → Bool
+is_inner b = not (is_eol b)
+
+-- before those the definition has none in the data
+abbrev pub EarlierVerdict : Type 0
+EarlierVerdict =
+    (on : Constructs) (part rest : List ℕ) (k : ℕ) → list_all is_inner part ≡ true → k < length part - suffix_len is_white part → line_spaces_at on (drop k part ++ rest) ≡ None
