@@ -115,16 +115,16 @@ run_passed depth escaped opened (b ∷ bs) shallow = elim (cases_Bool (is_plain 
     both true = refl
     both false = refl
 
--- a cut after such a run is a cut, too
-pub cut_after_run : (bytes : List ℕ) (at : ℕ) → at ≤ length bytes → IsCut bytes at → IsCut bytes (at + prefix_len is_plain (drop at bytes))
-cut_after_run bytes at within cut = by_size (prefix_len is_plain (drop at bytes)) (omega arith)
+-- a cut after a run of bytes of which none is CR is a cut, too
+pub cut_after_run : (p : ℕ → Bool) → p 13 ≡ false → (bytes : List ℕ) (at : ℕ) → at ≤ length bytes → IsCut bytes at → IsCut bytes (at + prefix_len p (drop at bytes))
+cut_after_run p no_return bytes at within cut = by_size (prefix_len p (drop at bytes)) (omega arith)
   where
-    by_size : (n : ℕ) → n ≤ prefix_len is_plain (drop at bytes) → IsCut bytes (at + n)
+    by_size : (n : ℕ) → n ≤ prefix_len p (drop at bytes) → IsCut bytes (at + n)
     by_size zero le = subst (IsCut bytes) (omega arith) cut
     by_size (suc n) le =
-        let byte = prefix_len_passes is_plain (drop at bytes) n 0 (omega arith) in
+        let byte = prefix_len_passes p (drop at bytes) n 0 (omega arith) in
         let here : get_or (drop at bytes) n 0 ≡ get_or bytes (at + n) 0 = get_or-drop at bytes n 0 in
-        let apart : get_or bytes (at + n) 0 ≡ 13 → ⊥ = λ e. true≢false (sym byte ∙ ap is_plain (here ∙ e)) in
+        let apart : get_or bytes (at + n) 0 ≡ 13 → ⊥ = λ e. true≢false (sym byte ∙ ap p (here ∙ e) ∙ no_return) in
         cut_at bytes (at + suc n) (at + n) (omega arith) (λ return. absurd (apart return))
 
 -- nothing is too deep where no parenthesis is open

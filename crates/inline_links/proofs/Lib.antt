@@ -4,3 +4,4 @@ pub mod DefinitionTexts
 pub mod Places
 pub mod Splits
 pub mod Texts
+pub mod Unmarked

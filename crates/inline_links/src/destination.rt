@@ -121,7 +121,7 @@ fn plain_size(bytes: &[u8]) -> usize
 }
 
 /// Whether the next byte is escaped after a run of so many of them.
-fn stays(escaped: bool, run: usize) -> bool
+pub(crate) fn stays(escaped: bool, run: usize) -> bool
     ensures { result ≡ (escaped && (run == 0)) }
 {
     escaped && run == 0

@@ -39,7 +39,7 @@ fn run_in_few(bytes: &[u8], class: ByteClass) -> usize
     ensures { result ≡ position_or_len (is_outside class) bytes.now }
 {
     let mut at = 0;
-    while at < bytes.len() && !is_outside(class, bytes[at]) {
+    while at < bytes.len() && !is_outside(&class, bytes[at]) {
         at += 1;
     }
     at
@@ -67,8 +67,8 @@ fn by_upper_half(lanes: u8x16, table: [u8; 16]) -> u8x16
 }
 
 /// Whether a byte isn't of a class.
-fn is_outside(class: ByteClass, byte: u8) -> bool
-    ensures { result ≡ is_outside class byte }
+fn is_outside(class: &ByteClass, byte: u8) -> bool
+    ensures { result ≡ is_outside class.now byte }
 {
     class.lower[(byte % 16) as usize] & class.upper[(byte / 16) as usize] == 0
 }

@@ -41,7 +41,7 @@ fn next_in_few(bytes: &[u8], set: ByteSet) -> usize
     ensures { result ≡ position_or_len (holds set) bytes.now }
 {
     let mut at = 0;
-    while at < bytes.len() && !holds(set, bytes[at]) {
+    while at < bytes.len() && !holds(&set, bytes[at]) {
         at += 1;
     }
     at
@@ -78,8 +78,8 @@ pub(crate) fn first_set(mask: u64, lanes: usize) -> usize
 }
 
 /// Whether a byte is one of a set.
-fn holds(set: ByteSet, byte: u8) -> bool
-    ensures { result ≡ holds set byte }
+fn holds(set: &ByteSet, byte: u8) -> bool
+    ensures { result ≡ holds set.now byte }
 {
     let half = (byte % 16) as usize;
     byte == set.first[half] || byte == set.second[half]

@@ -34,7 +34,7 @@ loop-read-init c =
       within = c.after_plain-end.ensures.within;
       few = omega arith;
       shallow = flat c.args.depth;
-      cut = subst (IsCut content) (sym end) (cut_after_run content 0 (omega arith) refl);
+      cut = subst (IsCut content) (sym end) (cut_after_run is_plain refl content 0 (omega arith) refl);
       same =
           ap (λ k. bare_end c.args.depth false 0 (content_codes (drop k content))) (end ∙ from_start (prefix_len is_plain content))
           ∙ sym (run_passed c.args.depth false 0 content (flat c.args.depth));
@@ -55,7 +55,7 @@ loop-read-preserved c =
       within = c.after_plain-end-in-Some.ensures.within;
       few = omega (arith, c.loop-read.invariant.few, reads.forward, end, opens, open_more escaped opened read.code);
       shallow = ap (is_too_deep c.args.depth) opens ∙ shallow;
-      cut = subst (IsCut content) (sym end) (cut_after_run content read.next reads.within reads.cut);
+      cut = subst (IsCut content) (sym end) (cut_after_run is_plain refl content read.next reads.within reads.cut);
       same =
           ap (λ t. bare_end c.args.depth t c.open_after-opened.result (content_codes (drop c.after_plain-end-in-Some.result content)))
           (c.stays-escaped.ensures ∙ ap (λ t. t && eqb (c.after_plain-end-in-Some.result - read.next) 0) c.may_escape.ensures)

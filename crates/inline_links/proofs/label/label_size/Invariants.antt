@@ -1,14 +1,13 @@
-use Rattle.std.proofs.Common.{◌≡◌, ◌≤◌, ◌+◌, ◌-◌, ◌||◌, length, drop, false}
+use Rattle.std.proofs.Common.{◌≡◌, ◌≤◌, ◌-◌, length, drop, ◌+◌, false}
 use Rattle.definition_text.specs.Content.{content_codes}
-use Rattle.definition_inline.specs.Label.{label_size, has_text}
-use Rattle.inline_links.proofs.label.is_label.Given as goal
+use Rattle.definition_inline.specs.Label.{label_size}
+use Rattle.inline_links.proofs.label.label_size.Given as goal
 
 abbrev pub invariant-loop-read : goal.invariant-loop-read
 invariant-loop-read l = record {
   within : l.at ≤ length l.text;
   few : l.size ≤ l.at;
   sizes : l.size + label_size l.start (content_codes (drop l.at l.text)) ≡ label_size false (content_codes l.text);
-  texts : (l.has_text || has_text (content_codes (drop l.at l.text))) ≡ has_text (content_codes l.text);
 }
 
 abbrev pub decreases-loop-read : goal.decreases-loop-read
