@@ -1,3 +1,4 @@
+pub mod Ascii
 pub mod Chunks
 pub mod FirstWord
 pub mod Joined

@@ -1,7 +1,7 @@
 //! Labels as they are matched (CommonMark 6.3).
 //!
 //! Two labels match if they have the same words once their case is folded.
-ghost use Rattle.std.specs.Prelude.{◌≡◌, ◌++◌, IfErr, IfOk, OnOk, string_bytes};
+ghost use Rattle.std.specs.Prelude.{◌≡◌, ◌++◌, IfErr, IfOk, IsAscii, OnOk, string_bytes};
 ghost use Rattle.markdown_options.specs.Messages.{IsOutOfMemory};
 ghost use Rattle.definition_text.specs.Content.{content_codes};
 ghost use Rattle.definition_inline.specs.LabelMatch.{case_folded, word_folded, normal_label};
@@ -44,8 +44,22 @@ pub fn normalize_identifier<A: Allocator>(alloc: A, value: &str) -> Result<Strin
 fn push_word<A: Allocator>(normal: &mut String<A>, word: &[u8]) -> Result<(), AllocError>
     ensures { OnOk result (string_bytes normal.new ≡ string_bytes normal.old ++ word_folded word.now) }
 {
+    if word.is_ascii() {
+        return push_ascii(normal, word);
+    }
     for chunk in word.utf8_chunks() {
         push_chunk(normal, chunk.valid(), chunk.invalid())?;
+    }
+    Ok(())
+}
+
+/// Adds a word of ASCII with its case folded.
+fn push_ascii<A: Allocator>(normal: &mut String<A>, word: &[u8]) -> Result<(), AllocError>
+    requires { IsAscii word.now }
+    ensures { OnOk result (string_bytes normal.new ≡ string_bytes normal.old ++ word_folded word.now) }
+{
+    for byte in word {
+        normal.push(char::from(byte.to_ascii_lowercase()))?;
     }
     Ok(())
 }

@@ -50,7 +50,10 @@ impl<A: Allocator + Clone> LabelTable<A> {
     pub fn find(&self, label: &[u8]) -> Result<Option<usize>, AllocError>
         ensures { (labels : List (List ℕ)) → HasLabels self.now labels → IfOk result (λ place. place ≡ first_match (content_codes label.now) labels) }
     {
-        let mut normal = String::new(self.alloc.clone()?);
+        if self.places.is_empty() {
+            return Ok(None);
+        }
+        let mut normal = String::with_capacity(self.alloc.clone()?, label.len())?;
         normalize_label(&mut normal, label)?;
         Ok(self.find_normal(normal.as_str()))
     }
