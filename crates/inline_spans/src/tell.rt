@@ -29,6 +29,9 @@ pub fn tell_apart<A: Allocator>(
         → IsContainer leads at inner (length outer) runs.now slots.now tokens → OnOk result (AreTold leads at outer tokens rows.new) }
     ensures refused { OnErr result (rows.new ≡ rows.old) }
 {
+    if runs.is_empty() {
+        return Ok(());
+    }
     pair_runs(runs, pairing)?;
     for (place, run) in runs.iter().enumerate() {
         let start = slots[place];

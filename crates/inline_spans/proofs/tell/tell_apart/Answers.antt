@@ -1,4 +1,5 @@
 use Rattle.std.proofs.Common.{◌≡◌, ◌≤◌, ◌+◌, ◌-◌, refl, ap, sym, ◌∙◌, false, arith, get_or, subst, length, take, drop}
+use Rattle.std.proofs.lemmas.Bool.{eqb-true}
 use borrow.Rule.Slice.PartMut.{put_mid}
 use Rattle.definition_inline.specs.Pairing.{pairs}
 use Rattle.definition_inline.specs.Spans.{run_rows}
@@ -62,3 +63,11 @@ pub returns-clause-told : goal.returns-clause-told
 returns-clause-told g c leads at outer inner tokens same container =
     all_told leads at outer inner tokens c.args.runs.now c.args.slots.now c.loop-place.place c.loop-place.rows c.loop-place-test.false container
     (c.loop-place.invariant.told leads at outer inner tokens same container)
+
+pub returns-then-is_empty-clause-told : goal.returns-then-is_empty-clause-told
+returns-then-is_empty-clause-told g c leads at outer inner tokens same container =
+    let runs = c.args.runs.now in
+    let slots = c.args.slots.now in
+    let rows = c.args.rows.now in
+    let none : length runs ≡ 0 = eqb-true (length runs) 0 (sym c.is_empty.ensures ∙ c.if-is_empty.true) in
+    all_told leads at outer inner tokens runs slots 0 rows (omega (arith, none)) container (none_told leads at outer inner tokens runs slots rows same container)
