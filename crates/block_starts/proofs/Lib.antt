@@ -3,4 +3,5 @@ pub mod Views
 pub mod ThematicBreakLemmas
 pub mod MarkLemmas
 pub mod ContainerLemmas
+pub mod PlainLemmas
 mod LabelLemmas

@@ -47,7 +47,7 @@ delimiter_none number digits (b ∷ bs) never =
 -- ---- the columns of an item
 
 -- a blank rest is all white
-indent_blank : (rest : Rest) → is_blank rest ≡ true → indent rest ≡ length rest
+pub indent_blank : (rest : Rest) → is_blank rest ≡ true → indent rest ≡ length rest
 indent_blank [] h = refl
 indent_blank (b ∷ bs) h =
     let parts = and_parts (is_white b) (list_all is_white bs) h in

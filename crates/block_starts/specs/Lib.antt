@@ -8,3 +8,4 @@ pub mod CodeFenced
 pub mod HtmlFlow
 pub mod ThematicBreak
 pub mod Widths
+pub mod Plain

@@ -50,6 +50,14 @@ impl<'a> Cursor<'a> {
         Cursor::at(0, content, break_tail(content.as_bytes()))
     }
 
+    /// The same, where nothing will ask whether it may be a thematic break.
+    pub(crate) fn unbroken(content: &'a str) -> Cursor<'a>
+        requires { length content.now < 2 ^ 61 }
+        ensures { rest_of result ≡ whole content.now }
+    {
+        Cursor::at(0, content, content.len())
+    }
+
     /// A text at a column.
     fn at(column: usize, text: &'a str, tail: usize) -> Cursor<'a>
         requires fits { column + 4 * length text.now < 2 ^ 63 }

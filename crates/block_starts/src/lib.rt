@@ -13,6 +13,7 @@ pub mod html_flow;
 pub mod indent;
 pub mod list_item;
 pub mod math_flow;
+pub mod plain;
 pub mod thematic_break;
 
 pub use cursor::Cursor;
