@@ -27,7 +27,8 @@ impl<'a, A: Allocator> Parser<'a, A> {
     ghost use Rattle.definition_block.specs.Definitions.{cut};
     ghost use Rattle.definition_block.specs.GfmTable.{delimiter_row};
     ghost use Rattle.definition_block.specs.Tree.{Blocks, Nil, tree, Opening, Leaf as OpenedLeaf, Text as TextLeaf, OpenTable as TableLeaf};
-    ghost use Rattle.definition_block.specs.Tree.{OpenLeaf as OpenLeafOf, close_leaf, paragraph_of, rest_line, open_text, text_here, table_if, is_table_leaf, has_table};
+    ghost use Rattle.definition_block.specs.Tree.{OpenLeaf as OpenLeafOf, close_leaf, paragraph_of, rest_line, open_text, text_here};
+    ghost use Rattle.definition_block.specs.Tree.{table_if, is_table_leaf, has_table};
     ghost use Rattle.block_rows.specs.ParagraphLines.{AreLines};
     ghost use Rattle.block_rows.specs.Rows.{piece_lines};
     ghost use Rattle.block_parser.specs.GfmTable.{fits, table_left, table_tree};

@@ -71,10 +71,12 @@ impl<A: Allocator> Rows<A> {
 
     /// A container starts.
     pub(crate) fn enter(&mut self, container: Container<'_>) -> Result<(), AllocError>
-        ensures rows { OnOk result (self.new.rows.items ≡ (self.old.rows.items ++ self.old.waiting.items) ++ row_of_start (container_view container.entry) ∷ []) }
+        ensures rows { OnOk result (
+            self.new.rows.items ≡ (self.old.rows.items ++ self.old.waiting.items) ++ row_of_start (container_view container.entry) ∷ []) }
         ensures waiting { OnOk result (self.new.waiting.items ≡ []) }
         ensures bare { OnOk result (self.new.bare ≡ true) }
-        ensures counted { OnOk result (rows_size self.new.rows.items ≡ rows_size self.old.rows.items + row_size (row_of_start (container_view container.entry))) }
+        ensures counted { OnOk result (
+            rows_size self.new.rows.items ≡ rows_size self.old.rows.items + row_size (row_of_start (container_view container.entry))) }
         ensures kept { OnErr result (rows_size self.new.rows.items ≡ rows_size self.old.rows.items) }
     {
         self.settle()?;

@@ -6,7 +6,8 @@
 ghost use Rattle.std.specs.Prelude.{◌≡◌, true};
 ghost use Rattle.definition_text.specs.Columns.{bare};
 ghost use Rattle.definition_block.specs.BlockQuote.{after_byte as rest_after};
-ghost use Rattle.definition_block.specs.GfmFootnoteDefinition.{footnote_mark as footnote_mark_of, footnote_start as footnote_starts, footnote_continues as footnote_goes_on};
+ghost use Rattle.definition_block.specs.GfmFootnoteDefinition.{footnote_mark as footnote_mark_of, footnote_start as footnote_starts};
+ghost use Rattle.definition_block.specs.GfmFootnoteDefinition.{footnote_continues as footnote_goes_on};
 ghost use Rattle.definition_block.specs.Tree.{kind_after_label};
 ghost use Rattle.block_starts.specs.Labels.{is_short};
 ghost use Rattle.block_starts.specs.Marks.{is_mark};

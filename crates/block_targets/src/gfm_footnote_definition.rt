@@ -71,7 +71,8 @@ impl<'a, A: Allocator + Clone> Footnotes<'a, A> {
 
     /// A container starts, with its label if it is a footnote definition.
     fn enter(&mut self, label: Option<&'a str>) -> Result<(), AllocError>
-        ensures read { (n : Noted) → HasNoted self.old n → OnOk result (HasNoted self.new (noted n.ended (option_map (λ text. content_codes text.now) label.entry ∷ n.containers))) }
+        ensures read { (n : Noted) → HasNoted self.old n → OnOk result (
+            HasNoted self.new (noted n.ended (option_map (λ text. content_codes text.now) label.entry ∷ n.containers))) }
     {
         self.containers.push(label)?;
         Ok(())

@@ -35,7 +35,8 @@ pub fn count_rows<A: Allocator + Clone, T: Tables>(
         let meaning = meaning_by (T.reference_of printing.now.tables.now) printing.now definition footnotes in
         HasLabels printing.now.footnotes.now footnotes →
         rows_view (place_linked printing.now.definitions.now) rows.now ≡ rows_of.inline_rows (leads_to definition) is →
-        OnOk result (output_view out.new ≡ fold (lay printing.now.compile.now default) (output_view out.old) (inline_counts meaning (shown printing.now.cell is))) }
+        OnOk result (output_view out.new
+        ≡ fold (lay printing.now.compile.now default) (output_view out.old) (inline_counts meaning (shown printing.now.cell is))) }
 {
     for row in rows {
         count_row(out, &mut scratch.text, printing.footnotes, *row)?;

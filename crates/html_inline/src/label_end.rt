@@ -44,7 +44,8 @@ pub(crate) fn push_link_start<A: Allocator + Clone, T: Tables>(
     linked: Linked<'_>,
 ) -> Result<(), AllocError>
     ensures { (definition : Definitions) (footnotes : List (List ℕ)) →
-        Prints result out.old out.new (link_tag (meaning_by (T.reference_of printing.now.tables.now) printing.now definition footnotes) (linked_view linked.entry)) }
+        let meaning = meaning_by (T.reference_of printing.now.tables.now) printing.now definition footnotes in
+        Prints result out.old out.new (link_tag meaning (linked_view linked.entry)) }
 {
     read_url(text, printing, linked.destination)?;
     out.push_str("<a href=\"")?;
@@ -62,7 +63,8 @@ pub(crate) fn push_image_start<A: Allocator + Clone, T: Tables>(
     linked: Linked<'_>,
 ) -> Result<(), AllocError>
     ensures { (definition : Definitions) (footnotes : List (List ℕ)) →
-        Prints result out.old out.new (image_start (meaning_by (T.reference_of printing.now.tables.now) printing.now definition footnotes) (linked_view linked.entry)) }
+        let meaning = meaning_by (T.reference_of printing.now.tables.now) printing.now definition footnotes in
+        Prints result out.old out.new (image_start meaning (linked_view linked.entry)) }
 {
     read_url(text, printing, linked.destination)?;
     out.push_str("<img src=\"")?;
@@ -78,7 +80,8 @@ pub(crate) fn push_image_end<A: Allocator + Clone, T: Tables>(
     linked: Linked<'_>,
 ) -> Result<(), AllocError>
     ensures { (definition : Definitions) (footnotes : List (List ℕ)) →
-        Prints result out.old out.new (image_end (meaning_by (T.reference_of printing.now.tables.now) printing.now definition footnotes) (linked_view linked.entry)) }
+        let meaning = meaning_by (T.reference_of printing.now.tables.now) printing.now definition footnotes in
+        Prints result out.old out.new (image_end meaning (linked_view linked.entry)) }
 {
     out.push_str("\"")?;
     push_title(out, text, printing, linked)?;

@@ -22,7 +22,8 @@ ghost use Rattle.engine_edits.specs.Edits.{edits_of, with_edit};
 ghost use Rattle.markdown_engine.specs.Context.{context};
 ghost use Rattle.inline_states_resolvers.specs.Attention.{attention_edits, beside, entered_run, is_event, last_of, moved, names_of, run_edit};
 ghost use Rattle.inline_states_resolvers.specs.Attention.{nothing_sought, run_edits, run_from, run_written, sought, span_end, span_start, told_after};
-ghost use Rattle.inline_states_resolvers.specs.Attention.{with_data, with_end_of, with_event, with_run, with_start_of, with_index, with_text_end, with_text_start};
+ghost use Rattle.inline_states_resolvers.specs.Attention.{with_data, with_end_of, with_event, with_run, with_start_of};
+ghost use Rattle.inline_states_resolvers.specs.Attention.{with_index, with_text_end, with_text_start};
 ghost use Rattle.inline_states_resolvers.specs.Each.{entered, exited, place_at};
 ghost use Rattle.inline_states_resolvers.specs.Views.{sought_view, written_view};
 
@@ -411,7 +412,8 @@ impl<A: Allocator + Clone> Search<A> {
     ) -> Result<(), Message>
         requires { index < length events.now }
         ensures sought { OnOk result (sought_view self.new
-            ≡ with_index (T.punctuation_of parse_state.now.tables.now) (context parse_state.now) events.now index (slice_get events.now index) (sought_view self.old)) }
+            ≡ with_index (T.punctuation_of parse_state.now.tables.now) (context parse_state.now)
+            events.now index (slice_get events.now index) (sought_view self.old)) }
         ensures memory { IfErr result (λ message. IsOutOfMemory message) }
     {
         let event = &events[index];

@@ -60,7 +60,8 @@ pub fn resolve_attention<M, T: Tables, A: Allocator + Clone>(
 fn trim_text<M, T: Tables, A: Allocator + Clone>(
     tokenizer: &mut Tokenizer<'_, M, T, A>,
 ) -> Result<(), Message>
-    ensures became { OnOk result (config tokenizer.new ≡ text_trimmed (T.punctuation_of (read_with tokenizer.old).tables) (read_with tokenizer.old) (config tokenizer.old)) }
+    ensures became { let kept = read_with tokenizer.old in
+        OnOk result (config tokenizer.new ≡ text_trimmed (T.punctuation_of kept.tables) kept (config tokenizer.old)) }
     ensures parse_state { tokenizer.new.parse_state ≡ tokenizer.old.parse_state }
     ensures memory { IfErr result (λ message. IsOutOfMemory message) }
 {
@@ -78,7 +79,8 @@ fn trim_text<M, T: Tables, A: Allocator + Clone>(
 fn link_text<M, T: Tables, A: Allocator + Clone>(
     tokenizer: &mut Tokenizer<'_, M, T, A>,
 ) -> Result<(), Message>
-    ensures became { OnOk result (config tokenizer.new ≡ text_linked (T.punctuation_of (read_with tokenizer.old).tables) (read_with tokenizer.old) (config tokenizer.old)) }
+    ensures became { let kept = read_with tokenizer.old in
+        OnOk result (config tokenizer.new ≡ text_linked (T.punctuation_of kept.tables) kept (config tokenizer.old)) }
     ensures parse_state { tokenizer.new.parse_state ≡ tokenizer.old.parse_state }
     ensures memory { IfErr result (λ message. IsOutOfMemory message) }
 {
@@ -99,7 +101,8 @@ fn link_text<M, T: Tables, A: Allocator + Clone>(
 pub fn resolve_text<M, T: Tables, A: Allocator + Clone>(
     tokenizer: &mut Tokenizer<'_, M, T, A>,
 ) -> Result<(), Message>
-    ensures became { OnOk result (config tokenizer.new ≡ text_resolved (T.punctuation_of (read_with tokenizer.old).tables) (read_with tokenizer.old) (config tokenizer.old)) }
+    ensures became { let kept = read_with tokenizer.old in
+        OnOk result (config tokenizer.new ≡ text_resolved (T.punctuation_of kept.tables) kept (config tokenizer.old)) }
     ensures parse_state { tokenizer.new.parse_state ≡ tokenizer.old.parse_state }
     ensures memory { IfErr result (λ message. IsOutOfMemory message) }
 {
@@ -111,7 +114,8 @@ pub fn resolve_text<M, T: Tables, A: Allocator + Clone>(
 pub fn resolve_string<M, T: Tables, A: Allocator + Clone>(
     tokenizer: &mut Tokenizer<'_, M, T, A>,
 ) -> Result<(), Message>
-    ensures became { OnOk result (config tokenizer.new ≡ string_resolved (T.punctuation_of (read_with tokenizer.old).tables) (read_with tokenizer.old) (config tokenizer.old)) }
+    ensures became { let kept = read_with tokenizer.old in
+        OnOk result (config tokenizer.new ≡ string_resolved (T.punctuation_of kept.tables) kept (config tokenizer.old)) }
     ensures parse_state { tokenizer.new.parse_state ≡ tokenizer.old.parse_state }
     ensures memory { IfErr result (λ message. IsOutOfMemory message) }
 {

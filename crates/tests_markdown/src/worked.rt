@@ -103,11 +103,14 @@ const COMMONMARK: [(&str, &str); 33] = [
 const GFM: [(&str, &str); 5] = [
     (
         "* [x] contact ~Mercury~Venus at hi@venus.com!",
-        "<ul>\n<li><input type=\"checkbox\" disabled=\"\" checked=\"\" /> contact <del>Mercury</del>Venus at <a href=\"mailto:hi@venus.com\">hi@venus.com</a>!</li>\n</ul>",
+        "<ul>\n\
+         <li><input type=\"checkbox\" disabled=\"\" checked=\"\" /> contact <del>Mercury</del>Venus at <a href=\"mailto:hi@venus.com\">hi@venus.com</a>!</li>\n\
+         </ul>",
     ),
     (
         "| a | b |\n| - | - |\n| c |\n| d | e | f |",
-        "<table>\n<thead>\n<tr>\n<th>a</th>\n<th>b</th>\n</tr>\n</thead>\n<tbody>\n<tr>\n<td>c</td>\n<td></td>\n</tr>\n<tr>\n<td>d</td>\n<td>e</td>\n</tr>\n</tbody>\n</table>",
+        "<table>\n<thead>\n<tr>\n<th>a</th>\n<th>b</th>\n</tr>\n</thead>\n<tbody>\n<tr>\n<td>c</td>\n\
+         <td></td>\n</tr>\n<tr>\n<td>d</td>\n<td>e</td>\n</tr>\n</tbody>\n</table>",
     ),
     (
         "| `a\\|b` |\n| - |",
@@ -115,7 +118,12 @@ const GFM: [(&str, &str); 5] = [
     ),
     (
         "[^a]\n\n[^a]: b",
-        "<p><sup><a href=\"#user-content-fn-a\" id=\"user-content-fnref-a\" data-footnote-ref=\"\" aria-describedby=\"footnote-label\">1</a></sup></p>\n<section data-footnotes=\"\" class=\"footnotes\"><h2 id=\"footnote-label\" class=\"sr-only\">Footnotes</h2>\n<ol>\n<li id=\"user-content-fn-a\">\n<p>b <a href=\"#user-content-fnref-a\" data-footnote-backref=\"\" aria-label=\"Back to content\" class=\"data-footnote-backref\">↩</a></p>\n</li>\n</ol>\n</section>\n",
+        "<p><sup><a href=\"#user-content-fn-a\" id=\"user-content-fnref-a\" data-footnote-ref=\"\" aria-describedby=\"footnote-label\">1</a></sup>\
+         </p>\n\
+         <section data-footnotes=\"\" class=\"footnotes\"><h2 id=\"footnote-label\" class=\"sr-only\">Footnotes</h2>\n\
+         <ol>\n<li id=\"user-content-fn-a\">\n\
+         <p>b <a href=\"#user-content-fnref-a\" data-footnote-backref=\"\" aria-label=\"Back to content\" class=\"data-footnote-backref\">↩</a></p>\n\
+         </li>\n</ol>\n</section>\n",
     ),
     ("[^a]: b", ""),
 ];
