@@ -5,6 +5,7 @@ use Rattle.engine_events.specs.declared.event.Event.{Event}
 use Rattle.engine_edits.specs.Edits.{Placed}
 use Rattle.markdown_engine.specs.Context.{Context}
 use Rattle.inline_states_resolvers.specs.Attention.{nothing_sought, run_edit, run_edits, sought, with_index}
+use Rattle.inline_states_resolvers.specs.Autolink.{email_edit, email_edits}
 use Rattle.inline_states_resolvers.specs.GfmAutolinkLiteral.{address_edit, address_edits, links_after, links_before}
 use Rattle.inline_states_resolvers.specs.Data.{data_edits, seam_edit}
 use Rattle.inline_states_resolvers.specs.Whitespace.{index_edit, white_edits}
@@ -24,6 +25,14 @@ white_start in_text hard bytes events = refl
 pub white_more : (in_text hard : Bool) (bytes : List ℕ) (events : List Event) (i : ℕ) → white_edits in_text hard bytes events (i + 1) ≡ index_edit in_text hard bytes events i (white_edits in_text hard bytes events i)
 unfolding white_edits
 white_more in_text hard bytes events i = ap (white_edits in_text hard bytes events) (add-one i)
+
+pub emails_start : (bytes : List ℕ) (events : List Event) → email_edits bytes events 0 ≡ []
+unfolding email_edits
+emails_start bytes events = refl
+
+pub emails_more : (bytes : List ℕ) (events : List Event) (i : ℕ) → email_edits bytes events (i + 1) ≡ email_edit bytes events i (email_edits bytes events i)
+unfolding email_edits
+emails_more bytes events i = ap (email_edits bytes events) (add-one i)
 
 pub links_start : (events : List Event) → links_before events 0 ≡ 0
 unfolding links_before

@@ -7,6 +7,7 @@ pub mod LabelEnd
 pub mod Attention
 pub mod Whitespace
 pub mod GfmAutolinkLiteral
+pub mod Autolink
 pub mod Views
 pub mod Resolving
 pub mod ResolvingLaws

@@ -6,6 +6,7 @@ use Rattle.markdown_engine.specs.Context.{Context}
 use Rattle.markdown_engine.specs.Reading.{Config}
 use Rattle.markdown_engine.specs.Resolving.{Resolves, nothing_found}
 use Rattle.inline_states_resolvers.specs.Attention.{attention_edits}
+use Rattle.inline_states_resolvers.specs.Autolink.{email_edits}
 use Rattle.inline_states_resolvers.specs.Data.{data_edits}
 use Rattle.inline_states_resolvers.specs.Edited.{with_edited}
 use Rattle.inline_states_resolvers.specs.GfmAutolinkLiteral.{address_edits}
@@ -23,6 +24,10 @@ module _ {T M : Type 0} (is_punctuation : ℕ → Bool) (x : Context T) where
   abbrev pub attention_resolved : Config M → Config M
   attention_resolved c = with_edited (attention_edits is_punctuation x c.events) c
 
+  -- email addresses in autolinks get their name
+  abbrev pub text_named : Config M → Config M
+  text_named c = with_edited (email_edits x.bytes c.events (length c.events)) c
+
   -- texts lose white space at their ends, too
   abbrev pub text_trimmed : Config M → Config M
   text_trimmed c = with_edited (white_edits true x.options.constructs.hard_break_trailing x.bytes c.events (length c.events)) c
@@ -32,7 +37,7 @@ module _ {T M : Type 0} (is_punctuation : ℕ → Bool) (x : Context T) where
   text_linked c = if x.options.constructs.gfm_autolink_literal then with_edited (address_edits x.bytes c.events (length c.events)) c else c
 
   abbrev pub text_resolved : Config M → Config M
-  text_resolved c = text_linked (text_trimmed c)
+  text_resolved c = text_linked (text_trimmed (text_named c))
 
   abbrev pub string_resolved : Config M → Config M
   string_resolved c = with_edited (white_edits false false x.bytes c.events (length c.events)) c

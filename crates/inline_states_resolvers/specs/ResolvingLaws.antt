@@ -12,11 +12,12 @@ use Rattle.markdown_engine.specs.Order.{AreWhole}
 use Rattle.markdown_engine.specs.Reading.{Config}
 use Rattle.markdown_engine.specs.Resolving.{ResolvesAt, resolves_nothing, settles_whole}
 use Rattle.inline_states_resolvers.specs.Attention.{attention_edits}
+use Rattle.inline_states_resolvers.specs.Autolink.{email_edits}
 use Rattle.inline_states_resolvers.specs.Data.{data_edits}
 use Rattle.inline_states_resolvers.specs.Edited.{edited, is_ordered, with_edited}
 use Rattle.inline_states_resolvers.specs.GfmAutolinkLiteral.{address_edits}
 use Rattle.inline_states_resolvers.specs.LabelEnd.{label_edits}
-use Rattle.inline_states_resolvers.specs.Resolving.{inline_resolved, resolved_config, text_trimmed}
+use Rattle.inline_states_resolvers.specs.Resolving.{inline_resolved, resolved_config, text_named, text_trimmed}
 use Rattle.inline_states_resolvers.specs.Whitespace.{white_edits}
 use Rattle.inline_states_resolvers.specs.Whole.{is_whole}
 use Rattle.inline_states_resolvers.specs.WholeLaws.{whole}
@@ -35,11 +36,16 @@ module _ {T M : Type 0} (is_punctuation : ℕ → Bool) (x : Context T) where
   linked_settled true c h = (h.0, edited_whole (address_edits x.bytes c.events (length c.events)) c.point c.events h.1)
   linked_settled false c h = h
 
+  trimmed_settled : (c : Config M) → settles_whole c [] → settles_whole (text_trimmed is_punctuation x c) []
+  trimmed_settled c h = (h.0, edited_whole (white_edits true x.options.constructs.hard_break_trailing x.bytes c.events (length c.events)) c.point c.events h.1)
+
   settled : (c : Config M) (n : Resolver) → settles_whole c [] → settles_whole (resolved_config is_punctuation x c n) []
   settled c resolvers.Data h = (h.0, edited_whole (data_edits c.events (length c.events)) c.point c.events h.1)
   settled c resolvers.Label h = (h.0, edited_whole (label_edits c.events c.tokenize_state) c.point c.events h.1)
   settled c resolvers.Attention h = (h.0, edited_whole (attention_edits is_punctuation x c.events) c.point c.events h.1)
-  settled c resolvers.Text h = linked_settled x.options.constructs.gfm_autolink_literal (text_trimmed is_punctuation x c) (h.0, edited_whole (white_edits true x.options.constructs.hard_break_trailing x.bytes c.events (length c.events)) c.point c.events h.1)
+  settled c resolvers.Text h =
+      linked_settled x.options.constructs.gfm_autolink_literal (text_trimmed is_punctuation x (text_named is_punctuation x c))
+      (trimmed_settled (text_named is_punctuation x c) (h.0, edited_whole (email_edits x.bytes c.events (length c.events)) c.point c.events h.1))
   settled c resolvers.String h = (h.0, edited_whole (white_edits false false x.bytes c.events (length c.events)) c.point c.events h.1)
   settled c n h = h
 

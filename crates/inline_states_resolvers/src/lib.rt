@@ -2,6 +2,7 @@
 #![tactic(auto)]
 
 pub mod attention;
+pub mod autolink;
 pub mod edited;
 pub mod gfm_autolink_literal;
 pub mod label_end;

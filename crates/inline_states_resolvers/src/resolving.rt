@@ -3,9 +3,10 @@ ghost use Rattle.std.specs.Prelude.{◌≡◌, OnOk, IfErr};
 ghost use Rattle.markdown_options.specs.Messages.{IsOutOfMemory};
 ghost use Rattle.markdown_engine.specs.Machine.{config, read_with};
 ghost use Rattle.inline_states_resolvers.specs.Resolving.{attention_resolved, data_resolved, inline_resolved, label_resolved, resolved_config};
-ghost use Rattle.inline_states_resolvers.specs.Resolving.{string_resolved, text_linked, text_resolved, text_trimmed};
+ghost use Rattle.inline_states_resolvers.specs.Resolving.{string_resolved, text_linked, text_named, text_resolved, text_trimmed};
 
 use crate::attention::attention_edits;
+use crate::autolink::email_edits;
 use crate::edited::make;
 use crate::gfm_autolink_literal::address_edits;
 use crate::label_end::label_edits;
@@ -56,6 +57,20 @@ pub fn resolve_attention<M, T: Tables, A: Allocator + Clone>(
     make(tokenizer, edits)
 }
 
+/// Gives email addresses in autolinks their name.
+fn name_text<M, T: Tables, A: Allocator + Clone>(
+    tokenizer: &mut Tokenizer<'_, M, T, A>,
+) -> Result<(), Message>
+    ensures became { let kept = read_with tokenizer.old in
+        OnOk result (config tokenizer.new ≡ text_named (T.punctuation_of kept.tables) kept (config tokenizer.old)) }
+    ensures parse_state { tokenizer.new.parse_state ≡ tokenizer.old.parse_state }
+    ensures memory { IfErr result (λ message. IsOutOfMemory message) }
+{
+    let alloc = tokenizer.events.allocator().clone()?;
+    let edits = email_edits(&alloc, tokenizer.parse_state.bytes, &tokenizer.events)?;
+    make(tokenizer, edits)
+}
+
 /// Cuts white space off the ends of a text, and of its lines.
 fn trim_text<M, T: Tables, A: Allocator + Clone>(
     tokenizer: &mut Tokenizer<'_, M, T, A>,
@@ -97,7 +112,7 @@ fn link_text<M, T: Tables, A: Allocator + Clone>(
     make(tokenizer, edits)
 }
 
-/// Cuts white space off the ends of a text, and of its lines, and finds email addresses.
+/// Names email addresses in autolinks, cuts white space off the ends of a text, and of its lines, and finds email addresses in data.
 pub fn resolve_text<M, T: Tables, A: Allocator + Clone>(
     tokenizer: &mut Tokenizer<'_, M, T, A>,
 ) -> Result<(), Message>
@@ -106,6 +121,7 @@ pub fn resolve_text<M, T: Tables, A: Allocator + Clone>(
     ensures parse_state { tokenizer.new.parse_state ≡ tokenizer.old.parse_state }
     ensures memory { IfErr result (λ message. IsOutOfMemory message) }
 {
+    name_text(tokenizer)?;
     trim_text(tokenizer)?;
     link_text(tokenizer)
 }

@@ -1,5 +1,7 @@
 //! Events of a text, spelled.
-use crate::rows::{push_check, push_definition, push_literal, push_part, push_resource};
+use crate::rows::{
+    push_autolink, push_check, push_definition, push_literal, push_part, push_resource,
+};
 use engine_text::bytes::part;
 use inline_labels::LabelTable;
 use inline_leaves::LiteralKind;
@@ -214,7 +216,10 @@ impl<'a> Read<'a> {
             Name::CharacterReference => self.push_reference(out, self.between(from, to))?,
             Name::CodeText => push_part(out, b"code ", inner)?,
             Name::MathText => push_part(out, b"math ", inner)?,
-            Name::Autolink => push_part(out, b"autolink ", inner)?,
+            Name::Autolink => {
+                let email = self.find(from, to, Kind::Enter, Name::AutolinkEmail);
+                push_autolink(out, email.is_some(), inner)?;
+            },
             Name::HtmlText => push_part(out, b"html ", self.between(from, to))?,
             Name::HardBreakEscape => push_part(out, b"break", b"\\")?,
             Name::HardBreakTrailing => push_part(out, b"break", b" ")?,

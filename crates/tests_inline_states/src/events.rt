@@ -111,7 +111,7 @@ fn autolinks(rt: HostRuntime) -> Result<(), Fail> {
         is_text(
             &rt,
             b"<a@b.c>",
-            "+Autolink0 +AutolinkMarker0 -AutolinkMarker1 +AutolinkProtocol1 -AutolinkProtocol6 \
+            "+Autolink0 +AutolinkMarker0 -AutolinkMarker1 +AutolinkEmail1 -AutolinkEmail6 \
              +AutolinkMarker6 -AutolinkMarker7 -Autolink7 ",
         )?
     );
