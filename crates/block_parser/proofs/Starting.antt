@@ -206,7 +206,7 @@ module _ (on : Constructs) (beside : Beside) where
   grown-inside around kids c t = ap (λ (bs : Blocks). spine_at (level c bs ∷ around) t.done t.now) (join-nil kids)
 
   -- nothing is closed where nothing is open
-  closed-nothing : (b : Bool) → with_paragraph (if b then cut_most 0 [] else cut_into Nil []) ≡ Nil
+  pub closed-nothing : (b : Bool) → with_paragraph (if b then cut_most 0 [] else cut_into Nil []) ≡ Nil
   closed-nothing true = refl
   closed-nothing false = refl
 

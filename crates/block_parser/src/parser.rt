@@ -1,5 +1,6 @@
 //! Blocks, line by line (CommonMark 4, 5 and appendix, phase 1).
 ghost use Rattle.std.specs.Prelude.{◌≡◌, ◌≤◌, ◌<◌, ◌+◌, true, false, ◌^◌, [], IfOk, length, vec_len};
+ghost use Rattle.definition_text.specs.Columns.{whole};
 ghost use Rattle.definition_text.specs.Lines.{lines};
 ghost use Rattle.definition_block.specs.Tree.{blocks, children, rest_line};
 ghost use Rattle.block_rows.specs.Rows.{rows_size, piece_line, piece_lines, rows_of, rows_value, value_with};
@@ -18,6 +19,7 @@ use block_rows::{Piece, Row};
 use block_starts::Cursor;
 use block_starts::container::{continues, kind_after, starts};
 use block_starts::heading_atx::heading_atx;
+use block_starts::plain::{is_plain, is_plain_line};
 use block_starts::thematic_break::is_break;
 use definition_block::{AlignKind, Container};
 use definition_text::{Beside, Kind};
@@ -69,9 +71,10 @@ impl<'a, A: Allocator> Parser<'a, A> {
     ghost use Rattle.definition_block.specs.Tree.{Tree, Block, Blocks, tree, nothing, Nil, one, ended, step, new, close, close_leaf, is_ending};
     ghost use Rattle.definition_block.specs.Tree.{is_nothing, is_some_line, leaf_text, open_text, began_blank, OpenLeaf as OpenLeafOf};
     ghost use Rattle.block_rows.specs.ParagraphLines.{AreLines};
-    ghost use Rattle.definition_block.specs.Tree.{Opening, leaf_line as line_of_leaf, has_text as is_text_open};
+    ghost use Rattle.definition_block.specs.Tree.{Opening, after, leaf_line as line_of_leaf, text_line_of, has_text as is_text_open};
     ghost use Rattle.definition_block.specs.Tree.{Blank as BlankBlock, Leaf as OpenedLeaf, Inside, Text as TextLeaf};
     ghost use Rattle.block_rows.specs.Rows.{block_rows, row_value, row_size};
+    ghost use Rattle.block_parser.specs.HeadingSetext.{IsText};
     ghost use Rattle.block_parser.specs.Spine.{Level, Spine, level, spine, spine_at, spine_of, without_innermost};
     ghost use Rattle.block_parser.specs.Quotes.{NoQuoteFrom, NoneBeganBlank};
     ghost use Rattle.block_parser.specs.Shows.{leaf_lines};
@@ -82,8 +85,8 @@ impl<'a, A: Allocator> Parser<'a, A> {
     ghost use Rattle.std.specs.Prelude.{◌≤◌, ◌<◌, ◌+◌, ◌-◌, ◌∷◌, ◌++◌, [], length, vec_len, take, drop};
     ghost use Rattle.block_starts.specs.View.{rest_of, container_view, container_views};
 
-    /// Reads a line after a character of a kind: the containers that go on, then the leaf that takes
-    /// the rest, or what is new.
+    /// Reads a line after a character of a kind. Where no container is open and no leaf but a paragraph,
+    /// an empty line is blank and a plain one is of a paragraph, so neither asks any construct.
     pub(crate) fn line(
         &mut self,
         on: &Constructs,
@@ -94,6 +97,48 @@ impl<'a, A: Allocator> Parser<'a, A> {
             HasRead self.new (spine_of (step on.now before t (text_line line.entry.content.now line.entry.ending)))) }
     {
         self.rest = line.text;
+        if !self.is_alone() {
+            return self.any_line(on, before, line);
+        }
+        if line.content.is_empty() {
+            return self.empty_line(on, line.ending);
+        }
+        if !is_plain_line(line.content) {
+            return self.any_line(on, before, line);
+        }
+        let beside = Beside {
+            before,
+            ending: line.ending,
+        };
+        self.add_line(whole_piece(line.content, beside))
+    }
+
+    /// Whether no container is open, and no leaf but a paragraph.
+    fn is_alone(&self) -> bool
+        ensures { result ≡ true → (t : Tree) → HasRead self.now (spine_of t) → IsText t.now }
+    {
+        match self.leaf {
+            OpenLeaf::Text => self.open.is_empty(),
+            OpenLeaf::Indented { .. } => false,
+            OpenLeaf::Fenced { .. } => false,
+            OpenLeaf::Html { .. } => false,
+            OpenLeaf::Table { .. } => false,
+        }
+    }
+
+    /// A line with nothing in it, which is in no container.
+    fn empty_line(&mut self, on: &Constructs, ending: Option<LineEnding>) -> Result<(), AllocError>
+        ensures { OnOk result (Grows self.old self.new 0 (λ away. after on.now away (tree (one (BlankBlock ending)) nothing))) }
+    {
+        self.close_to(on, 0)?;
+        self.blank_line(ending)
+    }
+
+    /// Reads any line: the containers that go on, then the leaf that takes the rest, or what is new.
+    fn any_line(&mut self, on: &Constructs, before: Kind, line: Line<'a>) -> Result<(), AllocError>
+        ensures { OnOk result ((t : Tree) → AreLines (open_text t.now) → HasRead self.old (spine_of t) →
+            HasRead self.new (spine_of (step on.now before t (text_line line.entry.content.now line.entry.ending)))) }
+    {
         let beside = Beside {
             before,
             ending: line.ending,
@@ -266,8 +311,26 @@ impl<'a, A: Allocator> Parser<'a, A> {
         Ok((inside, here))
     }
 
-    /// Reads a rest that starts no container: a blank one, or a leaf that starts.
+    /// Reads a rest that starts no container. A plain one is text, and asks no construct.
     fn leaf_line(
+        &mut self,
+        on: &Constructs,
+        depth: usize,
+        rest: Cursor<'a>,
+        beside: Beside,
+    ) -> Result<(), AllocError>
+        requires depth { depth ≤ vec_len self.old.open }
+        ensures { OnOk result (Grows self.old self.new depth (λ away. line_of_leaf on.now away (rest_of rest.entry) beside)) }
+    {
+        if is_plain(rest) {
+            self.more_text(on, depth, rest, beside)
+        } else {
+            self.any_leaf_line(on, depth, rest, beside)
+        }
+    }
+
+    /// Reads any rest that starts no container: a blank one, a leaf that starts, or text.
+    fn any_leaf_line(
         &mut self,
         on: &Constructs,
         depth: usize,
@@ -308,7 +371,22 @@ impl<'a, A: Allocator> Parser<'a, A> {
         if self.makes_table(on, depth, rest)? {
             return self.start_table(on, rest, beside);
         }
-        if paragraph {
+        self.more_text(on, depth, rest, beside)
+    }
+
+    /// A line of text: one more of the open paragraph or of the open table, or the first of a
+    /// paragraph.
+    fn more_text(
+        &mut self,
+        on: &Constructs,
+        depth: usize,
+        rest: Cursor<'a>,
+        beside: Beside,
+    ) -> Result<(), AllocError>
+        requires depth { depth ≤ vec_len self.old.open }
+        ensures { OnOk result (Grows self.old self.new depth (λ away. text_line_of on.now away (rest_of rest.entry) beside)) }
+    {
+        if self.has_text() {
             return self.text_line(rest, beside);
         }
         if self.is_row(depth) {
@@ -477,6 +555,18 @@ pub(crate) fn piece<'a>(rest: Cursor<'a>, beside: Beside) -> Piece<'a>
     Piece {
         text: rest.text(),
         owed: rest.owed(),
+        ending: beside.ending,
+        before: beside.before,
+    }
+}
+
+/// The line of a block that a whole line is.
+fn whole_piece<'a>(content: &'a str, beside: Beside) -> Piece<'a>
+    ensures { piece_line result ≡ rest_line (whole content.now) beside }
+{
+    Piece {
+        text: content,
+        owed: 0,
         ending: beside.ending,
         before: beside.before,
     }
