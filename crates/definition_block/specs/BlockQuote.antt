@@ -1,6 +1,7 @@
 -- Block quotes (CommonMark 5.1).
 use Rattle.std.specs.Prelude.{ℕ, if◌then◌else◌, ◌==◌, ◌&&◌, [], ◌∷◌, Option, None, Some}
 use Rattle.markdown_options.specs.declared.configuration.Constructs.{Constructs}
+use Rattle.definition_text.specs.Ascii.{greater_than}
 use Rattle.definition_text.specs.Columns.{Rest, bare}
 use Rattle.definition_text.specs.Indents.{small_indent, outdented}
 
@@ -16,4 +17,4 @@ after_mark (Some rest) = Some (outdented 1 rest)
 
 -- the rest after a `>`, with which a quote starts and goes on (CommonMark 5.1)
 abbrev pub quote_prefix : Constructs → Rest → Option Rest
-quote_prefix on rest = if on.block_quote && small_indent on rest then after_mark (after_byte 62 (bare rest)) else None
+quote_prefix on rest = if on.block_quote && small_indent on rest then after_mark (after_byte greater_than (bare rest)) else None

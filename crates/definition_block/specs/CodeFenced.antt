@@ -2,6 +2,7 @@
 use Rattle.std.specs.Prelude.{ℕ, Bool, not, if◌then◌else◌, ◌==◌, ◌&&◌, leb, List, Option, None, Some, take}
 use Rattle.std.specs.List.{position_or_len, list_all}
 use Rattle.markdown_options.specs.declared.configuration.Constructs.{Constructs}
+use Rattle.definition_text.specs.Ascii.{backtick, tilde}
 use Rattle.definition_text.specs.Columns.{Rest, bare, bytes_of, indent, is_white, trimmed}
 use Rattle.definition_text.specs.Indents.{small_indent, outdented}
 use Rattle.definition_text.specs.Runs.{run, after_run, is_run}
@@ -23,8 +24,8 @@ fence_by byte run columns after = record { byte = byte; run = run; indent = colu
 -- at least three backticks with none in what follows them, or at least three tildes
 abbrev pub fence_of : ℕ → List ℕ → Option Fence
 fence_of columns text =
-    if leb 3 (run 96 text) && list_all (λ b. not (b == 96)) (after_run 96 text) then Some (fence_by 96 (run 96 text) columns (after_run 96 text))
-    else (if leb 3 (run 126 text) then Some (fence_by 126 (run 126 text) columns (after_run 126 text)) else None)
+    if leb 3 (run backtick text) && list_all (λ b. not (b == backtick)) (after_run backtick text) then Some (fence_by backtick (run backtick text) columns (after_run backtick text))
+    else (if leb 3 (run tilde text) then Some (fence_by tilde (run tilde text) columns (after_run tilde text)) else None)
 
 -- the fence that opens here (CommonMark 4.5)
 abbrev pub fence_start : Constructs → Rest → Option Fence

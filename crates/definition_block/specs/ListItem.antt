@@ -3,6 +3,7 @@ use Rattle.std.specs.Prelude.{ℕ, ◌+◌, ◌-◌, ◌*◌, Bool, true, not, i
 use Rattle.std.specs.Char.{is_ascii_digit}
 use Rattle.std.specs.List.{prefix_len, fold}
 use Rattle.markdown_options.specs.declared.configuration.Constructs.{Constructs}
+use Rattle.definition_text.specs.Ascii.{right_parenthesis, asterisk, plus, hyphen, dot}
 use Rattle.definition_block.specs.Container.{Item as ItemContainer}
 use Rattle.definition_text.specs.Columns.{Rest, bare, indent, is_blank}
 use Rattle.definition_text.specs.Indents.{small_indent}
@@ -29,13 +30,13 @@ number_of digits = fold (λ number digit. number * 10 + (digit - 48)) 0 digits
 -- the marker of a bullet: `-`, `+` or `*`
 abbrev pub bullet : Rest → Option Marker
 bullet [] = None
-bullet (code ∷ codes) = if (code == 45) || (code == 43) || (code == 42) then Some (marker_of code None 1 codes) else None
+bullet (code ∷ codes) = if (code == hyphen) || (code == plus) || (code == asterisk) then Some (marker_of code None 1 codes) else None
 
 -- the `.` or `)` after the digits of an ordered marker
 abbrev pub delimiter : ℕ → ℕ → Rest → Option Marker
 delimiter number digits [] = None
 delimiter number digits (code ∷ codes) =
-    if (code == 46) || (code == 41) then Some (marker_of code (Some number) (digits + 1) codes) else None
+    if (code == dot) || (code == right_parenthesis) then Some (marker_of code (Some number) (digits + 1) codes) else None
 
 -- 1 to 9 digits and a delimiter
 abbrev pub ordered : ℕ → Rest → Option Marker

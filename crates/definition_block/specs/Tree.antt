@@ -2,6 +2,7 @@
 use Rattle.std.specs.Prelude.{ℕ, suc, zero, Bool, true, false, if◌then◌else◌, ◌&&◌, ◌||◌, ◌-◌, not, List, [], ◌∷◌, ◌++◌, Option, None, Some, length, take, drop}
 use Rattle.markdown_options.specs.declared.line_ending.LineEnding.{LineEnding}
 use Rattle.markdown_options.specs.declared.configuration.Constructs.{Constructs}
+use Rattle.definition_text.specs.Ascii.{greater_than}
 use Rattle.definition_text.specs.declared.beside.Beside.{Beside}
 use Rattle.definition_text.specs.declared.beside.Kind.{Kind}
 use Rattle.definition_text.specs.declared.beside.Kind.TheVariants.{Whitespace, Punctuation}
@@ -306,7 +307,7 @@ kind_after_label (Some mark) = if begins_with_white mark.rest then Whitespace el
 
 -- the kind of the character before what a container leaves of a rest: white space stands before the content of an item (CommonMark 5.1 and 5.2)
 abbrev pub kind_after : Container → Rest → Kind
-kind_after Quote rest = kind_after_mark (after_byte 62 (bare rest))
+kind_after Quote rest = kind_after_mark (after_byte greater_than (bare rest))
 kind_after (Item item) rest = Whitespace
 kind_after (Footnote label) rest = kind_after_label (footnote_mark (bare rest))
 

@@ -4,6 +4,7 @@ use Rattle.std.specs.Char.{is_ascii_digit, is_ascii_hexdigit, is_ascii_alphanume
 use Rattle.std.specs.Int.{is_in_range}
 use Rattle.std.specs.List.{prefix_len, fold}
 use Rattle.markdown_options.specs.declared.configuration.Constructs.{Constructs}
+use Rattle.definition_text.specs.Ascii.{number_sign, ampersand, semicolon, capital_x, small_x}
 use Rattle.definition_text.specs.Content.{Part, part}
 use Rattle.definition_inline.specs.Inline.{Leaf, leaf, Character}
 
@@ -23,7 +24,7 @@ character_reference name rest = record { name = name; rest = rest }
 -- a text before a `;`
 abbrev pub before_semicolon : List ℕ → List ℕ → Option Part
 before_semicolon text [] = None
-before_semicolon text (c ∷ cs) = if c == 59 then Some (part text cs) else None
+before_semicolon text (c ∷ cs) = if c == semicolon then Some (part text cs) else None
 
 -- the codes ahead that pass a test, from 1 to so many of them, before a `;`
 abbrev pub terminated : (ℕ → Bool) → ℕ → List ℕ → Option Part
@@ -49,19 +50,19 @@ named (Some name) = Some (character_reference (Named name.text) name.rest)
 abbrev pub number_reference : List ℕ → Option CharacterReference
 number_reference [] = None
 number_reference (c ∷ cs) =
-    if (c == 120) || (c == 88) then numbered 16 (terminated is_ascii_hexdigit 6 cs)
+    if (c == small_x) || (c == capital_x) then numbered 16 (terminated is_ascii_hexdigit 6 cs)
     else numbered 10 (terminated is_ascii_digit 7 (c ∷ cs))
 
 -- a reference after its `&` (CommonMark 2.5)
 abbrev pub reference_after : List ℕ → Option CharacterReference
 reference_after [] = None
 reference_after (c ∷ cs) =
-    if c == 35 then number_reference cs else named (terminated is_ascii_alphanumeric 31 (c ∷ cs))
+    if c == number_sign then number_reference cs else named (terminated is_ascii_alphanumeric 31 (c ∷ cs))
 
 -- a reference by its form alone: names aren't looked up (CommonMark 2.5)
 abbrev pub reference_form : List ℕ → Option CharacterReference
 reference_form [] = None
-reference_form (c ∷ cs) = if c == 38 then reference_after cs else None
+reference_form (c ∷ cs) = if c == ampersand then reference_after cs else None
 
 -- a number that stands for no character of a text: NUL, the control characters but tab, line feed, form feed and return, surrogates, noncharacters, and all above U+10FFFF
 abbrev pub is_replaced : ℕ → Bool

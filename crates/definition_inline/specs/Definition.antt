@@ -1,5 +1,6 @@
 -- Link reference definitions (CommonMark 4.7).
 use Rattle.std.specs.Prelude.{ℕ, if◌then◌else◌, ◌==◌, List, [], ◌∷◌, Option, None, Some}
+use Rattle.definition_text.specs.Ascii.{colon}
 use Rattle.definition_text.specs.Content.{Part, is_eol}
 use Rattle.definition_inline.specs.Space.{after_spaces, after_white, begins_with_space}
 use Rattle.definition_inline.specs.Label.{label_at}
@@ -57,7 +58,7 @@ with_destination label (Some destination) = or_untitled label destination (title
 -- a definition after its label: `:`, and a destination after optional white space (CommonMark 4.7)
 abbrev pub with_colon : List ℕ → List ℕ → Option Definition
 with_colon label [] = None
-with_colon label (c ∷ cs) = if c == 58 then with_destination label (destination_at None (after_white cs)) else None
+with_colon label (c ∷ cs) = if c == colon then with_destination label (destination_at None (after_white cs)) else None
 
 -- a definition with this label, if there is one
 abbrev pub with_label : Option Part → Option Definition

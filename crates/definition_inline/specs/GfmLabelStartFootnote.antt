@@ -2,6 +2,7 @@
 --     call ::= '[^' label ']', where the label is that of a footnote definition
 use Rattle.std.specs.Prelude.{ℕ, Bool, if◌then◌else◌, ◌==◌, ◌&&◌, List, [], ◌∷◌, Option, None, Some, codes}
 use Rattle.markdown_options.specs.declared.configuration.Constructs.{Constructs}
+use Rattle.definition_text.specs.Ascii.{caret}
 use Rattle.definition_text.specs.Bytes.{begins_with}
 use Rattle.definition_inline.specs.LabelEnd.{is_label_text, Formed, Calls, leading}
 
@@ -17,7 +18,7 @@ starts_marked_call on content = on.gfm_label_start_footnote && begins_with (code
 abbrev pub called : Constructs → (List ℕ → Bool) → List ℕ → Option (List ℕ)
 called on is_footnote [] = None
 called on is_footnote (c ∷ label) =
-    if on.gfm_label_start_footnote && (c == 94) && is_label_text label && is_footnote label then Some label else None
+    if on.gfm_label_start_footnote && (c == caret) && is_label_text label && is_footnote label then Some label else None
 
 -- a call where a label is called, and otherwise a link, while links are on
 abbrev pub call_or_link : Constructs → (List ℕ → Bool) → List ℕ → List ℕ → Option (List ℕ) → Option Formed

@@ -4,6 +4,7 @@ use Rattle.std.specs.List.{filter, join_by, position, slice_split}
 use Rattle.std.specs.Str.{bytes_eq, chars, encode_utf8_all}
 use Rattle.std.specs.Str.Lossy.{utf8_lossy}
 use Rattle.caseless.specs.Caseless.{default_case_fold}
+use Rattle.definition_text.specs.Ascii.{space}
 use Rattle.definition_text.specs.Content.{is_space}
 
 -- what stands between two spaces, tabs or line endings is a word if it isn't empty
@@ -25,7 +26,7 @@ word_folded word = case_folded (utf8_lossy word)
 
 -- the bytes of a label as it is matched: its case folded, no white space at the ends, and one space for white space inside (CommonMark 6.3)
 abbrev pub normal_label : List ℕ → List ℕ
-normal_label label = join_by word_folded (32 ∷ []) (words label)
+normal_label label = join_by word_folded (space ∷ []) (words label)
 
 -- the place of the first label with these bytes, among labels as they are matched
 abbrev pub place_of : List ℕ → List (List ℕ) → Option ℕ

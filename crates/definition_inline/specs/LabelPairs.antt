@@ -1,5 +1,6 @@
 -- Which label starts and `]` go together, and what they form, as a grammar (CommonMark 6.3). The scan of a content is proved to read by it.
 use Rattle.std.specs.Prelude.{◌≡◌, ◌+◌, ℕ, Bool, true, false, ◌&&◌, ◌==◌, List, [], ◌∷◌, ◌++◌, Option, None, Some, drop, map}
+use Rattle.definition_text.specs.Ascii.{right_bracket}
 use Rattle.definition_text.specs.InlineCode.{InlineCode, codes_of}
 use Rattle.definition_inline.specs.Inline.{Data, Leaf}
 use Rattle.definition_inline.specs.Attention.{Run, run_at}
@@ -15,7 +16,7 @@ pub data Stretch : Type 0 where
 
 -- a `]` that may end a label
 abbrev pub is_label_end : InlineContext → ℕ → Bool
-is_label_end context code = context.options.constructs.label_end && (code == 93)
+is_label_end context code = context.options.constructs.label_end && (code == right_bracket)
 
 -- how many codes after a `]` belong to what it forms
 abbrev pub ended_size : Option Formed → ℕ
@@ -52,7 +53,7 @@ open_label start from outer = record { start = start; from = from; outer = outer
 
 -- the text with what a label start and its `]` form; where they form nothing, both are text
 abbrev pub ended_text : OpenLabel → Text → Option Formed → Text
-ended_text label inner None = with_tokens (unformed label inner) (Item (Data 93) ∷ [])
+ended_text label inner None = with_tokens (unformed label inner) (Item (Data right_bracket) ∷ [])
 ended_text label inner (Some found) = formed label found inner
 
 -- Stretches whose label starts are all taken, each by the `]` that matches it, and the text that they stand for. What a pair forms depends on the text between, on whether that holds a link, and on what follows. At the top a `]` may be left over, which forms nothing.
@@ -64,7 +65,7 @@ pub data IsText (context : InlineContext) : Bool → List Stretch → Text → T
       → IsText context false between inner → (end : Option Formed) → end ≡ ended_by context content (open_label start from outer) inner
       → IsText context top (before ++ Start start from ∷ (between ++ End content end ∷ [])) (ended_text (open_label start from outer) inner end)
   LeftOver : (ss : List Stretch) (t : Text) (content : List ℕ) → IsText context true ss t
-      → IsText context true (ss ++ End content None ∷ []) (with_tokens t (Item (Data 93) ∷ []))
+      → IsText context true (ss ++ End content None ∷ []) (with_tokens t (Item (Data right_bracket) ∷ []))
 
 -- the same after a label start that no `]` matches, with others that are left over
 pub data IsRest (context : InlineContext) : List Stretch → Text → Type 0 where

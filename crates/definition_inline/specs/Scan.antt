@@ -3,6 +3,7 @@ use Rattle.std.specs.Prelude.{ℕ, zero, suc, ◌+◌, ◌-◌, Bool, true, fals
 use Rattle.std.specs.List.{fold, prefix_len}
 use Rattle.markdown_options.specs.declared.configuration.Constructs.{Constructs}
 use Rattle.markdown_options.specs.declared.configuration.ParseOptions.{ParseOptions}
+use Rattle.definition_text.specs.Ascii.{right_bracket}
 use Rattle.definition_text.specs.Columns.{is_white}
 use Rattle.definition_text.specs.Bytes.{begins_with}
 use Rattle.definition_text.specs.Content.{before}
@@ -153,7 +154,7 @@ data_step code r = Next 0 (read_tokens (Item (Data code) ∷ []) r)
 
 -- a `]` after the innermost label start that is open: that one is used up, and both are text where nothing is formed (CommonMark 6.3)
 abbrev pub ended_step : OpenLabel → List OpenLabel → Text → Option Formed → Step
-ended_step label others inner None = Next 0 (read_tokens (Item (Data 93) ∷ []) (reading (unformed label inner) others))
+ended_step label others inner None = Next 0 (read_tokens (Item (Data right_bracket) ∷ []) (reading (unformed label inner) others))
 ended_step label others inner (Some found) = Next (formed_size found) (reading (formed label found inner) others)
 
 -- what the text between a label start and a `]` forms, given what follows that
@@ -169,13 +170,13 @@ ended_by context content label inner =
 
 -- a `]`, where these label starts are open
 abbrev pub label_end_step : InlineContext → List ℕ → Text → List OpenLabel → Step
-label_end_step context content inner [] = data_step 93 (reading inner [])
+label_end_step context content inner [] = data_step right_bracket (reading inner [])
 label_end_step context content inner (label ∷ others) = ended_step label others inner (ended_by context content label inner)
 
 -- a place at which nothing starts: a `]`, or a byte of text
 abbrev pub last_step : InlineContext → ℕ → List ℕ → Reading → Step
 last_step context code content r =
-    if context.options.constructs.label_end && (code == 93) then label_end_step context content r.now r.open_labels else data_step code r
+    if context.options.constructs.label_end && (code == right_bracket) then label_end_step context content r.now r.open_labels else data_step code r
 
 -- a label start, or another place
 abbrev pub label_step : InlineContext → ℕ → List ℕ → Reading → Option LabelStart → Step
