@@ -12,7 +12,7 @@ use Rattle.std.specs.Option.{option_map}
 use Rattle.definition_text.specs.Columns.{code_byte}
 use Rattle.definition_text.specs.Content.{content_of, content_text}
 use Rattle.definition_inline.specs.Definition.{definition, definition_at}
-use Rattle.definition_block.specs.Definitions.{Cut, cut_into, cut_most, cut, defined, lines_before}
+use Rattle.definition_block.specs.Definitions.{Cut, cut_into, cut_most, cut, definition_lines, lines_before}
 use Rattle.block_rows.specs.ParagraphLines.{AreLines}
 use Rattle.block_rows.specs.Rows.{Single, definition_on, definition_value, row_value, block_rows, piece_line, piece_lines}
 use Rattle.block_rows.proofs.DefinitionLines.{definition_cuts}
@@ -110,10 +110,10 @@ row_of_definition content ls end clean h =
     ∙ ap (λ n. row_value (row.Definition n) ls ∷ []) (sym h.count)
 
 pub one_more : {A : Type 0} (p q : Parser A) (content : List ℕ) (around : List Level) (kids : Blocks) (ls : List BlockLine) (k : Cutting p content around kids ls) (end : DefinitionEnd)
-    (h : EndsAt content k.left end) → HasRead q (spine around (join (join kids k.definitions) (defined h.read (take end.lines k.left))) (Text (drop end.lines k.left)))
+    (h : EndsAt content k.left end) → HasRead q (spine around (join (join kids k.definitions) (definition_lines h.read (take end.lines k.left))) (Text (drop end.lines k.left)))
     → Cutting q (drop end.bytes content) around kids ls
 one_more p q content around kids ls k end h reads =
-    let more = defined h.read (take end.lines k.left) in
+    let more = definition_lines h.read (take end.lines k.left) in
     let others = cut_all (drop end.lines k.left) in
     record {
       definitions = join k.definitions more;

@@ -10,14 +10,14 @@ use Rattle.definition_text.specs.Indents.{small_indent}
 use Rattle.definition_block.specs.declared.align_kind.AlignKind.{AlignKind}
 use Rattle.definition_block.specs.Definitions.{cut, cut_into, cut_most}
 use Rattle.definition_block.specs.GfmTable.{alignments_of, cells, delimiter_row, delimiters, is_bar_or_colon, is_head, line_cells, some_alignments}
-use Rattle.definition_block.specs.Tree.{Nil, Paragraph, Tree, ended, is_some_line, paragraph_of, table_if}
+use Rattle.definition_block.specs.Tree.{Nil, Paragraph, Tree, block_and_ending, is_some_line, paragraph_of, table_if}
 use Rattle.block_rows.specs.declared.row.Piece.{Piece}
 use Rattle.block_rows.specs.Rows.{piece_line, piece_lines}
 use Rattle.definition_text.specs.declared.beside.Kind.TheVariants.{Whitespace}
-use Rattle.block_parser.specs.GfmTable.{fits, table_left}
+use Rattle.block_parser.specs.GfmTable.{fits, table_from_cut}
 
 -- a paragraph of some lines
-pub paragraph_some : (ls : List BlockLine) → 0 < length ls → paragraph_of ls ≡ ended (Paragraph (own_lines ls)) (last_ending ls)
+pub paragraph_some : (ls : List BlockLine) → 0 < length ls → paragraph_of ls ≡ block_and_ending (Paragraph (own_lines ls)) (last_ending ls)
 paragraph_some [] some = absurd (omega arith)
 paragraph_some (line ∷ ls) some = refl
 
@@ -67,7 +67,7 @@ and-none false = refl
 module _ (on : Constructs) (row : BlockLine) where
   -- a table of these lines, where both hold
   abbrev pub table_where : Bool → List BlockLine → Option Tree
-  table_where made ls = if made then Some (table_left (cut on ls) row) else None
+  table_where made ls = if made then Some (table_from_cut (cut on ls) row) else None
 
   columns_fit : (o : Option (List AlignKind)) (ls : List BlockLine) → HasColumns o
       → table_if on o ls row ≡ table_where (fits (unwrap_or o []) ls && is_some_line (cut on ls).left) ls

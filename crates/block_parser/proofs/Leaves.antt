@@ -12,7 +12,7 @@ use Rattle.block_rows.specs.declared.row.Row.{Row}
 use Rattle.block_rows.specs.declared.row.Row.TheVariants as row
 use Rattle.block_rows.specs.declared.row.Piece.{Piece}
 use Rattle.definition_text.specs.BlockLines.{BlockLine, last_ending, last_ending_or, own_lines}
-use Rattle.definition_block.specs.Tree.{Block, IndentedCode, Ending, Blank, Blocks, Nil, join, one, ended, holds, OpenLeaf, Text, Indented, Leaf, is_nothing, close_leaf, is_some_line, blanks, is_ending, front}
+use Rattle.definition_block.specs.Tree.{Block, IndentedCode, Ending, Blank, Blocks, Nil, join, one, block_and_ending, holds, OpenLeaf, Text, Indented, Leaf, is_nothing, close_leaf, is_some_line, blanks, is_ending, front}
 use Rattle.block_rows.proofs.Pieces.{lines_from}
 use Rattle.block_rows.specs.Rows.{whole_line, Single, start_row, block_rows, row_value, rows_of, rows_value, value_with, row_size, rows_size, piece_line, piece_lines}
 use Rattle.block_parser.specs.declared.parser.Parser.{Parser}
@@ -67,7 +67,7 @@ shows_line rows waiting bare containers pool pool2 state state2 around kids leaf
 pub written_ended : (rows waiting : List Row) (bare : Bool) (pool : List BlockLine) (around : List Level) (kids : Blocks) (left : List BlockLine)
     → Written rows waiting bare pool around kids left → (r : Row) (b : Block) (ending : Option LineEnding) → rows_size waiting ≡ 0 → block_rows b ≡ row_value r left ∷ [] → is_ending b ≡ false
     → (rows2 waiting2 waiting3 : List Row) (bare2 : Bool) (left2 : List BlockLine) → rows2 ≡ (rows ++ waiting) ++ r ∷ [] → waiting2 ≡ [] → waiting3 ≡ waiting2 ++ row.Ending ending ∷ [] → bare2 ≡ false → left2 ≡ drop (row_size r) left
-    → Written rows2 waiting3 bare2 pool around (join kids (ended b ending)) left2
+    → Written rows2 waiting3 bare2 pool around (join kids (block_and_ending b ending)) left2
 written_ended rows waiting bare pool around kids left h r b ending none is other rows2 waiting2 waiting3 bare2 left2 rows_are none_wait waits is_bare left_are =
     let k = with_ending ((rows ++ waiting) ++ r ∷ []) [] false pool around (join kids (one b)) (drop (row_size r) left)
     (with_block rows waiting bare pool around kids left h r b none is other) (row.Ending ending) (Ending ending) refl refl in
@@ -143,16 +143,16 @@ written_indented on rows waiting bare pieces around kids ls pending h le none co
     sym (drop-map piece_line n pieces) ∙ ap (λ k. drop k pool) n_is ∙ sym (drop-drop count (rows_size rows) pool) ∙ ap (drop count) (sym (left_shown rows pool _ h.rows_stand)) ∙ rest_lines in
     let ended_code = written_ended rows waiting bare pool around kids (ls ++ pending) h (row.IndentedCode count) code ending none
     (ap (λ x. Single (IndentedCode (own_lines x)) ∷ []) (sym front_lines)) refl rows2 waiting2 waiting3 bare2 pending rows_are none_wait waits is_bare (sym rest_lines) in
-    let with_all = with_blanks rows2 waiting3 bare2 pool around (join kids (ended code ending)) pending (drop n pieces) ended_code in
-    let children : join (join kids (ended code ending)) (blanks (piece_lines (drop n pieces))) ≡ join kids (close_leaf on (Indented ls pending)) =
-    join-assoc kids (ended code ending) (blanks (piece_lines (drop n pieces)))
-    ∙ ap (λ e. join kids (join (ended code e) (blanks (piece_lines (drop n pieces))))) last
-    ∙ ap (λ x. join kids (join (ended code (last_ending ls)) (blanks x))) left_over in
+    let with_all = with_blanks rows2 waiting3 bare2 pool around (join kids (block_and_ending code ending)) pending (drop n pieces) ended_code in
+    let children : join (join kids (block_and_ending code ending)) (blanks (piece_lines (drop n pieces))) ≡ join kids (close_leaf on (Indented ls pending)) =
+    join-assoc kids (block_and_ending code ending) (blanks (piece_lines (drop n pieces)))
+    ∙ ap (λ e. join kids (join (block_and_ending code e) (blanks (piece_lines (drop n pieces))))) last
+    ∙ ap (λ x. join kids (join (block_and_ending code (last_ending ls)) (blanks x))) left_over in
     let fits : rows_size rows2 ≤ length pool = omega (arith, taken, n_is, all, c, length-append ls pending) in
     subst (λ (bs : Blocks). Written rows2 waiting4 bare2 (piece_lines (take n pieces)) around bs []) children
-    (written_as rows2 rows2 (waiting3 ++ map blank_row (drop n pieces)) waiting4 bare2 bare2 (take (rows_size rows2) pool) (piece_lines (take n pieces)) around (join (join kids (ended code ending)) (blanks (piece_lines (drop n pieces)))) [] []
+    (written_as rows2 rows2 (waiting3 ++ map blank_row (drop n pieces)) waiting4 bare2 bare2 (take (rows_size rows2) pool) (piece_lines (take n pieces)) around (join (join kids (block_and_ending code ending)) (blanks (piece_lines (drop n pieces)))) [] []
     refl blank refl (sym (take-map piece_line n pieces) ∙ ap (λ k. take k pool) (sym taken)) refl
-    (without_lines rows2 (waiting3 ++ map blank_row (drop n pieces)) bare2 pool around (join (join kids (ended code ending)) (blanks (piece_lines (drop n pieces)))) pending with_all fits))
+    (without_lines rows2 (waiting3 ++ map blank_row (drop n pieces)) bare2 pool around (join (join kids (block_and_ending code ending)) (blanks (piece_lines (drop n pieces)))) pending with_all fits))
 
 -- ---- a line alone, and a container
 

@@ -8,10 +8,10 @@ use Rattle.definition_text.specs.declared.beside.Beside.{Beside}
 use Rattle.definition_block.specs.Container.{Container}
 use Rattle.definition_text.specs.Columns.{Rest, bare, indent}
 use Rattle.definition_text.specs.Indents.{small_indent}
-use Rattle.definition_block.specs.Started.{Started}
+use Rattle.definition_block.specs.ContainerStart.{ContainerStart}
 use Rattle.definition_block.specs.ThematicBreak.{is_break}
 use Rattle.definition_block.specs.BlockQuote.{after_byte, after_mark, quote_prefix}
-use Rattle.definition_block.specs.ListItem.{Marker, marker_of, is_digit, number_of, bullet, delimiter, ordered, marker, gap, is_item, item, item_after, item_start}
+use Rattle.definition_block.specs.ListItem.{Marker, marker_of, is_digit, number_of, bullet, delimiter, ordered_marker, marker, gap, is_item, item, item_after, item_start}
 use Rattle.definition_text.specs.Content.{Part, may_escape, closed_by}
 use Rattle.definition_inline.specs.Label.{ends_label, label_end}
 use Rattle.definition_block.specs.GfmFootnoteDefinition.{is_footnote_label, label_before, with_colon, after_open, after_bracket, footnote_mark, footnote_of, footnote_start}
@@ -32,7 +32,7 @@ abbrev MarkerShorter : ℕ → Option Marker → Type 0
 MarkerShorter n None = Unit {0}
 MarkerShorter n (Some m) = length m.rest < n
 
-abbrev Shorter : ℕ → Option Started → Type 0
+abbrev Shorter : ℕ → Option ContainerStart → Type 0
 Shorter n None = Unit {0}
 Shorter n (Some s) = length s.rest < n
 
@@ -81,7 +81,7 @@ delimiter-shorter n number digits (code ∷ codes) le =
 marker-shorter : (n : ℕ) (rest : Rest) → length rest ≤ n → MarkerShorter n (marker rest)
 marker-shorter n rest le =
     let digits = prefix_len is_digit rest in
-    choose_if (MarkerShorter n) (digits == 0) (bullet rest) (ordered digits rest) (λ h. bullet-shorter n rest le)
+    choose_if (MarkerShorter n) (digits == 0) (bullet rest) (ordered_marker digits rest) (λ h. bullet-shorter n rest le)
     (λ h. choose_if (MarkerShorter n) (leb digits 9) (delimiter (number_of (take digits rest)) digits (drop digits rest)) None
     (λ k. delimiter-shorter n (number_of (take digits rest)) digits (drop digits rest) (omega (arith, le, length-drop digits rest))) (λ k. tt))
 
@@ -95,7 +95,7 @@ item_start-shorter on interrupts rest =
     choose_if (Shorter (length rest)) (on.list_item && small_indent on rest && not (is_break on rest)) (item_after (indent rest) interrupts (marker (bare rest))) None
     (λ h. item-shorter (length rest) (indent rest) interrupts (marker (bare rest)) (marker-shorter (length rest) (bare rest) (bare-shorter rest))) (λ h. tt)
 
-either-shorter : (n : ℕ) (other : Option Started) (o : Option Rest) → Shorter n other → RestShorter n o → Shorter n (quote_or other o)
+either-shorter : (n : ℕ) (other : Option ContainerStart) (o : Option Rest) → Shorter n other → RestShorter n o → Shorter n (quote_or other o)
 either-shorter n other None h k = h
 either-shorter n other (Some rest) h k = k
 
@@ -139,7 +139,7 @@ footnote-shorter on rest =
     (λ h. footnote_of-shorter (length rest) (footnote_mark (bare rest)) (bracket-shorter (length rest) (after_byte 91 (bare rest)) (byte-shorter (length rest) 91 (bare rest) (bare-shorter rest))))
     (λ h. tt)
 
-footnote_or-shorter : (n : ℕ) (other o : Option Started) → Shorter n other → Shorter n o → Shorter n (footnote_or other o)
+footnote_or-shorter : (n : ℕ) (other o : Option ContainerStart) → Shorter n other → Shorter n o → Shorter n (footnote_or other o)
 footnote_or-shorter n other None h k = h
 footnote_or-shorter n other (Some footnote) h k = k
 
@@ -149,23 +149,23 @@ starts-shorter on interrupts rest =
     (footnote_or-shorter (length rest) (item_start on interrupts rest) (footnote_start on rest) (item_start-shorter on interrupts rest) (footnote-shorter on rest))
     (quote-shorter on rest)
 
-pub start-shorter : (on : Constructs) (interrupts : Bool) (rest : Rest) (s : Started) → starts on interrupts rest ≡ Some s → length s.rest < length rest
+pub start-shorter : (on : Constructs) (interrupts : Bool) (rest : Rest) (s : ContainerStart) → starts on interrupts rest ≡ Some s → length s.rest < length rest
 start-shorter on interrupts rest s is = subst (Shorter (length rest)) is (starts-shorter on interrupts rest)
 
-starts-none : (on : Constructs) (interrupts : Bool) (o : Option Started) → Shorter 0 o → o ≡ None
+starts-none : (on : Constructs) (interrupts : Bool) (o : Option ContainerStart) → Shorter 0 o → o ≡ None
 starts-none on interrupts None h = refl
 starts-none on interrupts (Some s) h = absurd (omega (arith, h))
 
 -- ---- enough containers may start
 
 module _ (on : Constructs) where
-  start-same : (n : ℕ) (o : Option Started) (away : Opening) (other : Tree) (f g : Started → Tree) → Shorter n o
-      → ((s : Started) → length s.rest < n → f s ≡ g s) → start on o away other f ≡ start on o away other g
+  start-same : (n : ℕ) (o : Option ContainerStart) (away : Opening) (other : Tree) (f g : ContainerStart → Tree) → Shorter n o
+      → ((s : ContainerStart) → length s.rest < n → f s ≡ g s) → start on o away other f ≡ start on o away other g
   start-same n None away other f g h same = refl
   start-same n (Some s) away other f g h same = ap (λ (t : Tree). after on away (tree Nil (Inside s.container t.done t.now))) (same s h)
 
   -- what starts in the container that starts on a rest
-  abbrev inner_new : ℕ → Beside → Rest → Started → Tree
+  abbrev inner_new : ℕ → Beside → Rest → ContainerStart → Tree
   inner_new n beside rest s = new n on true nothing (beside_in s.container rest beside) s.rest
 
   new-same : (m n : ℕ) (all : Bool) (away : Opening) (beside : Beside) (rest : Rest) → length rest ≤ m → length rest ≤ n
@@ -189,7 +189,7 @@ module _ (on : Constructs) (beside : Beside) where
   new_none (suc n) all away rest h = ap (λ o. start on o away (leaf_line on away rest beside) (inner_new on n beside rest)) h
 
   -- a container starts
-  new-some : (n : ℕ) (all : Bool) (away : Opening) (rest : Rest) (s : Started) → length rest ≤ n → starts on (all && has_text away) rest ≡ Some s
+  new-some : (n : ℕ) (all : Bool) (away : Opening) (rest : Rest) (s : ContainerStart) → length rest ≤ n → starts on (all && has_text away) rest ≡ Some s
       → let t = new_inside on (beside_in s.container rest beside) s.rest in new n on all away beside rest ≡ after on away (tree Nil (Inside s.container t.done t.now))
   new-some zero all away rest s le h = absurd (omega (arith, le, start-shorter on (all && has_text away) rest s h))
   new-some (suc n) all away rest s le h =
@@ -197,7 +197,7 @@ module _ (on : Constructs) (beside : Beside) where
       ∙ ap (λ (t : Tree). after on away (tree Nil (Inside s.container t.done t.now)))
       (new-same on n (length s.rest) true nothing (beside_in s.container rest beside) s.rest (omega (arith, le, start-shorter on (all && has_text away) rest s h)) (omega arith))
 
-  pub new_some : (all : Bool) (away : Opening) (rest : Rest) (s : Started) → starts on (all && has_text away) rest ≡ Some s
+  pub new_some : (all : Bool) (away : Opening) (rest : Rest) (s : ContainerStart) → starts on (all && has_text away) rest ≡ Some s
       → let t = new_inside on (beside_in s.container rest beside) s.rest in new (length rest) on all away beside rest ≡ after on away (tree Nil (Inside s.container t.done t.now))
   new_some all away rest s h = new-some (length rest) all away rest s (omega arith) h
 
@@ -214,7 +214,7 @@ module _ (on : Constructs) (beside : Beside) where
   after-nothing t = ap (λ (bs : Blocks). tree (join bs t.done) t.now) (closed-nothing on.definition)
 
   -- one container more
-  pub inside_more : (around : List Level) (kids : Blocks) (rest : Rest) (s : Started) → starts on false rest ≡ Some s
+  pub inside_more : (around : List Level) (kids : Blocks) (rest : Rest) (s : ContainerStart) → starts on false rest ≡ Some s
       → spine_after around kids (new_inside on beside rest) ≡ spine_after (level s.container kids ∷ around) Nil (new_inside on (beside_in s.container rest beside) s.rest)
   inside_more around kids rest s is =
       let t = new_inside on (beside_in s.container rest beside) s.rest in

@@ -13,7 +13,7 @@ use Rattle.definition_block.specs.Blocks.{Nil, join}
 use Rattle.definition_text.specs.Content.{is_eol, line_ending_code, ending_code, content_of}
 use Rattle.block_rows.specs.ParagraphLines.{HaveNoEnding, AreLines}
 use Rattle.definition_inline.specs.Definition.{Definition as LinkDefinition, definition, definition_at}
-use Rattle.definition_block.specs.Definitions.{Cut, cut_into, cut_after, cut_most, defined, line_count, lines_before}
+use Rattle.definition_block.specs.Definitions.{Cut, cut_into, cut_after, cut_most, definition_lines, line_count, lines_before}
 use Rattle.definition_inline.proofs.DefinitionAlone.{definition_alone}
 
 is_ending_code : (e : LineEnding) → is_eol (line_ending_code e) ≡ true
@@ -203,7 +203,7 @@ same_cuts : (some other : List BlockLine → Cut) (ls : List BlockLine) (o : Opt
     → definition_at (content_of (own_lines ls)) ≡ o → cut_after o ls some ≡ cut_after o ls other
 same_cuts some other ls None same e = refl
 same_cuts some other ls (Some d) same e =
-    ap (λ others. cut_into (join (defined d (take (lines_before d.rest ls) ls)) others.definitions) others.left) (same d e)
+    ap (λ others. cut_into (join (definition_lines d (take (lines_before d.rest ls) ls)) others.definitions) others.left) (same d e)
 
 pub cut_enough : (most more : ℕ) (ls : List BlockLine) → AreLines ls → length ls ≤ most → length ls ≤ more → cut_most most ls ≡ cut_most more ls
 cut_enough zero more [] h p q = sym (no_lines more)

@@ -13,7 +13,7 @@ use Rattle.definition_text.specs.declared.beside.Kind.TheVariants.{Whitespace}
 use Rattle.definition_text.specs.Lines.{TextLine, text_line, in_first_line, after_return, lines}
 use Rattle.definition_text.specs.Columns.{Rest, tab_column, columns_after_tab, codes_from, whole, is_white, is_blank, indent, bare, is_tab_column, is_byte, bytes_of, block_codes}
 use Rattle.definition_text.specs.Indents.{small_indent}
-use Rattle.definition_block.specs.Started.{Started}
+use Rattle.definition_block.specs.ContainerStart.{ContainerStart}
 use Rattle.definition_block.specs.BlockQuote.{after_byte, after_mark, quote_prefix}
 use Rattle.definition_block.specs.ListItem.{Marker, is_digit, number_of, bullet, delimiter, marker, gap, is_item, item_after, item_start, is_inside}
 use Rattle.definition_block.specs.GfmFootnoteDefinition.{is_footnote_label, label_before, with_colon, after_open, after_bracket, footnote_mark, footnote_of, footnote_start}
@@ -32,7 +32,7 @@ use Rattle.definition_block.specs.declared.align_kind.AlignKind.{AlignKind}
 use Rattle.definition_block.specs.GfmTable.{delimiter_row, is_head}
 use Rattle.block_rows.specs.ParagraphLines.{HaveNoEnding, AreLines}
 use Rattle.definition_text.specs.BlockLines.{BlockLine}
-use Rattle.definition_block.specs.Tree.{Blocks, OpenLeaf, Text, Indented, Fenced, OpenHtml, OpenTable, Opening, Leaf, Inside, Tree, nothing, empty_tree, open_text, has_text, has_table, is_some_line, table_if, makes_table, with_line, rest_line, takes, html_with, or_heading, or_fence, or_html, begins, text_line_of, break_or_text, text_here, heading_of, underlined, turns, begun, taken, leaf_line, start, new, began_blank, goes_on, grow, beside_in, beside_line, step, steps}
+use Rattle.definition_block.specs.Tree.{Blocks, OpenLeaf, Text, Indented, Fenced, OpenHtml, OpenTable, Opening, Leaf, Inside, Tree, nothing, empty_tree, open_text, has_text, has_table, is_some_line, table_if, makes_table, with_line, rest_line, takes, html_with, or_heading, or_fence, or_html, begins, text_line_of, break_or_text, text_here, heading_of, heading_if, turns, begun, tree_or, leaf_line, start, new, began_blank, goes_on, grow, beside_in, beside_line, step, steps}
 
 -- ---- codes without a line ending
 
@@ -157,7 +157,7 @@ abbrev pub SomeClear : Option Rest → Type 0
 SomeClear None = Unit {0}
 SomeClear (Some rest) = HaveNoEnding rest
 
-abbrev pub StartedClear : Option Started → Type 0
+abbrev pub StartedClear : Option ContainerStart → Type 0
 StartedClear None = Unit {0}
 StartedClear (Some s) = HaveNoEnding s.rest
 
@@ -206,7 +206,7 @@ clear_item on interrupts rest h =
     cond_both (on.list_item && small_indent on rest && not (is_break on rest)) _ _ StartedClear
     (λ _. clear_item_after (indent rest) interrupts (marker (bare rest)) (clear_marker (bare rest) (clear_bare rest h))) (λ _. tt)
 
-clear_quote_or : (other : Option Started) (o : Option Rest) → StartedClear other → SomeClear o → StartedClear (quote_or other o)
+clear_quote_or : (other : Option ContainerStart) (o : Option Rest) → StartedClear other → SomeClear o → StartedClear (quote_or other o)
 clear_quote_or other None h k = h
 clear_quote_or other (Some rest) h k = k
 
@@ -254,7 +254,7 @@ clear_footnote on rest h =
     cond_both (on.gfm_footnote_definition && small_indent on rest) _ _ StartedClear
     (λ _. clear_footnote_of (footnote_mark marked) (clear_bracket (after_byte 91 marked) (clear_after_byte 91 marked (clear_bare rest h)))) (λ _. tt)
 
-clear_footnote_or : (other o : Option Started) → StartedClear other → StartedClear o → StartedClear (footnote_or other o)
+clear_footnote_or : (other o : Option ContainerStart) → StartedClear other → StartedClear o → StartedClear (footnote_or other o)
 clear_footnote_or other None h k = h
 clear_footnote_or other (Some footnote) h k = k
 
@@ -283,7 +283,7 @@ module _ (on : Constructs) (e : LineEnding) (beside : Beside) where
   SomeOpenTo None = Unit {0}
   SomeOpenTo (Some t) = OpenTo t
 
-  open_taken : (o : Option Tree) (other : Tree) → SomeOpenTo o → OpenTo other → OpenTo (taken o other)
+  open_taken : (o : Option Tree) (other : Tree) → SomeOpenTo o → OpenTo other → OpenTo (tree_or o other)
   open_taken None other p q = q
   open_taken (Some t) other p q = p
 
@@ -326,7 +326,7 @@ module _ (on : Constructs) (e : LineEnding) (beside : Beside) where
   open_heading rank definitions [] = tt
   open_heading rank definitions (line ∷ others) = tt
 
-  open_underlined : (o : Option ℕ) (ls : List BlockLine) → SomeOpenTo (underlined on o ls beside.ending)
+  open_underlined : (o : Option ℕ) (ls : List BlockLine) → SomeOpenTo (heading_if on o ls beside.ending)
   open_underlined None ls = tt
   open_underlined (Some rank) ls = open_heading rank (cut on ls).definitions (cut on ls).left
 
@@ -366,8 +366,8 @@ module _ (on : Constructs) (e : LineEnding) (beside : Beside) where
 
 -- what is open after containers that start, and after those that go on
 module _ (on : Constructs) (e : LineEnding) where
-  open_start : (beside : Beside) (o : Option Started) (away : Opening) (other : Tree) (more : Started → Tree) → StartedClear o → OpenTo on e beside other
-      → ((s : Started) → HaveNoEnding s.rest → OpenTo on e beside (more s)) → OpenTo on e beside (start on o away other more)
+  open_start : (beside : Beside) (o : Option ContainerStart) (away : Opening) (other : Tree) (more : ContainerStart → Tree) → StartedClear o → OpenTo on e beside other
+      → ((s : ContainerStart) → HaveNoEnding s.rest → OpenTo on e beside (more s)) → OpenTo on e beside (start on o away other more)
   open_start beside None away other more p q m = q
   open_start beside (Some s) away other more p q m = m s p
 

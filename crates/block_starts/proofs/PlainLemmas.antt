@@ -7,7 +7,7 @@ use Rattle.std.proofs.Math.ListN.{drop_of_length-le}
 use Rattle.markdown_options.specs.declared.configuration.Constructs.{Constructs}
 use Rattle.definition_text.specs.declared.beside.Kind.{Kind}
 use Rattle.definition_text.specs.declared.beside.Kind.TheVariants.{Whitespace}
-use Rattle.definition_text.specs.Columns.{Rest, is_white, is_blank, indent, bare, is_byte, bytes_of, trimmed}
+use Rattle.definition_text.specs.Columns.{Rest, is_white, is_blank, indent, bare, is_byte, bytes_of, trim}
 use Rattle.definition_text.specs.Content.{may_escape}
 use Rattle.definition_text.specs.Indents.{small_indent}
 use Rattle.definition_text.specs.Bytes.{begins_with}
@@ -180,7 +180,7 @@ no_break_text (b ∷ bs) plain =
 -- ---- rows of delimiters
 
 -- a cell that begins with such a byte is no delimiter
-no_delimiter : (b : ℕ) (bs : List ℕ) → is_plain_byte b ≡ true → delimiter (trimmed (b ∷ bs)) ≡ None
+no_delimiter : (b : ℕ) (bs : List ℕ) → is_plain_byte b ≡ true → delimiter (trim (b ∷ bs)) ≡ None
 no_delimiter b bs plain =
     let same : drop (prefix_len is_white (b ∷ bs)) (b ∷ bs) ≡ b ∷ bs = ap (λ n. drop n (b ∷ bs)) (cond-false (is_white b) _ 0 (no_white b plain)) in
     ap (λ rest. delimiter (take (length rest - suffix_len is_white rest) rest)) same ∙ front (length (b ∷ bs) - suffix_len is_white (b ∷ bs))

@@ -4,7 +4,7 @@ use Rattle.definition_block.specs.declared.container.Container.{Container as Cod
 use Rattle.definition_block.specs.declared.container.Container.TheVariants as code
 use Rattle.definition_block.specs.Container.{Container, Quote, Item, Footnote}
 use Rattle.definition_text.specs.Columns.{Rest, tab_column, codes_from}
-use Rattle.definition_block.specs.Started.{Started, started}
+use Rattle.definition_block.specs.ContainerStart.{ContainerStart, container_start}
 use Rattle.block_starts.specs.declared.cursor.Cursor.{Cursor}
 
 -- the columns left of a tab, and the codes of the bytes after them
@@ -23,6 +23,6 @@ container_view (code.Footnote label) = Footnote label.now
 abbrev pub container_views : List CodeContainer → List Container
 container_views cs = map container_view cs
 
-abbrev pub started_if : Option (CodeContainer × Cursor) → Option Started
+abbrev pub started_if : Option (CodeContainer × Cursor) → Option ContainerStart
 started_if None = None
-started_if (Some s) = Some (started (container_view s.0) (rest_of s.1))
+started_if (Some s) = Some (container_start (container_view s.0) (rest_of s.1))

@@ -12,7 +12,7 @@ ghost use Rattle.definition_block.specs.ListItem.{is_item as is_item_after, item
 ghost use Rattle.definition_block.specs.ListItem.{is_inside as is_inside_item, item_continues as item_goes_on};
 ghost use Rattle.block_starts.specs.View.{rest_of, rest_if, container_view, started_if};
 ghost use Rattle.block_starts.specs.ListItem.{marker_view, marker_if};
-ghost use Rattle.definition_block.specs.Started.{started};
+ghost use Rattle.definition_block.specs.ContainerStart.{container_start};
 
 use crate::cursor::Cursor;
 use crate::indent::is_small;
@@ -152,7 +152,7 @@ fn is_first(number: Option<u32>) -> bool
 fn make_item<'a>(columns: usize, marker: Marker<'a>) -> (Container<'a>, Cursor<'a>)
     requires columns { columns < 2 ^ 63 }
     requires size { marker.size ≤ 10 }
-    ensures { started (container_view result.0) (rest_of result.1) ≡ item_of columns (marker_view marker.entry) }
+    ensures { container_start (container_view result.0) (rest_of result.1) ≡ item_of columns (marker_view marker.entry) }
 {
     let gap = gap(marker.rest);
     let item = Item {

@@ -3,7 +3,7 @@ use Rattle.std.specs.Prelude.{ℕ, if◌then◌else◌, ◌==◌, ◌&&◌, [], 
 use Rattle.markdown_options.specs.declared.configuration.Constructs.{Constructs}
 use Rattle.definition_text.specs.Ascii.{greater_than}
 use Rattle.definition_text.specs.Columns.{Rest, bare}
-use Rattle.definition_text.specs.Indents.{small_indent, outdented}
+use Rattle.definition_text.specs.Indents.{small_indent, outdent}
 
 -- what follows this byte, where the rest begins with it
 abbrev pub after_byte : ℕ → Rest → Option Rest
@@ -13,7 +13,7 @@ after_byte byte (code ∷ codes) = if code == byte then Some codes else None
 -- a column of space after the `>` belongs to it
 abbrev pub after_mark : Option Rest → Option Rest
 after_mark None = None
-after_mark (Some rest) = Some (outdented 1 rest)
+after_mark (Some rest) = Some (outdent 1 rest)
 
 -- the rest after a `>`, with which a quote starts and goes on (CommonMark 5.1)
 abbrev pub quote_prefix : Constructs → Rest → Option Rest

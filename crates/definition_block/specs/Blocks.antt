@@ -32,5 +32,5 @@ abbrev pub one : Block → Blocks
 one b = Cons b Nil
 
 -- a block, and the ending of its last line
-abbrev pub ended : Block → Option LineEnding → Blocks
-ended b ending = Cons b (one (Ending ending))
+abbrev pub block_and_ending : Block → Option LineEnding → Blocks
+block_and_ending b ending = Cons b (one (Ending ending))

@@ -3,8 +3,8 @@ use Rattle.std.specs.Prelude.{ℕ, Bool, not, if◌then◌else◌, ◌==◌, ◌
 use Rattle.std.specs.List.{position_or_len, list_all}
 use Rattle.markdown_options.specs.declared.configuration.Constructs.{Constructs}
 use Rattle.definition_text.specs.Ascii.{backtick, tilde}
-use Rattle.definition_text.specs.Columns.{Rest, bare, bytes_of, indent, is_white, trimmed}
-use Rattle.definition_text.specs.Indents.{small_indent, outdented}
+use Rattle.definition_text.specs.Columns.{Rest, bare, bytes_of, indent, is_white, trim}
+use Rattle.definition_text.specs.Indents.{small_indent, outdent}
 use Rattle.definition_text.specs.Runs.{run, after_run, is_run}
 
 -- an opening fence: its byte, how many there are, the columns before it, and the word after it
@@ -16,7 +16,7 @@ pub record Fence : Type 0 where
 
 -- the first word of a text
 abbrev pub first_word : List ℕ → List ℕ
-first_word text = take (position_or_len is_white (trimmed text)) (trimmed text)
+first_word text = take (position_or_len is_white (trim text)) (trim text)
 
 abbrev pub fence_by : ℕ → ℕ → ℕ → List ℕ → Fence
 fence_by byte run columns after = record { byte = byte; run = run; indent = columns; info = first_word after }
@@ -37,4 +37,4 @@ is_fence_end on fence rest = small_indent on rest && is_run fence.run fence.byte
 
 -- a line of the content, which loses up to the fence's indent (CommonMark 4.5)
 abbrev pub fence_line : Fence → Rest → Rest
-fence_line fence rest = outdented fence.indent rest
+fence_line fence rest = outdent fence.indent rest

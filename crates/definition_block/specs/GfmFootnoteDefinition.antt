@@ -10,7 +10,7 @@ use Rattle.definition_text.specs.Indents.{small_indent}
 use Rattle.definition_text.specs.Content.{Part, part, is_space, closed_by}
 use Rattle.definition_inline.specs.Label.{label_end, is_label}
 use Rattle.definition_block.specs.Container.{Footnote}
-use Rattle.definition_block.specs.Started.{Started, started}
+use Rattle.definition_block.specs.ContainerStart.{ContainerStart, container_start}
 use Rattle.definition_block.specs.BlockQuote.{after_byte}
 use Rattle.definition_block.specs.ListItem.{item_continues}
 
@@ -42,12 +42,12 @@ abbrev pub footnote_mark : Rest → Option Part
 footnote_mark rest = after_bracket (after_byte left_bracket rest)
 
 -- the footnote definition of a label; all white space after its colon belongs to it
-abbrev pub footnote_of : Option Part → Option Started
+abbrev pub footnote_of : Option Part → Option ContainerStart
 footnote_of None = None
-footnote_of (Some mark) = Some (started (Footnote mark.text) (bare mark.rest))
+footnote_of (Some mark) = Some (container_start (Footnote mark.text) (bare mark.rest))
 
 -- the footnote definition that starts here
-abbrev pub footnote_start : Constructs → Rest → Option Started
+abbrev pub footnote_start : Constructs → Rest → Option ContainerStart
 footnote_start on rest = if on.gfm_footnote_definition && small_indent on rest then footnote_of (footnote_mark (bare rest)) else None
 
 -- the rest after four columns, of which a blank rest may have fewer

@@ -7,7 +7,7 @@ use Rattle.definition_text.specs.Ascii.{hyphen, colon, vertical_bar}
 use Rattle.definition_text.specs.declared.beside.Kind.{Kind}
 use Rattle.definition_text.specs.declared.beside.Kind.TheVariants.{Whitespace, Punctuation}
 use Rattle.definition_text.specs.BlockLines.{BlockLine}
-use Rattle.definition_text.specs.Columns.{Rest, is_blank, trimmed, bare, bytes_of}
+use Rattle.definition_text.specs.Columns.{Rest, is_blank, trim, bare, bytes_of}
 use Rattle.definition_text.specs.Indents.{small_indent}
 use Rattle.definition_text.specs.Runs.{run, after_run}
 use Rattle.definition_text.specs.Bytes.{begins_with}
@@ -90,7 +90,7 @@ and_alignment (Some first) others = option_map (λ more. first ∷ more) others
 -- how columns are aligned, where all these cells are delimiters
 abbrev pub alignments_of : List Cell → Option (List AlignKind)
 alignments_of [] = Some []
-alignments_of (c ∷ cs) = and_alignment (delimiter (trimmed c.codes)) (alignments_of cs)
+alignments_of (c ∷ cs) = and_alignment (delimiter (trim c.codes)) (alignments_of cs)
 
 abbrev pub is_bar_or_colon : ℕ → Bool
 is_bar_or_colon code = (code == vertical_bar) || (code == colon)

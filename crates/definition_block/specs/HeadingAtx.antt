@@ -3,7 +3,7 @@ use Rattle.std.specs.Prelude.{ℕ, ◌-◌, Bool, true, if◌then◌else◌, ◌
 use Rattle.std.specs.List.{suffix_len}
 use Rattle.markdown_options.specs.declared.configuration.Constructs.{Constructs}
 use Rattle.definition_text.specs.Ascii.{number_sign}
-use Rattle.definition_text.specs.Columns.{Rest, bare, bytes_of, is_white, trimmed}
+use Rattle.definition_text.specs.Columns.{Rest, bare, bytes_of, is_white, trim}
 use Rattle.definition_text.specs.Indents.{small_indent}
 use Rattle.definition_text.specs.Runs.{run, after_run}
 
@@ -29,12 +29,12 @@ without_run text = take (length text - suffix_len (λ b. b == number_sign) text)
 
 -- a run of `#` at the end closes a heading where white space or nothing stands before it
 abbrev pub without_closing : List ℕ → List ℕ
-without_closing text = if ends_apart (without_run text) then trimmed (without_run text) else text
+without_closing text = if ends_apart (without_run text) then trim (without_run text) else text
 
 abbrev pub atx_of : List ℕ → Option Atx
 atx_of text =
     let rank = run number_sign text in
-    if leb 1 rank && leb rank 6 && begins_apart (after_run number_sign text) then Some (atx rank (without_closing (trimmed (after_run number_sign text)))) else None
+    if leb 1 rank && leb rank 6 && begins_apart (after_run number_sign text) then Some (atx rank (without_closing (trim (after_run number_sign text)))) else None
 
 -- the heading that the line is: 1 to 6 `#`, and white space or the line's end (CommonMark 4.2)
 abbrev pub heading_atx : Constructs → Rest → Option Atx

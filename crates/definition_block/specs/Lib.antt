@@ -1,5 +1,5 @@
 pub mod Container
-pub mod Started
+pub mod ContainerStart
 pub mod BlockQuote
 pub mod ThematicBreak
 pub mod ListItem

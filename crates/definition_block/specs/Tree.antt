@@ -9,11 +9,11 @@ use Rattle.definition_text.specs.declared.beside.Kind.TheVariants.{Whitespace, P
 use Rattle.definition_block.specs.Container.{Container, Quote, Item, Footnote}
 use Rattle.definition_text.specs.Lines.{TextLine, lines}
 pub use Rattle.definition_text.specs.BlockLines.{BlockLine, block_line, spaced_line, last_ending_or, last_ending, own_lines}
-pub use Rattle.definition_block.specs.Blocks.{Block, Paragraph, Heading, Break, IndentedCode, FencedCode, Html, Table, Definition, Holds, Items, Ending, Blank, Blocks, Nil, Cons, join, one, ended}
+pub use Rattle.definition_block.specs.Blocks.{Block, Paragraph, Heading, Break, IndentedCode, FencedCode, Html, Table, Definition, Holds, Items, Ending, Blank, Blocks, Nil, Cons, join, one, block_and_ending}
 use Rattle.definition_text.specs.Content.{Part}
 use Rattle.definition_text.specs.Columns.{Rest, whole, is_white, is_blank, bare, block_codes}
-use Rattle.definition_text.specs.Indents.{outdented}
-use Rattle.definition_block.specs.Started.{Started}
+use Rattle.definition_text.specs.Indents.{outdent}
+use Rattle.definition_block.specs.ContainerStart.{ContainerStart}
 use Rattle.definition_block.specs.BlockQuote.{after_byte}
 use Rattle.definition_block.specs.Containers.{continues, starts}
 use Rattle.definition_block.specs.GfmFootnoteDefinition.{footnote_mark}
@@ -68,7 +68,7 @@ blanks (line ∷ others) = Cons (Blank line.ending) (blanks others)
 -- a paragraph of these lines, if there are any
 abbrev pub paragraph_of : List BlockLine → Blocks
 paragraph_of [] = Nil
-paragraph_of (line ∷ others) = ended (Paragraph (own_lines (line ∷ others))) (last_ending (line ∷ others))
+paragraph_of (line ∷ others) = block_and_ending (Paragraph (own_lines (line ∷ others))) (last_ending (line ∷ others))
 
 -- a paragraph after the definitions at its front, which are none of its lines (CommonMark 4.7)
 abbrev pub with_paragraph : Cut → Blocks
@@ -77,10 +77,10 @@ with_paragraph parts = join parts.definitions (paragraph_of parts.left)
 -- the children that are finished where this leaf is closed
 abbrev pub close_leaf : Constructs → OpenLeaf → Blocks
 close_leaf on (Text ls) = with_paragraph (cut on ls)
-close_leaf on (Indented ls pending) = join (ended (IndentedCode (own_lines ls)) (last_ending ls)) (blanks pending)
-close_leaf on (Fenced fence ending ls) = ended (FencedCode fence.info false ls) (last_ending_or ending ls)
-close_leaf on (OpenHtml kind ls) = ended (Html (own_lines ls)) (last_ending ls)
-close_leaf on (OpenTable ls) = ended (Table (own_lines ls)) (last_ending ls)
+close_leaf on (Indented ls pending) = join (block_and_ending (IndentedCode (own_lines ls)) (last_ending ls)) (blanks pending)
+close_leaf on (Fenced fence ending ls) = block_and_ending (FencedCode fence.info false ls) (last_ending_or ending ls)
+close_leaf on (OpenHtml kind ls) = block_and_ending (Html (own_lines ls)) (last_ending ls)
+close_leaf on (OpenTable ls) = block_and_ending (Table (own_lines ls)) (last_ending ls)
 
 abbrev pub is_ending : Block → Bool
 is_ending (Ending ending) = true
@@ -172,21 +172,21 @@ rest_line rest beside = block_line (block_codes rest) beside.ending beside.befor
 -- indented code goes on where the rest is indented 4 columns, and may go on over a blank one (CommonMark 4.4)
 abbrev pub indented_takes : Constructs → List BlockLine → List BlockLine → Rest → Beside → Option Tree
 indented_takes on ls pending rest beside =
-    if is_blank rest then Some (tree Nil (Leaf (Indented ls (pending ++ rest_line (outdented 4 rest) beside ∷ []))))
-    else (if starts_code_indented on rest then Some (tree Nil (Leaf (Indented (ls ++ pending ++ rest_line (outdented 4 rest) beside ∷ []) [])))
+    if is_blank rest then Some (tree Nil (Leaf (Indented ls (pending ++ rest_line (outdent 4 rest) beside ∷ []))))
+    else (if starts_code_indented on rest then Some (tree Nil (Leaf (Indented (ls ++ pending ++ rest_line (outdent 4 rest) beside ∷ []) [])))
     else None)
 
 -- fenced code takes every line up to its closing fence (CommonMark 4.5)
 abbrev pub fenced_takes : Constructs → Fence → Option LineEnding → List BlockLine → Rest → Beside → Option Tree
 fenced_takes on fence opening ls rest beside =
-    if is_fence_end on fence rest then Some (tree (ended (FencedCode fence.info true ls) beside.ending) nothing)
+    if is_fence_end on fence rest then Some (tree (block_and_ending (FencedCode fence.info true ls) beside.ending) nothing)
     else Some (tree Nil (Leaf (Fenced fence opening (ls ++ rest_line (fence_line fence rest) beside ∷ []))))
 
 -- an HTML block with one more line, which may end it (CommonMark 4.6)
 abbrev pub html_with : ℕ → List BlockLine → Rest → Beside → Tree
 html_with kind ls rest beside =
     let more = ls ++ rest_line rest beside ∷ [] in
-    if html_ends_here kind rest then tree (ended (Html (own_lines more)) beside.ending) nothing else tree Nil (Leaf (OpenHtml kind more))
+    if html_ends_here kind rest then tree (block_and_ending (Html (own_lines more)) beside.ending) nothing else tree Nil (Leaf (OpenHtml kind more))
 
 -- an HTML block takes every line up to its end, which may come before a blank one (CommonMark 4.6)
 abbrev pub html_takes : ℕ → List BlockLine → Rest → Beside → Option Tree
@@ -202,7 +202,7 @@ takes on (OpenTable ls) rest beside = None
 
 abbrev pub or_heading : Option LineEnding → Option Atx → Option Tree
 or_heading ending None = None
-or_heading ending (Some atx) = Some (tree (ended (Heading atx.rank (spaced_line atx.content None ∷ [])) ending) nothing)
+or_heading ending (Some atx) = Some (tree (block_and_ending (Heading atx.rank (spaced_line atx.content None ∷ [])) ending) nothing)
 
 abbrev pub or_fence : Option LineEnding → Option Fence → Option Tree → Option Tree
 or_fence ending None other = other
@@ -216,7 +216,7 @@ or_html rest beside (Some kind) other = Some (html_with kind [] rest beside)
 -- the leaf that a rest begins, other than a paragraph or a break: indented code, which can't interrupt a paragraph, fenced code, math, an HTML block, or an ATX heading, in this order
 abbrev pub begins : Constructs → Bool → Rest → Beside → Option Tree
 begins on paragraph rest beside =
-    if starts_code_indented on rest && not paragraph then Some (tree Nil (Leaf (Indented (rest_line (outdented 4 rest) beside ∷ []) [])))
+    if starts_code_indented on rest && not paragraph then Some (tree Nil (Leaf (Indented (rest_line (outdent 4 rest) beside ∷ []) [])))
     else or_fence beside.ending (fence_start on rest)
     (or_fence beside.ending (math_start on rest)
     (or_html rest beside (html_start on paragraph rest)
@@ -241,16 +241,16 @@ text_here (Inside c kids inner) = []
 abbrev pub heading_of : ℕ → Blocks → List BlockLine → Option LineEnding → Option Tree
 heading_of rank definitions [] ending = None
 heading_of rank definitions (line ∷ others) ending =
-    Some (tree (join definitions (ended (Heading rank (own_lines (line ∷ others))) ending)) nothing)
+    Some (tree (join definitions (block_and_ending (Heading rank (own_lines (line ∷ others))) ending)) nothing)
 
 -- the same for an underline of a rank, where there is one
-abbrev pub underlined : Constructs → Option ℕ → List BlockLine → Option LineEnding → Option Tree
-underlined on None ls ending = None
-underlined on (Some rank) ls ending = let parts = cut on ls in heading_of rank parts.definitions parts.left ending
+abbrev pub heading_if : Constructs → Option ℕ → List BlockLine → Option LineEnding → Option Tree
+heading_if on None ls ending = None
+heading_if on (Some rank) ls ending = let parts = cut on ls in heading_of rank parts.definitions parts.left ending
 
 -- what an underline makes of the open paragraph: a heading (CommonMark 4.3)
 abbrev pub turns : Constructs → Opening → Rest → Option LineEnding → Option Tree
-turns on away rest ending = underlined on (underline on rest) (text_here away) ending
+turns on away rest ending = heading_if on (underline on rest) (text_here away) ending
 
 -- the definitions and the lines before the last one of a paragraph, and an open table with that one as its head
 abbrev pub table_of : Blocks → List BlockLine → BlockLine → Tree
@@ -274,21 +274,21 @@ begun on None away other = other
 begun on (Some t) away other = after on away t
 
 -- what takes the line, or something other
-abbrev pub taken : Option Tree → Tree → Tree
-taken None other = other
-taken (Some t) other = t
+abbrev pub tree_or : Option Tree → Tree → Tree
+tree_or None other = other
+tree_or (Some t) other = t
 
 -- a rest in which no other leaf begins: a break, a table, or text
 abbrev pub break_or_text : Constructs → Opening → Rest → Beside → Tree
 break_or_text on away rest beside =
-    if is_break on rest then after on away (tree (ended Break beside.ending) nothing)
-    else taken (makes_table on away rest beside) (text_line_of on away rest beside)
+    if is_break on rest then after on away (tree (block_and_ending Break beside.ending) nothing)
+    else tree_or (makes_table on away rest beside) (text_line_of on away rest beside)
 
 -- the rest of a line that starts no container, where `away` is what the line isn't in: a blank one closes it (CommonMark 4.9)
 abbrev pub leaf_line : Constructs → Opening → Rest → Beside → Tree
 leaf_line on away rest beside =
     if is_blank rest then after on away (tree (one (Blank beside.ending)) nothing)
-    else begun on (begins on (has_text away) rest beside) away (taken (turns on away rest beside.ending) (break_or_text on away rest beside))
+    else begun on (begins on (has_text away) rest beside) away (tree_or (turns on away rest beside.ending) (break_or_text on away rest beside))
 
 -- whether a space or tab comes first
 abbrev pub begins_with_white : Rest → Bool
@@ -316,7 +316,7 @@ abbrev pub beside_in : Container → Rest → Beside → Beside
 beside_in c rest beside = record { before = kind_after c rest; ending = beside.ending }
 
 -- a container starts, or none
-abbrev pub start : Constructs → Option Started → Opening → Tree → (Started → Tree) → Tree
+abbrev pub start : Constructs → Option ContainerStart → Opening → Tree → (ContainerStart → Tree) → Tree
 start on None away other more = other
 start on (Some s) away other more = let t = more s in after on away (tree Nil (Inside s.container t.done t.now))
 
@@ -349,7 +349,7 @@ goes_on (Some after) on c kids inner beside rest more = in_container c kids (mor
 
 -- a line: the containers that go on, then the leaf that takes it, or what is new
 abbrev pub grow : Constructs → Beside → Opening → Rest → Tree
-grow on beside (Leaf leaf) rest = taken (takes on leaf rest beside) (new (length rest) on true (Leaf leaf) beside rest)
+grow on beside (Leaf leaf) rest = tree_or (takes on leaf rest beside) (new (length rest) on true (Leaf leaf) beside rest)
 grow on beside (Inside c kids inner) rest =
     goes_on (continues on c (began_blank kids inner) rest) on c kids inner beside rest (grow on (beside_in c rest beside) inner)
 
@@ -367,12 +367,12 @@ steps on before t [] = t
 steps on before t (line ∷ others) = steps on Whitespace (step on before t line) others
 
 -- the end of the text closes what is open
-abbrev pub closed : Constructs → Tree → Blocks
-closed on t = join t.done (close on t.now)
+abbrev pub blocks_at_end : Constructs → Tree → Blocks
+blocks_at_end on t = join t.done (close on t.now)
 
 -- the children of a document of these lines, the first after a character of this kind
 abbrev pub children : Constructs → Kind → List TextLine → Blocks
-children on before ls = closed on (steps on before empty_tree ls)
+children on before ls = blocks_at_end on (steps on before empty_tree ls)
 
 -- the children of the document, where the lines after its frontmatter are given if it has one
 abbrev pub children_after : Constructs → Kind → List TextLine → Option (List TextLine) → Blocks

@@ -10,8 +10,8 @@ use Rattle.definition_text.specs.InlineCode.{InlineCode, codes_of}
 use Rattle.definition_inline.specs.Inline.{Data, Leaf}
 use Rattle.definition_inline.specs.Attention.{Run, run_size, run_at, is_marker}
 use Rattle.definition_inline.specs.Spans.{Token, Item, Delimiters}
-use Rattle.definition_inline.specs.LabelEnd.{Formed, formed_size}
-use Rattle.definition_inline.specs.Scan.{InlineContext, leaf_here, LabelStart, label_start_at, start_more, OpenLabel, Text, text, Reading, reading, read_tokens, with_tokens, unformed, ended_by, ended_step, label_end_step, data_step, last_step, Step, Next, step, scan, whole_text}
+use Rattle.definition_inline.specs.LabelEnd.{LinkOrCall, formed_size}
+use Rattle.definition_inline.specs.Scan.{InlineContext, leaf_here, LabelStart, label_start_at, start_more, OpenLabel, Text, text, Reading, reading, read_tokens, with_tokens, with_plain_start, ended_by, ended_step, label_end_step, data_step, last_step, Step, Next, step, scan, whole_text}
 use Rattle.definition_inline.specs.LabelPairs.{Stretch, Plain, Start, End, is_label_end, ended_size, IsBare, AreStretches, AtEnd, AtLeaf, AtRun, AtLabelStart, AtLabelEnd, AtByte, open_label, ended_text, IsText, Nothing, More, Pair, LeftOver, IsRest, Last, OneMore, IsWhole, AllMatched, SomeLeft, Reads}
 use Rattle.definition_inline.proofs.InlineSizes.{here_fits}
 use Rattle.definition_inline.proofs.Scanning.{scan_step, step_leaf, step_run, step_start, step_last}
@@ -39,7 +39,7 @@ more_open context (label ∷ others) t ss tokens (outer, inner, is, around, here
   More false inner t tokens here,
 )
 
-pair_open : (context : InlineContext) (labels : List OpenLabel) (label : OpenLabel) (ss between : List Stretch) (content : List ℕ) (inner : Text) (end : Option Formed)
+pair_open : (context : InlineContext) (labels : List OpenLabel) (label : OpenLabel) (ss between : List Stretch) (content : List ℕ) (inner : Text) (end : Option LinkOrCall)
     → IsOpen context labels label.outer ss → IsText context false between inner → end ≡ ended_by context content label inner
     → IsOpen context labels (ended_text label inner end) (ss ++ Start label.start label.from ∷ (between ++ End content end ∷ []))
 pair_open context [] label ss between content inner end h here is = Pair true ss between label.start label.from content label.outer inner h here end is
@@ -131,13 +131,13 @@ module _ (context : InlineContext) (most : ℕ) (c : InlineCode) (cs : List Inli
   ended_place (label ∷ others) are bare no_start is steps (outer, inner, same, around, here) =
       ended (ended_by context content label r.now) refl
     where
-      there : (end : Option Formed) → end ≡ ended_by context content label r.now → IsOpen context others (ended_text label r.now end) (ss ++ End content end ∷ [])
+      there : (end : Option LinkOrCall) → end ≡ ended_by context content label r.now → IsOpen context others (ended_text label r.now end) (ss ++ End content end ∷ [])
       there end e =
           subst (λ xs. IsOpen context others (ended_text label r.now end) xs)
           (sym (ap (λ xs. xs ++ End content end ∷ []) same ∙ append_assoc outer (Start label.start label.from ∷ inner) (End content end ∷ [])))
           (pair_open context others label outer inner content r.now end around here e)
 
-      ended : (end : Option Formed) → end ≡ ended_by context content label r.now → Here
+      ended : (end : Option LinkOrCall) → end ≡ ended_by context content label r.now → Here
       ended None e =
           one_place context most c cs r (reading (ended_text label r.now None) others) ss 0 (End content None) shorter le (steps ∙ ap (ended_step label others r.now) (sym e)) (there None e)
           (λ rest stand. AtLabelEnd c cs None rest bare no_start is stand)
@@ -176,19 +176,19 @@ read (suc most) context (c ∷ cs) r ss le so = any_place context most c cs r ss
 
 -- label starts that are open at the end are text
 left_over : (context : InlineContext) (label : OpenLabel) (labels : List OpenLabel) (ss others : List Stretch) (inner : Text) → IsOpen context labels label.outer ss
-    → IsRest context others inner → IsWhole context (ss ++ Start label.start label.from ∷ others) (fold (λ t l. unformed l t) (unformed label inner) labels)
+    → IsRest context others inner → IsWhole context (ss ++ Start label.start label.from ∷ others) (fold (λ t l. with_plain_start l t) (with_plain_start label inner) labels)
 left_over context label [] ss others inner h rest = SomeLeft ss others label.start label.from label.outer inner h rest
 left_over context label (l ∷ labels) ss others inner (outer, before, same, around, there) rest =
     let more = Start label.start label.from ∷ others in
-    subst (λ xs. IsWhole context xs (fold (λ t k. unformed k t) (unformed l (unformed label inner)) labels))
+    subst (λ xs. IsWhole context xs (fold (λ t k. with_plain_start k t) (with_plain_start l (with_plain_start label inner)) labels))
     (sym (ap (λ xs. xs ++ more) same ∙ append_assoc outer (Start l.start l.from ∷ before) more))
-    (left_over context l labels outer (before ++ more) (unformed label inner) around (OneMore before others label.start label.from label.outer inner there rest))
+    (left_over context l labels outer (before ++ more) (with_plain_start label inner) around (OneMore before others label.start label.from label.outer inner there rest))
 
 at_end : (context : InlineContext) (labels : List OpenLabel) (t : Text) (ss : List Stretch) → IsOpen context labels t ss
-    → IsWhole context ss (fold (λ inner label. unformed label inner) t labels)
+    → IsWhole context ss (fold (λ inner label. with_plain_start label inner) t labels)
 at_end context [] t ss h = AllMatched ss t h
 at_end context (label ∷ labels) t ss (outer, inner, same, around, here) =
-    subst (λ xs. IsWhole context xs (fold (λ s l. unformed l s) (unformed label t) labels)) (sym same)
+    subst (λ xs. IsWhole context xs (fold (λ s l. with_plain_start l s) (with_plain_start label t) labels)) (sym same)
     (left_over context label labels outer inner t around (Last inner t here))
 
 -- the scan of a content reads the text that its stretches stand for

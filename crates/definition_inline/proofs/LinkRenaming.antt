@@ -11,7 +11,7 @@ use Rattle.definition_inline.specs.Space.{after_spaces, after_ending, after_whit
 use Rattle.definition_inline.specs.Label.{ends_label, label_end, has_text, label_size, is_label, if_label, label_at}
 use Rattle.definition_inline.specs.Destination.{ends_angle, angle_end, is_control, open_after, is_too_deep, ends_bare, bare_end, unless_empty, if_any, destination_at}
 use Rattle.definition_inline.specs.Title.{ends_title, ends_blank_line, title_end, title_close, title_until, title_at}
-use Rattle.definition_inline.specs.Definition.{Definition, definition, next_line_after, next_line, definition_before, with_title, titled, untitled, or_untitled, with_destination, with_colon, with_label, definition_at}
+use Rattle.definition_inline.specs.Definition.{Definition, definition, next_line_after, next_line, definition_before, with_title, definition_with_title, definition_without_title, or_definition_without_title, with_destination, with_colon, with_label, definition_at}
 
 -- a function that puts spaces, tabs and line endings for others of their kind, and keeps all else
 pub record Renames (f : ℕ → ℕ) : Type 0 where
@@ -260,7 +260,7 @@ module _ (f : ℕ → ℕ) (renames : Renames f) where
       ap (definition_before (map f label) (map f destination) (Some (map f title.text))) (line_renamed title.rest)
       ∙ definition_before_renamed label destination (Some title.text) (next_line title.rest)
 
-  titled_renamed : (label : List ℕ) (destination : Part) → titled (map f label) (renamed_part f destination) ≡ option_map (renamed_definition f) (titled label destination)
+  titled_renamed : (label : List ℕ) (destination : Part) → definition_with_title (map f label) (renamed_part f destination) ≡ option_map (renamed_definition f) (definition_with_title label destination)
   titled_renamed label destination =
       let title = title_at (after_white destination.rest) in
       cond_same _ _ _ _ _ _ (begins_same destination.rest)
@@ -270,13 +270,13 @@ module _ (f : ℕ → ℕ) (renames : Renames f) where
       refl
       ∙ sym (map_cond (option_map (renamed_definition f)) (begins_with_space destination.rest) (with_title label destination.text title) None)
 
-  untitled_renamed : (label : List ℕ) (destination : Part) → untitled (map f label) (renamed_part f destination) ≡ option_map (renamed_definition f) (untitled label destination)
+  untitled_renamed : (label : List ℕ) (destination : Part) → definition_without_title (map f label) (renamed_part f destination) ≡ option_map (renamed_definition f) (definition_without_title label destination)
   untitled_renamed label destination =
       ap (definition_before (map f label) (map f destination.text) None) (line_renamed destination.rest)
       ∙ definition_before_renamed label destination.text None (next_line destination.rest)
 
   or_untitled_renamed : (label : List ℕ) (destination : Part) (found : Option Definition)
-      → or_untitled (map f label) (renamed_part f destination) (option_map (renamed_definition f) found) ≡ option_map (renamed_definition f) (or_untitled label destination found)
+      → or_definition_without_title (map f label) (renamed_part f destination) (option_map (renamed_definition f) found) ≡ option_map (renamed_definition f) (or_definition_without_title label destination found)
   or_untitled_renamed label destination None = untitled_renamed label destination
   or_untitled_renamed label destination (Some found) = refl
 
@@ -284,7 +284,7 @@ module _ (f : ℕ → ℕ) (renames : Renames f) where
       → with_destination (map f label) (option_map (renamed_part f) destination) ≡ option_map (renamed_definition f) (with_destination label destination)
   with_destination_renamed label None = refl
   with_destination_renamed label (Some destination) =
-      ap (or_untitled (map f label) (renamed_part f destination)) (titled_renamed label destination) ∙ or_untitled_renamed label destination (titled label destination)
+      ap (or_definition_without_title (map f label) (renamed_part f destination)) (titled_renamed label destination) ∙ or_untitled_renamed label destination (definition_with_title label destination)
 
   with_colon_renamed : (label cs : List ℕ) → with_colon (map f label) (map f cs) ≡ option_map (renamed_definition f) (with_colon label cs)
   with_colon_renamed label [] = refl

@@ -27,8 +27,8 @@ before_semicolon text [] = None
 before_semicolon text (c ∷ cs) = if c == semicolon then Some (part text cs) else None
 
 -- the codes ahead that pass a test, from 1 to so many of them, before a `;`
-abbrev pub terminated : (ℕ → Bool) → ℕ → List ℕ → Option Part
-terminated test most content =
+abbrev pub part_to_semicolon : (ℕ → Bool) → ℕ → List ℕ → Option Part
+part_to_semicolon test most content =
     let size = prefix_len test content in
     if nat_le 1 size && nat_le size most then before_semicolon (take size content) (drop size content) else None
 
@@ -37,27 +37,27 @@ abbrev pub number_of : ℕ → List ℕ → ℕ
 number_of base digits = fold (λ n digit. n * base + digit_value digit) 0 digits
 
 -- a reference by number, with the digits of this base
-abbrev pub numbered : ℕ → Option Part → Option CharacterReference
-numbered base None = None
-numbered base (Some digits) = Some (character_reference (Numbered (number_of base digits.text)) digits.rest)
+abbrev pub reference_by_number : ℕ → Option Part → Option CharacterReference
+reference_by_number base None = None
+reference_by_number base (Some digits) = Some (character_reference (Numbered (number_of base digits.text)) digits.rest)
 
 -- a reference by name
-abbrev pub named : Option Part → Option CharacterReference
-named None = None
-named (Some name) = Some (character_reference (Named name.text) name.rest)
+abbrev pub reference_by_name : Option Part → Option CharacterReference
+reference_by_name None = None
+reference_by_name (Some name) = Some (character_reference (Named name.text) name.rest)
 
 -- a reference by number after its `&#` (CommonMark 2.5)
 abbrev pub number_reference : List ℕ → Option CharacterReference
 number_reference [] = None
 number_reference (c ∷ cs) =
-    if (c == small_x) || (c == capital_x) then numbered 16 (terminated is_ascii_hexdigit 6 cs)
-    else numbered 10 (terminated is_ascii_digit 7 (c ∷ cs))
+    if (c == small_x) || (c == capital_x) then reference_by_number 16 (part_to_semicolon is_ascii_hexdigit 6 cs)
+    else reference_by_number 10 (part_to_semicolon is_ascii_digit 7 (c ∷ cs))
 
 -- a reference after its `&` (CommonMark 2.5)
 abbrev pub reference_after : List ℕ → Option CharacterReference
 reference_after [] = None
 reference_after (c ∷ cs) =
-    if c == number_sign then number_reference cs else named (terminated is_ascii_alphanumeric 31 (c ∷ cs))
+    if c == number_sign then number_reference cs else reference_by_name (part_to_semicolon is_ascii_alphanumeric 31 (c ∷ cs))
 
 -- a reference by its form alone: names aren't looked up (CommonMark 2.5)
 abbrev pub reference_form : List ℕ → Option CharacterReference

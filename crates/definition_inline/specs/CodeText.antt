@@ -23,12 +23,12 @@ abbrev pub is_padded : List ℕ → Bool
 is_padded text = (slice_index text 0 == space) && ((slice_index text (length text - 1) == space) && list_any (λ b. not (b == space)) text)
 
 -- without one space at each end, where there are both and something between (CommonMark 6.1)
-abbrev pub unpadded : List ℕ → List ℕ
-unpadded text = if is_padded text then take (length text - 2) (drop 1 text) else text
+abbrev pub without_padding : List ℕ → List ℕ
+without_padding text = if is_padded text then take (length text - 2) (drop 1 text) else text
 
 -- the text of a code span (CommonMark 6.1)
 abbrev pub code_text : List ℕ → List ℕ
-code_text text = unpadded (map code_space text)
+code_text text = without_padding (map code_space text)
 
 -- what runs of this byte hold: math between dollars, otherwise code (CommonMark 6.1)
 abbrev pub raw_part : ℕ → List ℕ → Inline

@@ -266,15 +266,15 @@ with_addresses run = parts_from 0 [] run
 -- ---- the inline structure of a content, once its spans are paired
 
 -- parts before others
-abbrev pub followed : List Inline → Inlines → Inlines
-followed [] others = others
-followed (i ∷ is) others = Cons i (followed is others)
+abbrev pub parts_before : List Inline → Inlines → Inlines
+parts_before [] others = others
+parts_before (i ∷ is) others = Cons i (parts_before is others)
 
 abbrev mutual
   -- the text of a link holds no link: a literal in it is text (CommonMark 6.3)
   pub without_literals : Inlines → Inlines
   without_literals Nil = Nil
-  without_literals (Cons i is) = followed (part_without i) (without_literals is)
+  without_literals (Cons i is) = parts_before (part_without i) (without_literals is)
 
   pub part_without : Inline → List Inline
   part_without (Literal kind text) = map Data text
@@ -288,9 +288,9 @@ abbrev mutual
 abbrev mutual
   -- email addresses in the longest runs of text outside links, where a run stands before (GFM 6.9)
   pub with_literals : List ℕ → Inlines → Inlines
-  with_literals run Nil = followed (with_addresses run) Nil
+  with_literals run Nil = parts_before (with_addresses run) Nil
   with_literals run (Cons (Data b) is) = with_literals (run ++ b ∷ []) is
-  with_literals run (Cons i is) = followed (with_addresses run) (Cons (part_with i) (with_literals [] is))
+  with_literals run (Cons i is) = parts_before (with_addresses run) (Cons (part_with i) (with_literals [] is))
 
   pub part_with : Inline → Inline
   part_with (Emphasis kids) = Emphasis (with_literals [] kids)

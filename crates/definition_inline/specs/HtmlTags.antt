@@ -48,19 +48,19 @@ abbrev pub is_unquoted : ℕ → Bool
 is_unquoted b = not (is_tag_space b || (b == double_quote) || (b == single_quote) || (b == equals) || (b == less_than) || (b == greater_than) || (b == backtick))
 
 -- the rest of a quoted value, up to the quote that closes it
-abbrev pub quoted : ℕ → List ℕ → Option (List ℕ)
-quoted quote [] = None
-quoted quote (b ∷ bs) = if b == quote then Some bs else quoted quote bs
+abbrev pub quoted_value : ℕ → List ℕ → Option (List ℕ)
+quoted_value quote [] = None
+quoted_value quote (b ∷ bs) = if b == quote then Some bs else quoted_value quote bs
 
 -- an unquoted value, which isn't empty
-abbrev pub unquoted : List ℕ → Option (List ℕ)
-unquoted [] = None
-unquoted (b ∷ bs) = if is_unquoted b then Some (after_all is_unquoted bs) else None
+abbrev pub unquoted_value : List ℕ → Option (List ℕ)
+unquoted_value [] = None
+unquoted_value (b ∷ bs) = if is_unquoted b then Some (after_all is_unquoted bs) else None
 
 -- an attribute value
 abbrev pub value : List ℕ → Option (List ℕ)
 value [] = None
-value (b ∷ bs) = if b == double_quote then quoted double_quote bs else (if b == single_quote then quoted single_quote bs else unquoted (b ∷ bs))
+value (b ∷ bs) = if b == double_quote then quoted_value double_quote bs else (if b == single_quote then quoted_value single_quote bs else unquoted_value (b ∷ bs))
 
 -- `=`, optional white space and a value; without a `=` what follows is given
 abbrev pub value_or : List ℕ → List ℕ → Option (List ℕ)

@@ -27,10 +27,10 @@ abbrev pub is_filtered : List ℕ → Bool
 is_filtered bytes = begins_with_filtered_name (without_slash bytes)
 
 -- the bytes of a line, where the `<` of each such tag is a reference (GFM 6.11)
-abbrev pub tags_filtered : List ℕ → List ℕ
-tags_filtered [] = []
-tags_filtered (b ∷ bs) = (if (b == less_than) && is_filtered bs then codes "&lt;" else b ∷ []) ++ tags_filtered bs
+abbrev pub filter_tags : List ℕ → List ℕ
+filter_tags [] = []
+filter_tags (b ∷ bs) = (if (b == less_than) && is_filtered bs then codes "&lt;" else b ∷ []) ++ filter_tags bs
 
 -- tags are filtered where that is asked for (GFM 6.11)
-abbrev pub filtered : CompileOptions → List ℕ → List ℕ
-filtered options bytes = if options.gfm_tagfilter then tags_filtered bytes else bytes
+abbrev pub filter_if : CompileOptions → List ℕ → List ℕ
+filter_if options bytes = if options.gfm_tagfilter then filter_tags bytes else bytes

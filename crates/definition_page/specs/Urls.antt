@@ -38,8 +38,8 @@ percent [] = []
 percent (b ∷ bs) = percent_byte b bs ++ percent bs
 
 -- a URL as it is printed
-abbrev pub sanitized : List ℕ → List ℕ
-sanitized url = encode (percent url)
+abbrev pub sanitize : List ℕ → List ℕ
+sanitize url = encode (percent url)
 
 -- what ends a protocol: `:`, and `?`, `#` and `/`, after which there is none
 abbrev pub ends_protocol : ℕ → Bool
@@ -66,7 +66,7 @@ permitted protocols url = is_permitted protocols (protocol url)
 
 -- a URL as it is printed where only these protocols are permitted: nothing with another one
 abbrev pub sanitized_with : List (List ℕ) → List ℕ → List ℕ
-sanitized_with protocols url = if permitted protocols (sanitized url) then sanitized url else []
+sanitized_with protocols url = if permitted protocols (sanitize url) then sanitize url else []
 
 -- the protocols that are permitted for links
 unfoldable pub href_protocols : List (List ℕ)

@@ -61,7 +61,7 @@ abbrev pub block_codes : Rest → List ℕ
 block_codes rest = take (prefix_len is_tab_column rest) rest ++ bytes_of rest
 
 -- without the spaces and tabs at both ends
-abbrev pub trimmed : List ℕ → List ℕ
-trimmed text =
+abbrev pub trim : List ℕ → List ℕ
+trim text =
     let rest = drop (prefix_len is_white text) text in
     take (length rest - suffix_len is_white rest) rest

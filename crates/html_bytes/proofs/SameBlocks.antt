@@ -17,7 +17,7 @@ use Rattle.definition_text.specs.Lines.{ending_text}
 use Rattle.definition_text.specs.InlineCode.{InlineCode, codes_of}
 use Rattle.definition_inline.specs.Inline.{Inlines}
 use Rattle.definition_inline.specs.GfmTaskListItem.{check_at, check_size}
-use Rattle.definition_inline.specs.Scan.{inlines_from, unindented}
+use Rattle.definition_inline.specs.Scan.{inlines_from, without_indent}
 use Rattle.definition_block.specs.Container.{Quote, Item, Footnote}
 use Rattle.definition_block.specs.declared.container.Item.{Item as ItemOf}
 use Rattle.definition_block.specs.Blocks as tree
@@ -30,7 +30,7 @@ use Rattle.definition_page.specs.Layout.{Laid, laid, lay}
 use Rattle.definition_page.specs.InlinePieces.{Meaning, element, inline_pieces}
 use Rattle.definition_page.specs.Page as page
 use Rattle.definition_page.specs.Read.{Reading, reading, context_of, Standing, on_page, in_container, in_item, next_standing, text_content, read_text, checked_paragraph, read_paragraph, read_blocks, read_table, info_text, code_lines, without_ending, after_code, list_number}
-use Rattle.definition_page.specs.BlockPieces.{Place, says, checkable_attributes, done_attributes, check_tag, code_line, html_line, heading_name, info_attributes, list_tag, is_silent, last_shown, ends_plainly, fresh_unless, fenced_pieces, block_pieces, children_pieces}
+use Rattle.definition_page.specs.BlockPieces.{Place, says, checkable_attributes, done_attributes, check_tag, code_line, html_line, heading_name, info_attributes, list_tag, is_silent, last_visible, ends_plainly, fresh_unless, fenced_pieces, block_pieces, children_pieces}
 use Rattle.html_bytes.specs.RawHtml.{raw_html}
 use Rattle.html_bytes.specs.Document.{Document, document, meaning_of, text_of, checked_text, info_of}
 use Rattle.html_bytes.specs.InlineHtml as bytes_inline
@@ -220,7 +220,7 @@ module _ (default : List ℕ) (options : Options) (tables : TextTables) (ds : Ta
   of_paragraph : (P : page.Block → Type 0) → ((check : Option Bool) (is : Inlines) → P (page.Paragraph check is)) → (first : Bool) (ls : List BlockLine)
       → P (read_paragraph r first ls)
   of_paragraph P each first ls =
-      let content = unindented (text_content r ls) in by_check P each content (check_at options.parse.constructs first (codes_of content))
+      let content = without_indent (text_content r ls) in by_check P each content (check_at options.parse.constructs first (codes_of content))
 
   -- a text alone or between the tags of a paragraph
   tight_same : (text : List Piece) (shown : List bytes.Piece) → Alike text shown → (tight : Bool)
@@ -245,7 +245,7 @@ module _ (default : List ℕ) (options : Options) (tables : TextTables) (ds : Ta
       → Alike (block_pieces m (place_in s tight) before (read_paragraph r s.first ls))
       (old.block_pieces d s tight silent (tree.Paragraph ls))
   paragraph_same s tight silent before ls =
-      let content = unindented (text_content r ls) in
+      let content = without_indent (text_content r ls) in
       checked_same (place_in s tight) before content (check_at options.parse.constructs s.first (codes_of content))
 
   class_same : (info : List ℕ) → start_tag (tag (codes "code") (info_attributes (info_text r info))) ≡ codes "<code" ++ old.class_of d info ++ codes ">"
@@ -299,11 +299,11 @@ module _ (default : List ℕ) (options : Options) (tables : TextTables) (ds : Ta
   and_false false = refl
 
   plain_same : (first tight : Bool) (before : Option page.Block) (said : Bool) (bs : tree.Blocks) → ends_plainly tight before ≡ said
-      → ends_plainly tight (last_shown before (read_blocks r (record { top = false; first = first }) bs)) ≡ old.ends_tight tight said bs
+      → ends_plainly tight (last_visible before (read_blocks r (record { top = false; first = first }) bs)) ≡ old.ends_tight tight said bs
   plain_same first tight before said tree.Nil h = h
   plain_same first tight before said (tree.Cons (tree.Paragraph ls) bs) h =
       let others = read_blocks r (record { top = false; first = first && false }) bs in
-      ap (λ b. ends_plainly tight b) (of_paragraph (λ b. last_shown before (page.Cons b others) ≡ last_shown (Some b) others) (λ check is. refl) first ls)
+      ap (λ b. ends_plainly tight b) (of_paragraph (λ b. last_visible before (page.Cons b others) ≡ last_visible (Some b) others) (λ check is. refl) first ls)
       ∙ plain_same (first && false) tight (Some (read_paragraph r first ls)) tight bs
       (of_paragraph (λ b. ends_plainly tight (Some b) ≡ tight) (λ check is. refl) first ls)
   plain_same first tight before said (tree.Cons (tree.Definition label destination title) bs) h = plain_same (first && false) tight before said bs h
@@ -338,7 +338,7 @@ module _ (default : List ℕ) (options : Options) (tables : TextTables) (ds : Ta
 
   -- what an item ends with
   item_last : (tight : Bool) (kids : tree.Blocks)
-      → Alike (fresh_unless (ends_plainly tight (last_shown None (read_blocks r in_item kids)))) (old.fresh_unless (old.ends_tight tight true kids))
+      → Alike (fresh_unless (ends_plainly tight (last_visible None (read_blocks r in_item kids)))) (old.fresh_unless (old.ends_tight tight true kids))
   item_last tight kids l =
       ap (λ t. fold (lay options.compile default) l (fresh_unless t)) (plain_same true tight None true kids refl)
       ∙ fresh_same options.compile default (old.ends_tight tight true kids) l
@@ -352,7 +352,7 @@ module _ (default : List ℕ) (options : Options) (tables : TextTables) (ds : Ta
       let shown = old.children_pieces d in_item tight false kids in
       let last = old.fresh_unless (old.ends_tight tight true kids) in
       element_with options.compile default (bare_tag (codes "li")) (codes "<li>") (codes "</li>") inside
-      (fresh_unless (ends_plainly tight (last_shown None (read_blocks r in_item kids)))) shown last refl refl same (item_last tight kids) (fresh default l)
+      (fresh_unless (ends_plainly tight (last_visible None (read_blocks r in_item kids)))) shown last refl refl same (item_last tight kids) (fresh default l)
       ∙ ap (λ x. fold (bytes_layout.lay options.compile default) (add (fresh default l) (codes "<li>")) x)
       (sym (append_assoc shown last (bytes.Bytes (codes "</li>") ∷ [])))
 

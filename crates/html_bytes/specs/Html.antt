@@ -14,7 +14,7 @@ use Rattle.definition_text.specs.Encode.{encode}
 use Rattle.html_bytes.specs.RawHtml.{raw_html}
 use Rattle.definition_text.specs.BlockLines.{BlockLine, own_lines}
 use Rattle.definition_block.specs.Tree.{Block, Paragraph, Heading, Break, IndentedCode, FencedCode, Html, Table, Definition, Holds, Items, Ending, Blank, Blocks, Nil, Cons, is_ending, blocks}
-use Rattle.definition_block.specs.Lists.{grouped, is_loose}
+use Rattle.definition_block.specs.Lists.{group_items, is_loose}
 use Rattle.definition_page.specs.Targets.{document_targets}
 use Rattle.definition_page.specs.TextTables.{TextTables}
 use Rattle.definition_page.specs.Read.{Standing, on_page, in_container, in_item, next_standing, list_number, ends_blank}
@@ -133,7 +133,7 @@ abbrev pub last_piece : Bool → List Piece
 last_piece blank = if blank then Fresh ∷ [] else []
 
 abbrev pub document_pieces : Document → Blocks → List Piece
-document_pieces d bs = children_pieces d on_page false false (grouped bs) ++ last_piece (ends_blank false bs)
+document_pieces d bs = children_pieces d on_page false false (group_items bs) ++ last_piece (ends_blank false bs)
 
 -- ---- the whole
 

@@ -27,13 +27,13 @@ abbrev pub url_of : InlineMeaning → Linked → List ℕ
 url_of meaning target = plain (string_text meaning.on meaning.names target.destination)
 
 -- the attribute of a title that isn't empty
-abbrev pub titled : List ℕ → List ℕ
-titled [] = []
-titled (b ∷ bs) = codes " title=\"" ++ encode (b ∷ bs) ++ codes "\""
+abbrev pub title_html : List ℕ → List ℕ
+title_html [] = []
+title_html (b ∷ bs) = codes " title=\"" ++ encode (b ∷ bs) ++ codes "\""
 
 abbrev pub title_attribute : InlineMeaning → Option (List ℕ) → List ℕ
 title_attribute meaning None = []
-title_attribute meaning (Some title) = titled (string_text meaning.on meaning.names title)
+title_attribute meaning (Some title) = title_html (string_text meaning.on meaning.names title)
 
 -- ---- raw HTML
 

@@ -10,7 +10,7 @@ ghost use Rattle.definition_inline.specs.Scan.{inlines, inlines_from};
 ghost use Rattle.definition_text.specs.BlockLines.{own_lines};
 ghost use Rattle.inline_content.specs.View.{content_view, view_at};
 ghost use Rattle.inline_parser.specs.Scanned.{IsPlace};
-ghost use Rattle.html_inline.specs.GfmTable.{shown};
+ghost use Rattle.html_inline.specs.GfmTable.{parts_in_cell};
 
 use crate::buffers::TextBuffers;
 use block_rows::Piece;
@@ -127,7 +127,7 @@ impl<'a, T: Tables, A: Allocator + Clone> Texts<'a, T, A> {
         ensures { (ds : Targets) → KnowsTargets self.now ds →
             let d = document_by T.Tables self.now ds in
             let structure = inlines (context_of d) (content_view (T.punctuation_of self.now.tables.now) content.entry) in
-            LaysOut d result out.old out.new (inline_pieces (meaning_of d) (shown cell structure)) }
+            LaysOut d result out.old out.new (inline_pieces (meaning_of d) (parts_in_cell cell structure)) }
     {
         self.push_from(out, scratch, room, cell, content, content_start(content))
     }
@@ -146,7 +146,7 @@ impl<'a, T: Tables, A: Allocator + Clone> Texts<'a, T, A> {
         ensures { (ds : Targets) → KnowsTargets self.now ds →
             let d = document_by T.Tables self.now ds in
             let structure = inlines_from (context_of d) (view_at (T.punctuation_of self.now.tables.now) content.entry start.now) in
-            LaysOut d result out.old out.new (inline_pieces (meaning_of d) (shown cell structure)) }
+            LaysOut d result out.old out.new (inline_pieces (meaning_of d) (parts_in_cell cell structure)) }
     {
         let parse = &self.options.parse;
         let rows = inline_rows(
@@ -179,7 +179,7 @@ impl<'a, T: Tables, A: Allocator + Clone> Texts<'a, T, A> {
         ensures { (ds : Targets) → KnowsTargets self.now ds →
             let d = document_by T.Tables self.now ds in
             let structure = inlines (context_of d) (content_view (T.punctuation_of self.now.tables.now) content.entry) in
-            LaysOut d result out.old out.new (inline_counts (meaning_of d) (shown true structure)) }
+            LaysOut d result out.old out.new (inline_counts (meaning_of d) (parts_in_cell true structure)) }
     {
         let parse = &self.options.parse;
         let definitions = self.links;

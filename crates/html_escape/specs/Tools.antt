@@ -1,7 +1,7 @@
 -- What each tool prints for a byte, given those after it.
 use Rattle.std.specs.Prelude.{ℕ, Bool, not, if◌then◌else◌, ◌==◌, ◌&&◌, List, [], ◌∷◌, codes}
 use Rattle.definition_text.specs.Encode.{encode, encoded_byte, plain, plain_byte, replacement_character}
-use Rattle.definition_page.specs.GfmTagfilter.{is_filtered, tags_filtered}
+use Rattle.definition_page.specs.GfmTagfilter.{is_filtered, filter_tags}
 use Rattle.definition_page.specs.Urls.{is_url_byte, percent_byte}
 
 -- a byte of a text, whose four bytes of HTML are references or not
@@ -16,7 +16,7 @@ abbrev pub filtered_byte : ℕ → List ℕ → List ℕ
 filtered_byte b after = if (b == 60) && is_filtered after then codes "&lt;" else b ∷ []
 
 abbrev pub filtered_if : Bool → List ℕ → List ℕ
-filtered_if filters html = if filters then tags_filtered html else html
+filtered_if filters html = if filters then filter_tags html else html
 
 -- a byte of raw HTML as it is printed: NUL as U+FFFD, too
 abbrev pub raw_byte : Bool → ℕ → List ℕ → List ℕ

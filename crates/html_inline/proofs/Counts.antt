@@ -19,7 +19,7 @@ use Rattle.definition_inline.specs.Spans.{IsEmphasis, IsStrong, IsStrikethrough}
 use Rattle.inline_rows.specs.declared.row.InlineRow as row
 use Rattle.inline_rows.specs.View.{data_rows, row_view, rows_view}
 use Rattle.html_inline.specs.Counts.{row_counts, rows_counts}
-use Rattle.html_inline.specs.GfmTable.{shown}
+use Rattle.html_inline.specs.GfmTable.{parts_in_cell}
 
 module _ (meaning : InlineMeaning) where
   -- ---- the rows of inline structure
@@ -87,7 +87,7 @@ module _ (meaning : InlineMeaning) where
     in_cell_counts (Cons i is) =
         ap (λ x. x ++ inline_counts meaning (in_cell is)) (part_in_cell_counts i) ∙ ap (λ x. part_counts meaning i ++ x) (in_cell_counts is)
 
-  pub shown_counts : (cell : Bool) (is : Inlines) → inline_counts meaning (shown cell is) ≡ inline_counts meaning is
+  pub shown_counts : (cell : Bool) (is : Inlines) → inline_counts meaning (parts_in_cell cell is) ≡ inline_counts meaning is
   shown_counts true is = in_cell_counts is
   shown_counts false is = refl
 

@@ -14,7 +14,7 @@ use Rattle.html_bytes.specs.RawHtml.{raw_html}
 use Rattle.definition_page.specs.InlinePieces.{HtmlLine, html_text_line, in_first_line, html_lines}
 use Rattle.html_bytes.specs.InlineHtml.{html_line_bytes, html_lines_bytes, later_line_bytes}
 use Rattle.definition_inline.specs.Strings.{begins_with_eol, eol_bytes}
-use Rattle.definition_page.specs.GfmTagfilter.{tags_filtered}
+use Rattle.definition_page.specs.GfmTagfilter.{filter_tags}
 use Rattle.html_inline.specs.CodeBytes.{is_in_line}
 use Rattle.html_inline.specs.HtmlBytes.{PrintsEnding, ends, goes_on, first_bytes}
 use Rattle.html_inline.proofs.InLine.{in_line_eol, line_codes, line_left}
@@ -77,7 +77,7 @@ lines_alone (suc n) (x ∷ xs) bytes le = elim (cases_Bool (is_in_line x)) [
 raw_nothing : (options : CompileOptions) → raw_html options [] ≡ []
 raw_nothing options = by_case options.allow_dangerous_html options.gfm_tagfilter
   where
-    by_case : (t u : Bool) → cond t (plain (cond u (tags_filtered []) [])) (encode []) ≡ []
+    by_case : (t u : Bool) → cond t (plain (cond u (filter_tags []) [])) (encode []) ≡ []
     by_case true true = refl
     by_case true false = refl
     by_case false u = refl

@@ -12,7 +12,7 @@ use Rattle.definition_text.specs.Columns.{is_tab_column}
 use Rattle.definition_text.specs.Content.{content_codes, is_eol, line_ending_code}
 use Rattle.definition_inline.specs.Strings.{begins_with_eol}
 use Rattle.inline_leaves.proofs.Codes.{at_return, plain_code}
-use Rattle.html_inline.specs.CodeBytes.{is_in_line, spaced}
+use Rattle.html_inline.specs.CodeBytes.{is_in_line, with_spaces_for_endings}
 use Rattle.html_inline.proofs.KeptText.{AreBytes}
 
 -- no ending, and no column of a tab
@@ -37,14 +37,14 @@ line_codes (suc n) (x ∷ xs) le = elim (cases_Bool (is_in_line x)) [
   | inr h ↦ let none : prefix_len is_in_line (x ∷ xs) ≡ 0 = cond-false (is_in_line x) _ _ h in absurd (omega arith)
 ]
 
-pub line_spaced : (n : ℕ) (xs : List ℕ) → AreBytes xs → n ≤ prefix_len is_in_line xs → spaced xs ≡ take n xs ++ spaced (drop n xs)
+pub line_spaced : (n : ℕ) (xs : List ℕ) → AreBytes xs → n ≤ prefix_len is_in_line xs → with_spaces_for_endings xs ≡ take n xs ++ with_spaces_for_endings (drop n xs)
 line_spaced zero xs bytes le = refl
 line_spaced (suc n) [] bytes le = refl
 line_spaced (suc n) (x ∷ xs) bytes le = elim (cases_Bool (is_in_line x)) [
   | inl h ↦
       let more : prefix_len is_in_line (x ∷ xs) ≡ 1 + prefix_len is_in_line xs = cond-true (is_in_line x) _ _ h in
       ap (map code_space) (plain_code x xs (eqb-false x 13 (in_line x h).1))
-      ∙ ap (λ y. y ∷ spaced xs) (in_line_space x (bytes zero) h)
+      ∙ ap (λ y. y ∷ with_spaces_for_endings xs) (in_line_space x (bytes zero) h)
       ∙ ap (λ c. x ∷ c) (line_spaced n xs (λ k. bytes (suc k)) (omega arith))
   | inr h ↦ let none : prefix_len is_in_line (x ∷ xs) ≡ 0 = cond-false (is_in_line x) _ _ h in absurd (omega arith)
 ]
@@ -55,8 +55,8 @@ ending_space CarriageReturn = refl
 ending_space CarriageReturnLineFeed = refl
 
 -- a line ending comes first
-pub ending_spaced : (xs rest : List ℕ) (ending : LineEnding) → content_codes xs ≡ line_ending_code ending ∷ content_codes rest → spaced xs ≡ 32 ∷ spaced rest
-ending_spaced xs rest ending e = ap (map code_space) e ∙ ap (λ y. y ∷ spaced rest) (ending_space ending)
+pub ending_spaced : (xs rest : List ℕ) (ending : LineEnding) → content_codes xs ≡ line_ending_code ending ∷ content_codes rest → with_spaces_for_endings xs ≡ 32 ∷ with_spaces_for_endings rest
+ending_spaced xs rest ending e = ap (map code_space) e ∙ ap (λ y. y ∷ with_spaces_for_endings rest) (ending_space ending)
 
 -- no line ending comes first
 pub first_in_line : (x : ℕ) (xs : List ℕ) → begins_with_eol (content_codes (x ∷ xs)) ≡ false → is_in_line x ≡ true

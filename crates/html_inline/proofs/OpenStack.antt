@@ -22,14 +22,14 @@ use Rattle.inline_rows.specs.declared.row.InlineRow.{InlineRow}
 use Rattle.inline_rows.specs.View.{data_rows, row_view, rows_view}
 use Rattle.html_inline.specs.declared.stack.OpenPart.{OpenPart}
 use Rattle.html_inline.specs.declared.stack.OpenPart.TheVariants.{Silent}
-use Rattle.html_inline.specs.GfmTable.{part_shown, row_printed_in}
-use Rattle.html_inline.specs.Printed.{Opened, opened, Printed, printed_at, is_described, part_printed, parts_printed, enter, leave, with_more}
+use Rattle.html_inline.specs.GfmTable.{inline_in_cell, row_printed_in}
+use Rattle.html_inline.specs.Printed.{Opened, new_part, Printed, printed_at, is_described, html_of_part, parts_html, enter, leave, with_more}
 
 -- one more stands on the stack
 pub stack_more : (view : OpenPart → Opened) (items : List OpenPart) (part : OpenPart) → map view (reverse (items ++ part ∷ [])) ≡ view part ∷ map view (reverse items)
 stack_more view items part = ap (map view) (reverse-append items (part ∷ []))
 
-pub entered_silent : (view : OpenPart → Opened) (start : List ℕ) (o : Opened) (l : Laid) (items after : List OpenPart) → view Silent ≡ opened true []
+pub entered_silent : (view : OpenPart → Opened) (start : List ℕ) (o : Opened) (l : Laid) (items after : List OpenPart) → view Silent ≡ new_part true []
     → after ≡ items ++ Silent ∷ [] → is_described (map view (reverse items)) ≡ true
     → printed_at l (map view (reverse after)) ≡ enter start o (printed_at l (map view (reverse items)))
 entered_silent view start o l items after silent pushed h =
@@ -63,7 +63,7 @@ pub more_after : (l : Laid) (a b : List ℕ) → with_more (with_more l a) b ≡
 more_after l a b = ap (with_text l) (append_assoc l.text a b)
 
 module _ (cell : Bool) (meaning : InlineMeaning) (stack : List Opened) where
-  data_either : (described : Bool) (b : ℕ) → part_printed meaning described (inline.Data b) ≡ encoded_byte b
+  data_either : (described : Bool) (b : ℕ) → html_of_part meaning described (inline.Data b) ≡ encoded_byte b
   data_either true b = refl
   data_either false b = refl
 
@@ -76,7 +76,7 @@ module _ (cell : Bool) (meaning : InlineMeaning) (stack : List Opened) where
 
   -- what parts print in a cell or elsewhere
   abbrev shown_parts : List inline.Inline → List ℕ
-  shown_parts parts = parts_printed meaning (is_described stack) (map (part_shown cell) parts)
+  shown_parts parts = parts_html meaning (is_described stack) (map (inline_in_cell cell) parts)
 
   -- parts that are printed as they should be
   abbrev ArePrinted : List inline.Inline → Type 0
@@ -86,10 +86,10 @@ module _ (cell : Bool) (meaning : InlineMeaning) (stack : List Opened) where
   none_printed l = ap (λ x. printed_at x stack) (no_more l)
 
   more_parts : (i : inline.Inline) (is : List inline.Inline)
-      → ((l : Laid) → row_printed_in cell meaning (printed_at l stack) (rows_of.Part i) ≡ printed_at (with_more l (part_printed meaning (is_described stack) (part_shown cell i))) stack)
+      → ((l : Laid) → row_printed_in cell meaning (printed_at l stack) (rows_of.Part i) ≡ printed_at (with_more l (html_of_part meaning (is_described stack) (inline_in_cell cell i))) stack)
       → ArePrinted is → ArePrinted (i ∷ is)
   more_parts i is first are l =
-      let text = part_printed meaning (is_described stack) (part_shown cell i) in
+      let text = html_of_part meaning (is_described stack) (inline_in_cell cell i) in
       ap (λ p. fold (row_printed_in cell meaning) p (map rows_of.Part is)) (first l)
       ∙ are (with_more l text)
       ∙ ap (λ x. printed_at x stack) (more_after l text (shown_parts is))
@@ -103,7 +103,7 @@ module _ (cell : Bool) (meaning : InlineMeaning) (stack : List Opened) where
   bytes_printed (b ∷ bs) = more_parts (inline.Data b) (map inline.Data bs) (λ l. refl) (bytes_printed bs)
 
   pub leaf_printed : (part : LeafPart) (l : Laid)
-      → fold (row_printed_in cell meaning) (printed_at l stack) (map rows_of.Part (parts_of part)) ≡ printed_at (with_more l (parts_printed meaning (is_described stack) (map (part_shown cell) (parts_of part)))) stack
+      → fold (row_printed_in cell meaning) (printed_at l stack) (map rows_of.Part (parts_of part)) ≡ printed_at (with_more l (parts_html meaning (is_described stack) (map (inline_in_cell cell) (parts_of part)))) stack
   leaf_printed (leaf.Escape text) = escapes_printed text.now
   leaf_printed (leaf.Character text) = more_parts (inline.Character text.now) [] (λ l. refl) none_printed
   leaf_printed (leaf.Number radix digits) = more_parts (inline.Character (numbered_text (number_of radix digits.now))) [] (λ l. refl) none_printed

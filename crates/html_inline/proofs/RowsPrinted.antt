@@ -11,7 +11,7 @@ use Rattle.html_bytes.specs.InlineHtml.{InlineMeaning, title_attribute, link_tag
 use Rattle.html_bytes.specs.Layout.{lay, with_text}
 use Rattle.html_bytes.specs.Pieces.{Piece, Bytes}
 use Rattle.inline_rows.specs.InlineRows.{InlineRow, Leave, part_rows, inline_rows}
-use Rattle.html_inline.specs.Printed.{Opened, opened, printed_at, is_described, image_start, image_end, with_more, call_row, laid_out, enter, row_printed}
+use Rattle.html_inline.specs.Printed.{Opened, new_part, printed_at, is_described, image_start, image_end, with_more, call_row, laid_out, enter, with_row}
 use Rattle.html_inline.proofs.OpenStack.{no_more}
 
 -- what the description of an image stands between
@@ -42,7 +42,7 @@ module _ (meaning : InlineMeaning) (default : List ℕ) where
 
   -- parts that are printed as they should be, wherever they stand
   abbrev ArePrinted : Inlines → Type 0
-  ArePrinted is = (l : Laid) (stack : List Opened) → fold (row_printed meaning) (printed_at l stack) (rows_of is) ≡ printed_at (all_after (is_described stack) is l) stack
+  ArePrinted is = (l : Laid) (stack : List Opened) → fold (with_row meaning) (printed_at l stack) (rows_of is) ≡ printed_at (all_after (is_described stack) is l) stack
 
   -- ---- calls that count don't see the text
 
@@ -82,26 +82,26 @@ module _ (meaning : InlineMeaning) (default : List ℕ) where
 
   -- rows between a start and an end
   nested : (start : List ℕ) (o : Opened) (kids : Inlines) → ArePrinted kids → (l : Laid) (stack : List Opened)
-      → fold (row_printed meaning) (enter start o (printed_at l stack)) (rows_of kids ++ Leave ∷ [])
+      → fold (with_row meaning) (enter start o (printed_at l stack)) (rows_of kids ++ Leave ∷ [])
       ≡ printed_at (cond (is_described stack) (all_after true kids l) (with_more (all_after o.described kids (with_more l start)) o.ending)) stack
   nested start o kids are l stack = by_case (is_described stack)
     where
-      by_case : (t : Bool) → fold (row_printed meaning) (cond t (printed_at l (opened true [] ∷ stack)) (printed_at (with_more l start) (o ∷ stack))) (rows_of kids ++ Leave ∷ [])
+      by_case : (t : Bool) → fold (with_row meaning) (cond t (printed_at l (new_part true [] ∷ stack)) (printed_at (with_more l start) (o ∷ stack))) (rows_of kids ++ Leave ∷ [])
           ≡ printed_at (cond t (all_after true kids l) (with_more (all_after o.described kids (with_more l start)) o.ending)) stack
       by_case true =
-          fold-append (row_printed meaning) (printed_at l (opened true [] ∷ stack)) (rows_of kids) (Leave ∷ [])
-          ∙ ap (λ p. row_printed meaning p Leave) (are l (opened true [] ∷ stack))
+          fold-append (with_row meaning) (printed_at l (new_part true [] ∷ stack)) (rows_of kids) (Leave ∷ [])
+          ∙ ap (λ p. with_row meaning p Leave) (are l (new_part true [] ∷ stack))
           ∙ ap (λ x. printed_at x stack) (sym (no_more (all_after true kids l)))
       by_case false =
-          fold-append (row_printed meaning) (printed_at (with_more l start) (o ∷ stack)) (rows_of kids) (Leave ∷ [])
-          ∙ ap (λ p. row_printed meaning p Leave) (are (with_more l start) (o ∷ stack))
+          fold-append (with_row meaning) (printed_at (with_more l start) (o ∷ stack)) (rows_of kids) (Leave ∷ [])
+          ∙ ap (λ p. with_row meaning p Leave) (are (with_more l start) (o ∷ stack))
 
   -- a span or a link, which prints its content between two tags
   between : (start ending : List ℕ) (kids : Inlines) → ArePrinted kids → (l : Laid) (stack : List Opened)
-      → fold (row_printed meaning) (enter start (opened false ending) (printed_at l stack)) (rows_of kids ++ Leave ∷ [])
+      → fold (with_row meaning) (enter start (new_part false ending) (printed_at l stack)) (rows_of kids ++ Leave ∷ [])
       ≡ printed_at (cond (is_described stack) (all_after true kids l) (laid_by l (Bytes start ∷ inline_pieces meaning kids ++ Bytes ending ∷ []))) stack
   between start ending kids are l stack =
-      nested start (opened false ending) kids are l stack
+      nested start (new_part false ending) kids are l stack
       ∙ ap (λ x. printed_at (cond (is_described stack) (all_after true kids l) x) stack)
       (sym (fold-append (lay meaning.compile default) (with_more l start) (inline_pieces meaning kids) (Bytes ending ∷ [])))
 
@@ -119,10 +119,10 @@ module _ (meaning : InlineMeaning) (default : List ℕ) where
       ∙ sym (counts_beside kids l (l.text ++ image_tag meaning target says))
 
   image_printed : (target : Linked) (kids : Inlines) → ArePrinted kids → (l : Laid) (stack : List Opened)
-      → fold (row_printed meaning) (enter (image_start meaning target) (opened true (image_end meaning target)) (printed_at l stack)) (rows_of kids ++ Leave ∷ [])
+      → fold (with_row meaning) (enter (image_start meaning target) (new_part true (image_end meaning target)) (printed_at l stack)) (rows_of kids ++ Leave ∷ [])
       ≡ printed_at (cond (is_described stack) (all_after true kids l) (laid_by (with_more l (image_tag meaning target (description meaning.compile kids))) (inline_counts meaning kids))) stack
   image_printed target kids are l stack =
-      nested (image_start meaning target) (opened true (image_end meaning target)) kids are l stack
+      nested (image_start meaning target) (new_part true (image_end meaning target)) kids are l stack
       ∙ ap (λ x. printed_at (cond (is_described stack) (all_after true kids l) x) stack) (described_between target kids l)
 
   -- ---- all parts
@@ -165,7 +165,7 @@ module _ (meaning : InlineMeaning) (default : List ℕ) where
 
   mutual
     part_rows_printed : (i : Inline) (l : Laid) (stack : List Opened)
-        → fold (row_printed meaning) (printed_at l stack) (part_rows (leads_to meaning.definition) i) ≡ printed_at (part_after (is_described stack) i l) stack
+        → fold (with_row meaning) (printed_at l stack) (part_rows (leads_to meaning.definition) i) ≡ printed_at (part_after (is_described stack) i l) stack
     part_rows_printed (Data b) l stack = said_or_printed (part_description meaning.compile (Data b)) (part_html meaning (Data b)) l stack
     part_rows_printed (Escape b) l stack = said_or_printed (part_description meaning.compile (Escape b)) (part_html meaning (Escape b)) l stack
     part_rows_printed (Character bytes) l stack = said_or_printed (part_description meaning.compile (Character bytes)) (part_html meaning (Character bytes)) l stack
@@ -185,15 +185,15 @@ module _ (meaning : InlineMeaning) (default : List ℕ) where
     part_rows_printed (Call label) l stack = ap (λ x. printed_at x stack) (call_either label (is_described stack) l)
 
     rows_printed : (is : Inlines) (l : Laid) (stack : List Opened)
-        → fold (row_printed meaning) (printed_at l stack) (inline_rows (leads_to meaning.definition) is) ≡ printed_at (all_after (is_described stack) is l) stack
+        → fold (with_row meaning) (printed_at l stack) (inline_rows (leads_to meaning.definition) is) ≡ printed_at (all_after (is_described stack) is l) stack
     rows_printed Nil l stack = ap (λ x. printed_at x stack) (nothing_printed (is_described stack) l)
     rows_printed (Cons i is) l stack =
-        fold-append (row_printed meaning) (printed_at l stack) (part_rows (leads_to meaning.definition) i) (rows_of is)
-        ∙ ap (λ p. fold (row_printed meaning) p (rows_of is)) (part_rows_printed i l stack)
+        fold-append (with_row meaning) (printed_at l stack) (part_rows (leads_to meaning.definition) i) (rows_of is)
+        ∙ ap (λ p. fold (with_row meaning) p (rows_of is)) (part_rows_printed i l stack)
         ∙ rows_printed is (part_after (is_described stack) i l) stack
         ∙ ap (λ x. printed_at x stack) (more_printed (is_described stack) i is l)
 
   -- a whole content
   pub content_printed : (is : Inlines) (l : Laid)
-      → fold (row_printed meaning) (printed_at l []) (inline_rows (leads_to meaning.definition) is) ≡ printed_at (fold (lay meaning.compile default) l (inline_pieces meaning is)) []
+      → fold (with_row meaning) (printed_at l []) (inline_rows (leads_to meaning.definition) is) ≡ printed_at (fold (lay meaning.compile default) l (inline_pieces meaning is)) []
   content_printed is l = rows_printed is l []

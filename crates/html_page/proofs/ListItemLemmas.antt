@@ -7,7 +7,7 @@ use Rattle.markdown_options.specs.declared.configuration.Constructs.{Constructs}
 use Rattle.definition_text.specs.Columns.{Rest, bare, indent}
 use Rattle.definition_text.specs.Indents.{small_indent}
 use Rattle.definition_block.specs.ThematicBreak.{is_break}
-use Rattle.definition_block.specs.Started.{Started}
+use Rattle.definition_block.specs.ContainerStart.{ContainerStart}
 use Rattle.definition_block.specs.BlockQuote.{after_byte, quote_prefix}
 use Rattle.definition_block.specs.ListItem.{Marker, marker_of, is_digit, number_of, bullet, delimiter, marker, is_item, item, item_after, item_start}
 use Rattle.definition_text.specs.Content.{Part, closed_by}
@@ -62,7 +62,7 @@ marker_fits rest =
     (choose MarkerFits (leb digits 9) _ _ (delimiter_fits (number_of (take digits rest)) digits (drop digits rest)) no_marker)
 
 -- a container that starts
-pub record StartFits (o : Option Started) : Type 0 where
+pub record StartFits (o : Option ContainerStart) : Type 0 where
   pub container : IfSome o (λ s. IsPrintableContainer s.container)
 
 none_starts : StartFits None
@@ -72,7 +72,7 @@ item_after_fits : (columns : ℕ) (interrupts : Bool) (o : Option Marker) → Ma
 item_after_fits columns interrupts None h = none_starts
 item_after_fits columns interrupts (Some m) h = choose StartFits (is_item interrupts m) (Some (item columns m)) None record { container = h.byte } none_starts
 
-quote_or_fits : (other : Option Started) (o : Option Rest) → StartFits other → StartFits (quote_or other o)
+quote_or_fits : (other : Option ContainerStart) (o : Option Rest) → StartFits other → StartFits (quote_or other o)
 quote_or_fits other None h = h
 quote_or_fits other (Some rest) h = record { container = tt }
 
@@ -100,7 +100,7 @@ footnote_of_fits : (o : Option Part) → LabelFits o → StartFits (footnote_of 
 footnote_of_fits None h = none_starts
 footnote_of_fits (Some mark) h = record { container = h }
 
-footnote_or_fits : (other o : Option Started) → StartFits other → StartFits o → StartFits (footnote_or other o)
+footnote_or_fits : (other o : Option ContainerStart) → StartFits other → StartFits o → StartFits (footnote_or other o)
 footnote_or_fits other None h k = h
 footnote_or_fits other (Some footnote) h k = k
 

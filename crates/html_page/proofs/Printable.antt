@@ -12,9 +12,9 @@ use Rattle.definition_text.specs.declared.beside.Kind.TheVariants.{Whitespace}
 use Rattle.definition_block.specs.Container.{Container, Quote, Item, Footnote}
 use Rattle.definition_text.specs.Lines.{TextLine, lines}
 use Rattle.definition_text.specs.Content.{is_eol}
-use Rattle.definition_text.specs.Columns.{Rest, whole, bare, bytes_of, indent, is_byte, is_white, is_blank, trimmed}
+use Rattle.definition_text.specs.Columns.{Rest, whole, bare, bytes_of, indent, is_byte, is_white, is_blank, trim}
 use Rattle.definition_text.specs.Runs.{run, after_run, is_run}
-use Rattle.definition_block.specs.Started.{Started}
+use Rattle.definition_block.specs.ContainerStart.{ContainerStart}
 use Rattle.definition_block.specs.Containers.{continues, starts}
 use Rattle.definition_block.specs.CodeFenced.{Fence, first_word, fence_of, fence_start, is_fence_end}
 use Rattle.definition_block.specs.MathFlow.{math_info, math_start}
@@ -29,13 +29,13 @@ use Rattle.definition_block.specs.HeadingSetext.{underline_of, underline}
 use Rattle.definition_block.specs.HtmlFlow.{html_start, html_ends_here, ends_before_blank}
 use Rattle.definition_text.specs.Content.{content_of}
 use Rattle.definition_inline.specs.Definition.{Definition as LinkDefinition, definition_at}
-use Rattle.definition_block.specs.Definitions.{Cut, cut_into, cut_after, cut_most, cut, defined, lines_before}
+use Rattle.definition_block.specs.Definitions.{Cut, cut_into, cut_after, cut_most, cut, definition_lines, lines_before}
 use Rattle.block_rows.specs.ParagraphLines.{HaveNoEnding, AreLines}
 use Rattle.block_rows.proofs.OpenLines.{AreTextLines, AreLinesTo, SomeClear, StartedClear, clear-take, clear-drop, clear-filter, clear_codes, clear_block, clear_bare, clear_start, clear_continue, lines_of_text, are_lines, open_step}
 use Rattle.markdown_options.specs.declared.line_ending.LineEnding.{LineEnding}
 use Rattle.markdown_options.specs.declared.line_ending.LineEnding.TheVariants.{LineFeed}
 use Rattle.definition_text.specs.BlockLines.{BlockLine, spaced_line, own_lines}
-use Rattle.definition_block.specs.Tree.{leaf_text, open_text, beside_in, beside_line, in_container, Block, Paragraph, Heading, Break, IndentedCode, FencedCode, Html, Table, Definition, Holds, Items, Ending, Blank, Blocks, Nil, Cons, join, one, ended, OpenLeaf, Text, Indented, Fenced, OpenHtml, OpenTable, Opening, Leaf, Inside, Tree, tree, nothing, empty_tree, paragraph_of, close_leaf, close, blanks, is_ending, all_endings, front, trailing, without_last, last_of, holds, has_text, has_table, is_some_line, table_of, table_if, makes_table, with_line, rest_line, html_with, takes, taken, or_heading, or_fence, or_html, begins, text_here, heading_of, underlined, turns, after, text_line_of, break_or_text, begun, leaf_line, start, new, began_blank, goes_on, grow, step, steps, closed, children_after, blocks}
+use Rattle.definition_block.specs.Tree.{leaf_text, open_text, beside_in, beside_line, in_container, Block, Paragraph, Heading, Break, IndentedCode, FencedCode, Html, Table, Definition, Holds, Items, Ending, Blank, Blocks, Nil, Cons, join, one, block_and_ending, OpenLeaf, Text, Indented, Fenced, OpenHtml, OpenTable, Opening, Leaf, Inside, Tree, tree, nothing, empty_tree, paragraph_of, close_leaf, close, blanks, is_ending, all_endings, front, trailing, without_last, last_of, holds, has_text, has_table, is_some_line, table_of, table_if, makes_table, with_line, rest_line, html_with, takes, tree_or, or_heading, or_fence, or_html, begins, text_here, heading_of, heading_if, turns, after, text_line_of, break_or_text, begun, leaf_line, start, new, began_blank, goes_on, grow, step, steps, blocks_at_end, children_after, blocks}
 use Rattle.block_rows.specs.Rows.{RowsValue, rows_value, value_with, rows_of}
 use Rattle.block_rows.specs.declared.row.Row.{Row}
 use Rattle.html_page.specs.Printable.{IsPrintableContainer, AreClear, IsTable, IsPrintable, ArePrintable, CanBePrinted}
@@ -64,7 +64,7 @@ bytes_are_bytes [] = refl
 bytes_are_bytes (code ∷ codes) =
     choose_if AreBytes (is_byte code) (code ∷ bytes_of codes) (bytes_of codes) (λ h. and_from (is_byte code) _ h (bytes_are_bytes codes)) (bytes_are_bytes codes)
 
-trimmed_bytes : (text : List ℕ) → AreBytes text → AreBytes (trimmed text)
+trimmed_bytes : (text : List ℕ) → AreBytes text → AreBytes (trim text)
 trimmed_bytes text h =
     let rest = drop (prefix_len is_white text) text in
     bytes_front (length rest - suffix_len is_white rest) rest (bytes_after (prefix_len is_white text) text h)
@@ -72,16 +72,16 @@ trimmed_bytes text h =
 bare_clear : (rest : Rest) → HaveNoEnding rest → HaveNoEnding (bytes_of (bare rest))
 bare_clear rest h = clear-filter is_byte (bare rest) (clear_bare rest h)
 
-trimmed_clear : (text : List ℕ) → HaveNoEnding text → HaveNoEnding (trimmed text)
+trimmed_clear : (text : List ℕ) → HaveNoEnding text → HaveNoEnding (trim text)
 trimmed_clear text h =
     let rest = drop (prefix_len is_white text) text in
     clear-take (length rest - suffix_len is_white rest) rest (clear-drop (prefix_len is_white text) text h)
 
 word_clear : (text : List ℕ) → HaveNoEnding text → HaveNoEnding (first_word text)
-word_clear text h = clear-take (position_or_len is_white (trimmed text)) (trimmed text) (trimmed_clear text h)
+word_clear text h = clear-take (position_or_len is_white (trim text)) (trim text) (trimmed_clear text h)
 
 word_bytes : (text : List ℕ) → AreBytes text → AreBytes (first_word text)
-word_bytes text h = bytes_front (position_or_len is_white (trimmed text)) (trimmed text) (trimmed_bytes text h)
+word_bytes text h = bytes_front (position_or_len is_white (trim text)) (trim text) (trimmed_bytes text h)
 
 abbrev IsInfo : List ℕ → Type 0
 IsInfo text = AreBytes text × HaveNoEnding text
@@ -142,7 +142,7 @@ atx_of_fits text clear =
     let after = after_run 35 text in
     record {
       rank = (leb-true 1 rank both.0, leb-true rank 6 both.1);
-      content = without_closing_clear (trimmed after) (trimmed_clear after (clear-drop rank text clear));
+      content = without_closing_clear (trim after) (trimmed_clear after (clear-drop rank text clear));
     })
     no_atx
 
@@ -172,7 +172,7 @@ ending_printable (Paragraph ls) h = let wrong : false ≡ true = h in cc
 ending_printable (Heading rank ls) h = let wrong : false ≡ true = h in cc
 ending_printable Break h = tt
 ending_printable (IndentedCode ls) h = tt
-ending_printable (FencedCode info closed ls) h = let wrong : false ≡ true = h in cc
+ending_printable (FencedCode info blocks_at_end ls) h = let wrong : false ≡ true = h in cc
 ending_printable (Html ls) h = let wrong : false ≡ true = h in cc
 ending_printable (Table ls) h = let wrong : false ≡ true = h in cc
 ending_printable (Definition label destination title) h = let wrong : false ≡ true = h in cc
@@ -222,7 +222,7 @@ cut_after_printable : (o : Option LinkDefinition) (ls : List BlockLine) (more : 
 cut_after_printable None ls more h = tt
 cut_after_printable (Some d) ls more h =
     let count = lines_before d.rest ls in
-    joined (defined d (take count ls)) (more (drop count ls)).definitions (tt, (tt, tt)) (h (drop count ls))
+    joined (definition_lines d (take count ls)) (more (drop count ls)).definitions (tt, (tt, tt)) (h (drop count ls))
 
 cut_most_printable : (most : ℕ) (ls : List BlockLine) → CanBePrinted (cut_most most ls).definitions
 cut_most_printable zero ls = tt
@@ -349,7 +349,7 @@ with_line_fits line (Leaf (OpenHtml kind ls)) clear h = tt
 with_line_fits line (Leaf (OpenTable ls)) clear h = longer_table ls line h clear
 with_line_fits line (Inside c kids inner) clear h = (h.0, h.1, with_line_fits line inner clear h.2)
 
-taken_fits : (o : Option Tree) (other : Tree) → OptionFits o → TreeFits other → TreeFits (taken o other)
+taken_fits : (o : Option Tree) (other : Tree) → OptionFits o → TreeFits other → TreeFits (tree_or o other)
 taken_fits None other h k = k
 taken_fits (Some t) other h k = h.tree
 
@@ -359,8 +359,8 @@ module _ (on : Constructs) (e : Beside) (r : Rest) where
   html_with_fits : (kind : ℕ) (ls : List BlockLine) → TreeFits (html_with kind ls r e)
   html_with_fits kind ls =
       let more = ls ++ rest_line r e ∷ [] in
-      choose TreeFits (html_ends_here kind r) (tree (ended (Html (own_lines more)) e.ending) nothing) (tree Nil (Leaf (OpenHtml kind more)))
-      (fits (tree (ended (Html (own_lines more)) e.ending) nothing) (tt, (tt, tt)) tt) (fits (tree Nil (Leaf (OpenHtml kind more))) tt tt)
+      choose TreeFits (html_ends_here kind r) (tree (block_and_ending (Html (own_lines more)) e.ending) nothing) (tree Nil (Leaf (OpenHtml kind more)))
+      (fits (tree (block_and_ending (Html (own_lines more)) e.ending) nothing) (tt, (tt, tt)) tt) (fits (tree Nil (Leaf (OpenHtml kind more))) tt tt)
 
   takes_fits : (leaf : OpenLeaf) → LeafFits leaf → OptionFits (takes on leaf r e)
   takes_fits (Text ls) h = record { tree = tt }
@@ -372,7 +372,7 @@ module _ (on : Constructs) (e : Beside) (r : Rest) where
 
   or_heading_fits : (o : Option Atx) → AtxFits o → OptionFits (or_heading e.ending o)
   or_heading_fits None h = record { tree = tt }
-  or_heading_fits (Some atx) h = some_fits (tree (ended (Heading atx.rank (spaced_line atx.content None ∷ [])) e.ending) nothing) ((h.rank, h.content), (tt, tt)) tt
+  or_heading_fits (Some atx) h = some_fits (tree (block_and_ending (Heading atx.rank (spaced_line atx.content None ∷ [])) e.ending) nothing) ((h.rank, h.content), (tt, tt)) tt
 
   or_fence_fits : (o : Option Fence) (other : Option Tree) → FenceFits o → OptionFits other → OptionFits (or_fence e.ending o other)
   or_fence_fits None other h k = k
@@ -392,10 +392,10 @@ module _ (on : Constructs) (e : Beside) (r : Rest) where
   heading_of_fits : (rank : ℕ) (definitions : Blocks) (ls : List BlockLine) → (1 ≤ rank) × (rank ≤ 6) → CanBePrinted definitions → AreLines ls → OptionFits (heading_of rank definitions ls e.ending)
   heading_of_fits rank definitions [] h k clean = record { tree = tt }
   heading_of_fits rank definitions (l ∷ ls) h k clean =
-      let heading = ended (Heading rank (own_lines (l ∷ ls))) e.ending in
+      let heading = block_and_ending (Heading rank (own_lines (l ∷ ls))) e.ending in
       some_fits (tree (join definitions heading) nothing) (joined definitions heading k ((h, heading_lines (l ∷ ls) clean), (tt, tt))) tt
 
-  underlined_fits : (o : Option ℕ) (ls : List BlockLine) → RankFits o → AreLines ls → OptionFits (underlined on o ls e.ending)
+  underlined_fits : (o : Option ℕ) (ls : List BlockLine) → RankFits o → AreLines ls → OptionFits (heading_if on o ls e.ending)
   underlined_fits None ls h clean = record { tree = tt }
   underlined_fits (Some rank) ls h clean = heading_of_fits rank (cut on ls).definitions (cut on ls).left h.rank (cut_printable on ls) (cut_left on ls clean)
 
@@ -428,7 +428,7 @@ module _ (on : Constructs) (e : Beside) (r : Rest) where
 
   break_fits : (away : Opening) → HaveNoEnding r → CanClose away → TreeFits (break_or_text on away r e)
   break_fits away clear h =
-      let t = tree (ended Break e.ending) nothing in
+      let t = tree (block_and_ending Break e.ending) nothing in
       choose TreeFits (is_break on r) _ _ (after_fits on away t h (fits t (tt, (tt, tt)) tt))
       (taken_fits (makes_table on away r e) (text_line_of on away r e) (table_if_fits (delimiter_row on r) (text_here away) clear (lines_here away h.lines)) (text_fits away clear h))
 
@@ -440,10 +440,10 @@ module _ (on : Constructs) (e : Beside) (r : Rest) where
   leaf_line_fits away clear h =
       let t = tree (one (Blank e.ending)) nothing in
       choose TreeFits (is_blank r) _ _ (after_fits on away t h (fits t (tt, tt) tt))
-      (begun_fits (begins on (has_text away) r e) away (taken (turns on away r e.ending) (break_or_text on away r e)) h (begins_fits (has_text away) clear)
+      (begun_fits (begins on (has_text away) r e) away (tree_or (turns on away r e.ending) (break_or_text on away r e)) h (begins_fits (has_text away) clear)
       (taken_fits (turns on away r e.ending) (break_or_text on away r e) (turns_fits away h.lines) (break_fits away clear h)))
 
-  start_fits : (o : Option Started) (away : Opening) (other : Tree) (more : Started → Tree) → StartFits o → StartedClear o → CanClose away → TreeFits other → ((s : Started) → HaveNoEnding s.rest → TreeFits (more s)) → TreeFits (start on o away other more)
+  start_fits : (o : Option ContainerStart) (away : Opening) (other : Tree) (more : ContainerStart → Tree) → StartFits o → StartedClear o → CanClose away → TreeFits other → ((s : ContainerStart) → HaveNoEnding s.rest → TreeFits (more s)) → TreeFits (start on o away other more)
   start_fits None away other more s clear h k l = k
   start_fits (Some s) away other more c clear h k l =
       let t = tree Nil (Inside s.container (more s).done (more s).now) in
@@ -484,12 +484,12 @@ step_fits on before t line clear clean h =
     let more = grow_fits on beside t.now (whole line.content) (clear_codes 0 line.content clear) record { fits = h.now; lines = clean } in
     record { done = joined t.done (grow on beside t.now (whole line.content)).done h.done more.done; now = more.now }
 
-closed_printable : (on : Constructs) (t : Tree) → TreeFits t → AreLines (open_text t.now) → CanBePrinted (closed on t)
+closed_printable : (on : Constructs) (t : Tree) → TreeFits t → AreLines (open_text t.now) → CanBePrinted (blocks_at_end on t)
 closed_printable on t h clean = joined t.done (close on t.now) h.done (close_printable on t.now h.now clean)
 
 -- after a line that ended with `e`
 steps_printable : (on : Constructs) (before : Kind) (e : LineEnding) (t : Tree) (ls : List TextLine) → AreTextLines ls → AreLinesTo (Some e) (open_text t.now)
-    → TreeFits t → CanBePrinted (closed on (steps on before t ls))
+    → TreeFits t → CanBePrinted (blocks_at_end on (steps on before t ls))
 steps_printable on before e t [] p k h = closed_printable on t h (are_lines (Some e) (open_text t.now) k)
 steps_printable on before e t (line ∷ []) p k h =
     let more = step on before t line in

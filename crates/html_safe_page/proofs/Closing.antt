@@ -3,7 +3,7 @@ use Rattle.std.proofs.Common.{◌≡◌, ℕ, List, [], ◌∷◌, ◌++◌, tru
 use Rattle.std.proofs.lemmas.Bool.{cases_Bool, cond-false, and_parts, and_from, eqb-true}
 use Rattle.definition_text.specs.Encode.{encode, encoded_byte, plain, plain_byte, replacement_character}
 use Rattle.html_safe_page.specs.Table.{start_rows, void_rows}
-use Rattle.html_safe_page.specs.SafePage.{Plain, kind, spelled, spell_letter, spell_text, Tag, spell_tag, Items, End, Letter, Void, Element, void_end, spell_before, spell, join, is_tag_of, is_safe, IsSafePage}
+use Rattle.html_safe_page.specs.SafePage.{Plain, kind, spell_kind, spell_letter, spell_text, Tag, spell_tag, Items, End, Letter, Void, Element, void_end, spell_before, spell, join, is_tag_of, is_safe, IsSafePage}
 use Rattle.html_safe_page.specs.Closed.{element, void, Closed}
 use Rattle.html_safe_page.proofs.Text.{by_kind, plain_other}
 use Rattle.html_safe_page.proofs.Inserted.{spelled_append, put_in}
@@ -56,7 +56,7 @@ encoded_plain b k =
           ∙ cond-false (eqb b 38) (codes "&amp;") _ (plain_other b 38 k refl)
           ∙ cond-false (eqb b 60) (codes "&lt;") _ (plain_other b 60 k refl)
           ∙ cond-false (eqb b 62) (codes "&gt;") (b ∷ []) (plain_other b 62 k refl)
-          ∙ ap (λ kind. spelled kind b ++ []) (sym k)
+          ∙ ap (λ kind. spell_kind kind b ++ []) (sym k)
           ∙ ap (λ x. spell_text x []) (sym (cond-false (eqb b 0) replacement_character (b ∷ []) e))
     ]
 

@@ -7,7 +7,7 @@ use Rattle.std.proofs.lemmas.Bool.Decides.{Decides-eqb}
 use Rattle.std.proofs.lemmas.List.{at_drop_more, take_more, take_rest, append-nil}
 use Rattle.std.proofs.lemmas.Slice.Eq.{strip_prefix_is}
 use Rattle.html_safe_page.specs.SafePage.{attribute_start}
-use Rattle.html_safe_page.specs.Reader.{and_then, strip, read_text, Quoted, longer, quoted}
+use Rattle.html_safe_page.specs.Reader.{and_then, strip, read_text, QuotedText, longer, before_quote}
 use Rattle.html_safe_page.specs.Machine.{may_stand, split_tag}
 use Rattle.html_safe_page.proofs.Text.{split, strip_sound}
 use Rattle.html_safe_page.proofs.Spelled.{strip_spelled}
@@ -22,20 +22,20 @@ text_place bytes i lt =
 
 -- ---- two parts
 
-abbrev pub after : List ℕ → Option Quoted → Option Quoted
+abbrev pub after : List ℕ → Option QuotedText → Option QuotedText
 after bytes o = option_map (λ q. split (bytes ++ q.inside) q.rest) o
 
-after_longer : (bytes : List ℕ) (b : ℕ) (o : Option Quoted) → after bytes (option_map (longer b) o) ≡ after (bytes ++ b ∷ []) o
+after_longer : (bytes : List ℕ) (b : ℕ) (o : Option QuotedText) → after bytes (option_map (longer b) o) ≡ after (bytes ++ b ∷ []) o
 after_longer bytes b None = refl
 after_longer bytes b (Some q) = ap (λ x. Some (split x q.rest)) (sym (append_assoc bytes (b ∷ []) q.inside))
 
-later : (f : List ℕ → Option Quoted) (bytes : List ℕ) (i : ℕ) → i < length bytes → f (get_or bytes i 0 ∷ drop (i + 1) bytes) ≡ option_map (longer (get_or bytes i 0)) (f (drop (i + 1) bytes))
+later : (f : List ℕ → Option QuotedText) (bytes : List ℕ) (i : ℕ) → i < length bytes → f (get_or bytes i 0 ∷ drop (i + 1) bytes) ≡ option_map (longer (get_or bytes i 0)) (f (drop (i + 1) bytes))
     → after (take (i + 1) bytes) (f (drop (i + 1) bytes)) ≡ after (take i bytes) (f (drop i bytes))
 later f bytes i lt h =
     ap (λ x. after x (f (drop (i + 1) bytes))) (take_more bytes i 0 lt)
     ∙ sym (ap (after (take i bytes)) (at_drop_more f bytes i 0 lt ∙ h) ∙ after_longer (take i bytes) (get_or bytes i 0) (f (drop (i + 1) bytes)))
 
-here : (f : List ℕ → Option Quoted) (bytes : List ℕ) (i : ℕ) → i < length bytes → f (get_or bytes i 0 ∷ drop (i + 1) bytes) ≡ Some (split [] (drop (i + 1) bytes))
+here : (f : List ℕ → Option QuotedText) (bytes : List ℕ) (i : ℕ) → i < length bytes → f (get_or bytes i 0 ∷ drop (i + 1) bytes) ≡ Some (split [] (drop (i + 1) bytes))
     → Some (split (take i bytes) (take (length bytes - (i + 1)) (drop (i + 1) bytes))) ≡ after (take i bytes) (f (drop i bytes))
 here f bytes i lt h =
     ap (λ x. Some (split (take i bytes) x)) (take_rest bytes (i + 1))
@@ -43,12 +43,12 @@ here f bytes i lt h =
     ∙ sym (ap (after (take i bytes)) (at_drop_more f bytes i 0 lt ∙ h))
 
 pub quoted_later : (bytes : List ℕ) (i : ℕ) → i < length bytes → eqb (get_or bytes i 0) 34 ≡ false
-    → after (take (i + 1) bytes) (quoted (drop (i + 1) bytes)) ≡ after (take i bytes) (quoted (drop i bytes))
-quoted_later bytes i lt h = later quoted bytes i lt (cond-false (eqb (get_or bytes i 0) 34) _ _ h)
+    → after (take (i + 1) bytes) (before_quote (drop (i + 1) bytes)) ≡ after (take i bytes) (before_quote (drop i bytes))
+quoted_later bytes i lt h = later before_quote bytes i lt (cond-false (eqb (get_or bytes i 0) 34) _ _ h)
 
 pub quoted_here : (bytes : List ℕ) (i : ℕ) → i < length bytes → eqb (get_or bytes i 0) 34 ≡ true
-    → Some (split (take i bytes) (take (length bytes - (i + 1)) (drop (i + 1) bytes))) ≡ after (take i bytes) (quoted (drop i bytes))
-quoted_here bytes i lt h = here quoted bytes i lt (cond-true (eqb (get_or bytes i 0) 34) _ _ h)
+    → Some (split (take i bytes) (take (length bytes - (i + 1)) (drop (i + 1) bytes))) ≡ after (take i bytes) (before_quote (drop i bytes))
+quoted_here bytes i lt h = here before_quote bytes i lt (cond-true (eqb (get_or bytes i 0) 34) _ _ h)
 
 pub tag_later : (bytes : List ℕ) (i : ℕ) → i < length bytes → eqb (get_or bytes i 0) 62 ≡ false → eqb (get_or bytes i 0) 60 ≡ false
     → after (take (i + 1) bytes) (split_tag (drop (i + 1) bytes)) ≡ after (take i bytes) (split_tag (drop i bytes))
@@ -62,7 +62,7 @@ pub tag_nowhere : (bytes : List ℕ) (i : ℕ) → i < length bytes → eqb (get
 tag_nowhere bytes i lt h k =
     sym (ap (after (take i bytes)) (at_drop_more split_tag bytes i 0 lt ∙ cond-false (eqb (get_or bytes i 0) 62) _ _ h ∙ cond-true (eqb (get_or bytes i 0) 60) _ _ k))
 
-pub after_none : (o : Option Quoted) → after [] o ≡ o
+pub after_none : (o : Option QuotedText) → after [] o ≡ o
 after_none None = refl
 after_none (Some q) = refl
 

@@ -5,7 +5,7 @@ use Rattle.std.specs.Option.{IfSome, option_map}
 use Rattle.std.specs.Str.{bytes_eq}
 use Rattle.std.proofs.lemmas.Bool.{cases_Bool, cond-true, cond-false, eqb-true, and_parts, and_from}
 use Rattle.html_safe_page.specs.Table.{Row, start_rows, void_rows}
-use Rattle.html_safe_page.specs.SafePage.{Kind, And, Quote, Less, Greater, Plain, kind, spelled, spell_letter, spell_text, Attribute, Tag, Items, End, Letter, Void, Element, attribute_start, spell_attributes, spell_tag, void_end, spell_before, is_of_row, is_tag_of, is_safe, IsReading}
+use Rattle.html_safe_page.specs.SafePage.{Kind, And, Quote, Less, Greater, Plain, kind, spell_kind, spell_letter, spell_text, Attribute, Tag, Items, End, Letter, Void, Element, attribute_start, spell_attributes, spell_tag, void_end, spell_before, is_of_row, is_tag_of, is_safe, IsReading}
 use Rattle.html_safe_page.specs.Reader.{read_tag, Rest, Last, Then, Reading, Nowhere, Outside, Inside, at_first, strip_letters, replace_letters, join_letters, outside, join_rest, open_tag, open_or, read_opening, read_mark, step, read, whole, read_page}
 use Rattle.html_safe_page.proofs.Options.{else_if, map_if}
 use Rattle.html_safe_page.proofs.Text.{by_kind}
@@ -96,9 +96,9 @@ and_sound bytes (Then items name r) h =
 
 plain_sound : (b : ℕ) (bytes : List ℕ) (r : Rest) → kind b ≡ Plain → IsRest bytes r → IsRest (b ∷ bytes) (at_first (Letter b) r)
 plain_sound b bytes (Last items) k h =
-    record { spelling = ap (λ k. spelled k b ++ spell_before items []) k ∙ ap (λ x. b ∷ x) h.spelling; safe = h.safe }
+    record { spelling = ap (λ k. spell_kind k b ++ spell_before items []) k ∙ ap (λ x. b ∷ x) h.spelling; safe = h.safe }
 plain_sound b bytes (Then items name r) k h =
-    record { spelling = ap (λ k. spelled k b ++ spell_before items (60 ∷ 47 ∷ (name ++ (62 ∷ spell_rest r)))) k ∙ ap (λ x. b ∷ x) h.spelling; safe = h.safe }
+    record { spelling = ap (λ k. spell_kind k b ++ spell_before items (60 ∷ 47 ∷ (name ++ (62 ∷ spell_rest r)))) k ∙ ap (λ x. b ∷ x) h.spelling; safe = h.safe }
 
 -- ---- tags
 

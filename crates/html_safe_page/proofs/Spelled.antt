@@ -7,7 +7,7 @@ use Rattle.std.proofs.lemmas.Bool.{cases_Bool, cond-true, cond-false, true≢fal
 use Rattle.std.proofs.lemmas.Slice.Eq.{bytes_eq-Decides}
 use Rattle.html_safe_page.specs.Table.{Row}
 use Rattle.html_safe_page.specs.SafePage.{kind, spell_text, Attribute, Tag, attribute_start, spell_attributes, spell_tag, are_named, is_of_row, is_value}
-use Rattle.html_safe_page.specs.Reader.{and_then, or_else, strip, read_text, Quoted, quoted, read_value, attribute, read_attributes, tag_of, read_row, read_tag}
+use Rattle.html_safe_page.specs.Reader.{and_then, or_else, strip, read_text, QuotedText, before_quote, read_value, attribute, read_attributes, tag_of, read_row, read_tag}
 use Rattle.html_safe_page.proofs.Options.{then_if, else_if, map_if}
 use Rattle.html_safe_page.proofs.Text.{is_plain, read_spelled, strip_sound, text_sound, split, quoted_spelled, quoted_sound, spell_text-append}
 
@@ -49,11 +49,11 @@ value_sound name bytes =
 abbrev after_value : List ℕ → List (List ℕ) → List ℕ → List ℕ → List ℕ → Option (List Attribute)
 after_value n ns ending rest v = option_map (λ others. attribute n v ∷ others) (read_attributes ns ending rest)
 
-abbrev after_quoted : List ℕ → List (List ℕ) → List ℕ → Quoted → Option (List Attribute)
+abbrev after_quoted : List ℕ → List (List ℕ) → List ℕ → QuotedText → Option (List Attribute)
 after_quoted n ns ending q = and_then (read_value n q.inside) (λ v. after_value n ns ending q.rest v)
 
 abbrev after_start : List ℕ → List (List ℕ) → List ℕ → List ℕ → Option (List Attribute)
-after_start n ns ending start = and_then (quoted start) (λ q. after_quoted n ns ending q)
+after_start n ns ending start = and_then (before_quote start) (λ q. after_quoted n ns ending q)
 
 pub attributes_sound : (names : List (List ℕ)) (ending bytes : List ℕ) → IfSome (read_attributes names ending bytes) (AreRead names ending bytes)
 attributes_sound [] ending bytes =
@@ -66,7 +66,7 @@ attributes_sound [] ending bytes =
 attributes_sound (n ∷ ns) ending bytes =
     let P = AreRead (n ∷ ns) ending bytes in
     then_if (strip (attribute_start n) bytes) (after_start n ns ending) (λ start. attribute_start n ++ start ≡ bytes) P (strip_sound (attribute_start n) bytes) (λ start from_start.
-    then_if (quoted start) (after_quoted n ns ending) (λ q. q.inside ++ (34 ∷ q.rest) ≡ start) P (quoted_sound start) (λ q from_quoted.
+    then_if (before_quote start) (after_quoted n ns ending) (λ q. q.inside ++ (34 ∷ q.rest) ≡ start) P (quoted_sound start) (λ q from_quoted.
     then_if (read_value n q.inside) (after_value n ns ending q.rest) (λ v. (spell_text v [] ≡ q.inside) × (is_value n v ≡ true)) P (value_sound n q.inside) (λ v from_value.
     map_if (read_attributes ns ending q.rest) (λ others. attribute n v ∷ others) (AreRead ns ending q.rest) P (attributes_sound ns ending q.rest) (λ others h.
     record {
@@ -196,7 +196,7 @@ words_same (a ∷ others) (b ∷ bs) x y ha hb hx hy e =
     let first : a ≡ b = ap head e in
     (ap (λ x. x ∷ others) first ∙ ap (λ x. b ∷ x) more.0, more.1)
 
-abbrev get : Option Quoted → Quoted
+abbrev get : Option QuotedText → QuotedText
 get None = split [] []
 get (Some q) = q
 
@@ -206,7 +206,7 @@ get_text (Some text) = text
 
 texts_same : (v w x y : List ℕ) → spell_text v (34 ∷ x) ≡ spell_text w (34 ∷ y) → (v ≡ w) × (x ≡ y)
 texts_same v w x y e =
-    let both : split (spell_text v []) x ≡ split (spell_text w []) y = ap get (sym (quoted_spelled v x) ∙ ap quoted e ∙ quoted_spelled w y) in
+    let both : split (spell_text v []) x ≡ split (spell_text w []) y = ap get (sym (quoted_spelled v x) ∙ ap before_quote e ∙ quoted_spelled w y) in
     (ap get_text (sym (read_spelled v) ∙ ap (λ q. read_text q.inside) both ∙ read_spelled w), ap (λ q. q.rest) both)
 
 attribute_starts : (name rest : List ℕ) → is_word name ≡ true → starts_attribute (attribute_start name ++ rest) ≡ true

@@ -6,9 +6,9 @@ use Rattle.std.specs.Option.{IfSome, is_some, option_map}
 use Rattle.std.specs.Str.{bytes_eq}
 use Rattle.std.proofs.lemmas.Bool.{cases_Bool, cond-true, cond-false, true≢false, false≢true, and_parts, and_right, ne_eqb, eqb-true}
 use Rattle.html_safe_page.specs.Table.{start_rows, void_rows}
-use Rattle.html_safe_page.specs.SafePage.{Kind, And, Quote, Less, Greater, Plain, kind, spelled, spell_letter, spell_text, Tag, Items, End, Letter, Void, Element, void_end, spell_before, IsReading, IsSafePage}
-use Rattle.html_safe_page.specs.Reader.{and_then, or_else, strip, replace, join_reference, join_kind, read_text, Quoted, longer, read_tag, Rest, Last, Then, Reading, Nowhere, Outside, Inside, at_first, strip_letters, replace_letters, join_letters, outside, join_rest, open_or, read_mark, step, read, whole, read_page}
-use Rattle.html_safe_page.specs.Machine.{begins_reference, stands, may_stand, split_tag, close, opened, follows}
+use Rattle.html_safe_page.specs.SafePage.{Kind, And, Quote, Less, Greater, Plain, kind, spell_kind, spell_letter, spell_text, Tag, Items, End, Letter, Void, Element, void_end, spell_before, IsReading, IsSafePage}
+use Rattle.html_safe_page.specs.Reader.{and_then, or_else, strip, replace, join_reference, join_kind, read_text, QuotedText, longer, read_tag, Rest, Last, Then, Reading, Nowhere, Outside, Inside, at_first, strip_letters, replace_letters, join_letters, outside, join_rest, open_or, read_mark, step, read, whole, read_page}
+use Rattle.html_safe_page.specs.Machine.{begins_reference, stands, may_stand, split_tag, close, with_open_tag, follows}
 use Rattle.html_safe_page.proofs.Text.{by_kind, is_plain, plain_other, text_sound}
 use Rattle.html_safe_page.proofs.Pages.{is_inner, page_spelled}
 use Rattle.html_safe_page.proofs.Sound.{spell_rest, IsRest, IsSound, read_sound, page_sound}
@@ -50,7 +50,7 @@ strip_text (p ∷ ps) (b ∷ bs) h =
     (not_here 34 p (strip ps bs) refl parts.0 ∙ sym (not_here 38 p (strip ps (codes "quot;" ++ more)) refl parts.0))
     (not_here 60 p (strip ps bs) refl parts.0 ∙ sym (not_here 38 p (strip ps (codes "lt;" ++ more)) refl parts.0))
     (not_here 62 p (strip ps bs) refl parts.0 ∙ sym (not_here 38 p (strip ps (codes "gt;" ++ more)) refl parts.0))
-    (λ b k. same_cond (eqb b p) (strip ps bs) (strip ps more) (strip_text ps bs parts.1) ∙ ap (λ kind. is_some (strip (p ∷ ps) (spelled kind b ++ more))) (sym k))
+    (λ b k. same_cond (eqb b p) (strip ps bs) (strip ps more) (strip_text ps bs parts.1) ∙ ap (λ kind. is_some (strip (p ∷ ps) (spell_kind kind b ++ more))) (sym k))
     b
 
 abbrev stops : List ℕ → Bool
@@ -75,7 +75,7 @@ strip_items (p ∷ ps) (Letter b items) after h k =
     (not_here 34 p (strip_letters ps items) refl parts.0 ∙ sym (not_here 38 p (strip ps (codes "quot;" ++ more)) refl parts.0))
     (not_here 60 p (strip_letters ps items) refl parts.0 ∙ sym (not_here 38 p (strip ps (codes "lt;" ++ more)) refl parts.0))
     (not_here 62 p (strip_letters ps items) refl parts.0 ∙ sym (not_here 38 p (strip ps (codes "gt;" ++ more)) refl parts.0))
-    (λ b e. same_cond (eqb b p) (strip_letters ps items) (strip ps more) (strip_items ps items after parts.1 k) ∙ ap (λ kind. is_some (strip (p ∷ ps) (spelled kind b ++ more))) (sym e))
+    (λ b e. same_cond (eqb b p) (strip_letters ps items) (strip ps more) (strip_items ps items after parts.1 k) ∙ ap (λ kind. is_some (strip (p ∷ ps) (spell_kind kind b ++ more))) (sym e))
     b
 
 either : (a b c d x y z w : Bool) → a ≡ x → b ≡ y → c ≡ z → d ≡ w → (((a || b) || c) || d) ≡ (((x || y) || z) || w)
@@ -189,7 +189,7 @@ opens : (t : Bool) (f : Items → Items) (r : Rest) (ns : List (List ℕ)) → c
 opens true f r ns = ends_first f r ns
 opens false f r ns = refl
 
-opening_more : (start void : Option Tag) (r : Rest) (ns : List (List ℕ)) → closes (outside (open_or start void r)) ns ≡ go (opened start void ns) (Outside r)
+opening_more : (start void : Option Tag) (r : Rest) (ns : List (List ℕ)) → closes (outside (open_or start void r)) ns ≡ go (with_open_tag start void ns) (Outside r)
 opening_more (Some tag) void (Last items) ns = refl
 opening_more (Some tag) void (Then inside name r) ns = opens (bytes_eq name tag.name) (Element tag inside) r ns
 opening_more None (Some tag) r ns = ends_first (Void tag) r ns
@@ -208,11 +208,11 @@ mark_more (b ∷ bs) r ns =
       | inl e ↦
           ap (λ o. closes (outside o) ns) (cond-true (eqb b 47) (Some (Then End bs r)) (open_or start void r) e)
           ∙ ending_more bs r ns
-          ∙ ap (λ o. go o (Outside r)) (sym (cond-true (eqb b 47) (close bs ns) (opened start void ns) e))
+          ∙ ap (λ o. go o (Outside r)) (sym (cond-true (eqb b 47) (close bs ns) (with_open_tag start void ns) e))
       | inr e ↦
           ap (λ o. closes (outside o) ns) (cond-false (eqb b 47) (Some (Then End bs r)) (open_or start void r) e)
           ∙ opening_more start void r ns
-          ∙ ap (λ o. go o (Outside r)) (sym (cond-false (eqb b 47) (close bs ns) (opened start void ns) e))
+          ∙ ap (λ o. go o (Outside r)) (sym (cond-false (eqb b 47) (close bs ns) (with_open_tag start void ns) e))
     ]
 
 record InTag : Type 0 where
@@ -259,7 +259,7 @@ inside_start Nowhere = refl
 inside_start (Outside r) = refl
 inside_start (Inside bytes r) = inside_outside (read_mark bytes r)
 
-abbrev tagged : Option Quoted → Option InTag
+abbrev tagged : Option QuotedText → Option InTag
 tagged None = None
 tagged (Some q) = in_tag q.inside (read q.rest)
 
@@ -268,7 +268,7 @@ in_longer b bytes Nowhere = refl
 in_longer b bytes (Outside r) = refl
 in_longer b bytes (Inside inner r) = refl
 
-tagged_longer : (b : ℕ) (o : Option Quoted) → option_map (longer_tag b) (tagged o) ≡ tagged (option_map (longer b) o)
+tagged_longer : (b : ℕ) (o : Option QuotedText) → option_map (longer_tag b) (tagged o) ≡ tagged (option_map (longer b) o)
 tagged_longer b None = refl
 tagged_longer b (Some q) = in_longer b q.inside (read q.rest)
 
@@ -306,13 +306,13 @@ tag_is bytes ns = less_closes (read bytes) ns ∙ ap (λ o. closes_in o ns) (ins
 pub no_tag : (bytes : List ℕ) (ns : List (List ℕ)) → split_tag bytes ≡ None → closes (read (60 ∷ bytes)) ns ≡ false
 no_tag bytes ns h = tag_is bytes ns ∙ ap (λ o. closes_in (tagged o) ns) h
 
-split_goes : (bytes : List ℕ) (ns : List (List ℕ)) (q : Quoted) → split_tag bytes ≡ Some q → closes (read (60 ∷ bytes)) ns ≡ go (follows q.inside ns) (read q.rest)
+split_goes : (bytes : List ℕ) (ns : List (List ℕ)) (q : QuotedText) → split_tag bytes ≡ Some q → closes (read (60 ∷ bytes)) ns ≡ go (follows q.inside ns) (read q.rest)
 split_goes bytes ns q h = tag_is bytes ns ∙ ap (λ o. closes_in (tagged o) ns) h ∙ in_goes q.inside (read q.rest) ns
 
-pub bad_tag : (bytes : List ℕ) (ns : List (List ℕ)) (q : Quoted) → split_tag bytes ≡ Some q → follows q.inside ns ≡ None → closes (read (60 ∷ bytes)) ns ≡ false
+pub bad_tag : (bytes : List ℕ) (ns : List (List ℕ)) (q : QuotedText) → split_tag bytes ≡ Some q → follows q.inside ns ≡ None → closes (read (60 ∷ bytes)) ns ≡ false
 bad_tag bytes ns q h k = split_goes bytes ns q h ∙ ap (λ o. go o (read q.rest)) k
 
-pub good_tag : (bytes : List ℕ) (ns more : List (List ℕ)) (q : Quoted) → split_tag bytes ≡ Some q → follows q.inside ns ≡ Some more
+pub good_tag : (bytes : List ℕ) (ns more : List (List ℕ)) (q : QuotedText) → split_tag bytes ≡ Some q → follows q.inside ns ≡ Some more
     → closes (read (60 ∷ bytes)) ns ≡ closes (read q.rest) more
 good_tag bytes ns more q h k = split_goes bytes ns q h ∙ ap (λ o. go o (read q.rest)) k
 

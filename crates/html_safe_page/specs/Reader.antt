@@ -48,16 +48,16 @@ read_text (b ∷ bs) = and_then (read_text bs) (join_kind (kind b) b)
 -- ---- tags
 
 -- what stands before the first `"`, and after it
-pub record Quoted : Type 0 where
+pub record QuotedText : Type 0 where
   pub inside : List ℕ
   pub rest : List ℕ
 
-abbrev pub longer : ℕ → Quoted → Quoted
+abbrev pub longer : ℕ → QuotedText → QuotedText
 longer b q = record { inside = b ∷ q.inside; rest = q.rest }
 
-abbrev pub quoted : List ℕ → Option Quoted
-quoted [] = None
-quoted (b ∷ bs) = if b == 34 then Some (record { inside = []; rest = bs }) else option_map (longer b) (quoted bs)
+abbrev pub before_quote : List ℕ → Option QuotedText
+before_quote [] = None
+before_quote (b ∷ bs) = if b == 34 then Some (record { inside = []; rest = bs }) else option_map (longer b) (before_quote bs)
 
 abbrev pub read_value : List ℕ → List ℕ → Option (List ℕ)
 read_value name bytes = and_then (read_text bytes) (λ v. if is_value name v then Some v else None)
@@ -70,7 +70,7 @@ abbrev pub read_attributes : List (List ℕ) → List ℕ → List ℕ → Optio
 read_attributes [] ending bytes = if bytes_eq bytes ending then Some [] else None
 read_attributes (n ∷ ns) ending bytes =
     and_then (strip (attribute_start n) bytes) (λ start.
-    and_then (quoted start) (λ q.
+    and_then (before_quote start) (λ q.
     and_then (read_value n q.inside) (λ v.
     option_map (λ others. attribute n v ∷ others) (read_attributes ns ending q.rest))))
 

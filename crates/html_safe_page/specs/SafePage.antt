@@ -18,16 +18,16 @@ pub data Kind : Type 0 where
 abbrev pub kind : ℕ → Kind
 kind b = if b == 38 then And else (if b == 34 then Quote else (if b == 60 then Less else (if b == 62 then Greater else Plain)))
 
-abbrev pub spelled : Kind → ℕ → List ℕ
-spelled And b = codes "&amp;"
-spelled Quote b = codes "&quot;"
-spelled Less b = codes "&lt;"
-spelled Greater b = codes "&gt;"
-spelled Plain b = b ∷ []
+abbrev pub spell_kind : Kind → ℕ → List ℕ
+spell_kind And b = codes "&amp;"
+spell_kind Quote b = codes "&quot;"
+spell_kind Less b = codes "&lt;"
+spell_kind Greater b = codes "&gt;"
+spell_kind Plain b = b ∷ []
 
 -- a byte of a text, as a page spells it: one of the four as its reference, any other as itself
 abbrev pub spell_letter : ℕ → List ℕ
-spell_letter b = spelled (kind b) b
+spell_letter b = spell_kind (kind b) b
 
 -- a text, before other bytes
 abbrev pub spell_text : List ℕ → List ℕ → List ℕ

@@ -1,7 +1,7 @@
 -- Rows with literals stand for inline structure with literals.
 use Rattle.std.proofs.Common.{◌≡◌, ℕ, zero, suc, List, [], ◌∷◌, ◌++◌, refl, sym, ap, ◌∙◌, map, append_assoc}
 use Rattle.std.proofs.lemmas.List.{append-nil}
-use Rattle.definition_inline.specs.GfmAutolinkLiteral.{with_addresses, followed, without_literals, with_literals}
+use Rattle.definition_inline.specs.GfmAutolinkLiteral.{with_addresses, parts_before, without_literals, with_literals}
 use Rattle.definition_inline.specs.Inline.{Target, Linked, Inline, Data, Escape, Character, Code, Math, Autolink, Literal, Html, EscapedBreak, TrailingBreak, LineEnd, Emphasis, Strong, Strikethrough, Link, Image, Call, Inlines, Nil, Cons}
 use Rattle.definition_inline.specs.Spans.{IsEmphasis, IsStrong, IsStrikethrough}
 use Rattle.inline_rows.specs.InlineRows.{InlineRow, Part, EnterSpan, EnterLink, EnterImage, Leave, part_rows, inline_rows}
@@ -18,13 +18,13 @@ module _ (leads : Target → Linked) where
   text_parts [] = refl
   text_parts (b ∷ bs) = ap (λ l. Part (Data b) ∷ l) (text_parts bs)
 
-  followed_rows : (parts : List Inline) (others : Inlines) → inline_rows leads (followed parts others) ≡ parts_rows leads parts ++ inline_rows leads others
+  followed_rows : (parts : List Inline) (others : Inlines) → inline_rows leads (parts_before parts others) ≡ parts_rows leads parts ++ inline_rows leads others
   followed_rows [] others = refl
   followed_rows (i ∷ is) others =
       ap (λ l. part_rows leads i ++ l) (followed_rows is others) ∙ sym (append_assoc (part_rows leads i) (parts_rows leads is) (inline_rows leads others))
 
   followed_before : (parts : List Inline) (others : Inlines) (rest : List InlineRow)
-      → inline_rows leads (followed parts others) ++ rest ≡ parts_rows leads parts ++ (inline_rows leads others ++ rest)
+      → inline_rows leads (parts_before parts others) ++ rest ≡ parts_rows leads parts ++ (inline_rows leads others ++ rest)
   followed_before parts others rest =
       ap (λ l. l ++ rest) (followed_rows parts others) ∙ append_assoc (parts_rows leads parts) (inline_rows leads others) rest
 
@@ -81,7 +81,7 @@ module _ (leads : Target → Linked) where
   literal_inside : (n : ℕ) (run text : List ℕ) (is : Inlines) (rest : List InlineRow)
       → linked_rows leads (suc n) [] (inline_rows leads is ++ rest) ≡ tail_rows n is rest
       → parts_rows leads (map Data run) ++ (map (λ b. Part (Data b)) text ++ linked_rows leads (suc n) [] (inline_rows leads is ++ rest))
-      ≡ parts_rows leads (map Data run) ++ (inline_rows leads (followed (map Data text) (without_literals is)) ++ linked_rows leads (suc n) [] rest)
+      ≡ parts_rows leads (map Data run) ++ (inline_rows leads (parts_before (map Data text) (without_literals is)) ++ linked_rows leads (suc n) [] rest)
   literal_inside n run text is rest h =
       let before = parts_rows leads (map Data run) in
       ap (λ l. before ++ (map (λ b. Part (Data b)) text ++ l)) h
@@ -123,7 +123,7 @@ module _ (leads : Target → Linked) where
   leaf_outside : (run : List ℕ) (i : Inline) (is : Inlines) (rest : List InlineRow) → part_rows leads i ≡ Part i ∷ []
       → linked_rows leads zero [] (inline_rows leads is ++ rest) ≡ inline_rows leads (with_literals [] is) ++ linked_rows leads zero [] rest
       → parts_rows leads (with_addresses run) ++ (Part i ∷ linked_rows leads zero [] (inline_rows leads is ++ rest))
-      ≡ inline_rows leads (followed (with_addresses run) (Cons i (with_literals [] is))) ++ linked_rows leads zero [] rest
+      ≡ inline_rows leads (parts_before (with_addresses run) (Cons i (with_literals [] is))) ++ linked_rows leads zero [] rest
   leaf_outside run i is rest one h =
       let before = parts_rows leads (with_addresses run) in
       let later = inline_rows leads (with_literals [] is) in
@@ -139,7 +139,7 @@ module _ (leads : Target → Linked) where
       → ((more : List InlineRow) → linked_rows leads n [] (Leave ∷ more) ≡ Leave ∷ linked_rows leads zero [] more)
       → linked_rows leads zero [] (inline_rows leads is ++ rest) ≡ inline_rows leads (with_literals [] is) ++ linked_rows leads zero [] rest
       → linked_rows leads zero run (((first ∷ (inline_rows leads kids ++ Leave ∷ [])) ++ inline_rows leads is) ++ rest)
-      ≡ inline_rows leads (followed (with_addresses run) (Cons made (with_literals [] is))) ++ linked_rows leads zero [] rest
+      ≡ inline_rows leads (parts_before (with_addresses run) (Cons made (with_literals [] is))) ++ linked_rows leads zero [] rest
   held_outside run first made n kids linked is rest makes opens holds leaves h =
       let before = parts_rows leads (with_addresses run) in
       let inner = inline_rows leads linked in

@@ -20,7 +20,7 @@ use Rattle.definition_text.specs.InlineCode.{inline_content}
 use Rattle.block_rows.specs.Rows.{whole_line, whole_lines}
 use Rattle.definition_text.proofs.CodeBytes.{code_bytes}
 use Rattle.block_rows.proofs.OwnLines.{lines_more, with_last_ending}
-use Rattle.inline_content.specs.View.{marked}
+use Rattle.inline_content.specs.View.{codes_with_marks}
 use Rattle.inline_content.proofs.Lined.{AreApart, Agree, content_is, head_clear}
 
 -- ---- the lines of a text are apart
@@ -138,7 +138,7 @@ pub whole_apart : (n : ℕ) (text : List ℕ) → ((k : ℕ) → get_or text k 0
 whole_apart n text h = apart (take n (lines text)) (first_lines n (lines text) (are_lines text h))
 
 -- without marks they are what they are in the text
-pub whole_view : (p : ℕ → Bool) (end : Kind) (n : ℕ) (text : List ℕ) → ((k : ℕ) → get_or text k 0 < 256) → marked p end [] (content_text (whole_lines n text)) ≡ inline_content p end (own_lines (whole_lines n text))
+pub whole_view : (p : ℕ → Bool) (end : Kind) (n : ℕ) (text : List ℕ) → ((k : ℕ) → get_or text k 0 < 256) → codes_with_marks p end [] (content_text (whole_lines n text)) ≡ inline_content p end (own_lines (whole_lines n text))
 whole_view p end n text h = content_is p end [] (whole_lines n text) (whole_apart n text h) (agree 0 (take n (lines text)))
   where
     agree : (place : ℕ) (ls : List TextLine) → Agree p [] place (map whole_line ls)

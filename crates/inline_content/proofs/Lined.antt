@@ -20,7 +20,7 @@ use Rattle.inline_links.proofs.Cuts.{first_code}
 use Rattle.block_definitions.proofs.Contents.{in_line}
 use Rattle.inline_content.specs.declared.mark.Mark.{Mark}
 use Rattle.inline_content.specs.Marks.{kind_at}
-use Rattle.inline_content.specs.View.{width, line_left, kind_after, kind_before, previous_after, view_from, marked}
+use Rattle.inline_content.specs.View.{width, line_rest, kind_after, kind_before, previous_after, view_from, codes_with_marks}
 use Rattle.inline_content.specs.Lines.{mark_of, marks_of, AreContentLines}
 
 -- lines without an ending in them; all but the last have one, and no CR stands before an LF
@@ -98,13 +98,13 @@ apart_codes (line ∷ next ∷ others) h =
 
 -- ---- what stands beside the codes of lines
 
-left_all : (cs : List ℕ) → HaveNoEnding cs → line_left cs ≡ cs
+left_all : (cs : List ℕ) → HaveNoEnding cs → line_rest cs ≡ cs
 left_all [] h = refl
-left_all (c ∷ cs) h = ap (λ l. c ∷ l) (cond-false (is_eol c) [] (line_left cs) h.0 ∙ left_all cs h.1)
+left_all (c ∷ cs) h = ap (λ l. c ∷ l) (cond-false (is_eol c) [] (line_rest cs) h.0 ∙ left_all cs h.1)
 
-left_line : (cs : List ℕ) (e : ℕ) (rest : List ℕ) → HaveNoEnding cs → is_eol e ≡ true → line_left (cs ++ e ∷ rest) ≡ cs ++ e ∷ []
-left_line [] e rest h is = ap (λ l. e ∷ l) (cond-true (is_eol e) [] (line_left rest) is)
-left_line (c ∷ cs) e rest h is = ap (λ l. c ∷ l) (cond-false (is_eol c) [] (line_left (cs ++ e ∷ rest)) h.0 ∙ left_line cs e rest h.1 is)
+left_line : (cs : List ℕ) (e : ℕ) (rest : List ℕ) → HaveNoEnding cs → is_eol e ≡ true → line_rest (cs ++ e ∷ rest) ≡ cs ++ e ∷ []
+left_line [] e rest h is = ap (λ l. e ∷ l) (cond-true (is_eol e) [] (line_rest rest) is)
+left_line (c ∷ cs) e rest h is = ap (λ l. c ∷ l) (cond-false (is_eol c) [] (line_rest (cs ++ e ∷ rest)) h.0 ∙ left_line cs e rest h.1 is)
 
 module _ (p : ℕ → Bool) (marks : List Mark) where
   -- the marks are those of lines from a place on
@@ -132,7 +132,7 @@ module _ (p : ℕ → Bool) (end : Kind) (marks : List Mark) where
       let next = place + width e in
       let here = inline_code e previous before in
       let n : next ≡ place + (0 + width e) = omega arith in
-      ap (λ k. here k ∷ view_from p end marks next (previous_after e) (kind_before p marks next before e (line_left rest)) rest) (cond-true (is_eol e) _ _ is)
+      ap (λ k. here k ∷ view_from p end marks next (previous_after e) (kind_before p marks next before e (line_rest rest)) rest) (cond-true (is_eol e) _ _ is)
       ∙ ap (λ k. here end ∷ view_from p end marks next (previous_after e) k rest) (cond-true (is_eol e) _ _ is)
       ∙ ap (λ o. here end ∷ view_from p end marks next o (kind_at marks next) rest) (cond-true (is_eol e) None (Some e) is)
       ∙ ap (λ m. here end ∷ view_from p end marks m None (kind_at marks m) rest) n
@@ -174,7 +174,7 @@ module _ (p : ℕ → Bool) (end : Kind) (marks : List Mark) where
       ∙ ap (λ l. here l ++ inline_content p end (own_lines (next ∷ others))) (sym own)
 
   -- the content of lines
-  pub content_is : (ls : List BlockLine) → AreApart ls → Agree p marks 0 ls → marked p end marks (content_text ls) ≡ inline_content p end (own_lines ls)
+  pub content_is : (ls : List BlockLine) → AreApart ls → Agree p marks 0 ls → codes_with_marks p end marks (content_text ls) ≡ inline_content p end (own_lines ls)
   content_is ls h k = ap (view_from p end marks 0 None (kind_at marks 0)) (apart_codes ls h) ∙ lines_view 0 ls h k
 
 -- ---- lines that are apart

@@ -12,7 +12,7 @@ use Rattle.inline_links.specs.Codes.{IsCut}
 use Rattle.inline_links.proofs.Cuts.{cut_at, two_bytes}
 use Rattle.inline_content.specs.declared.mark.Mark.{Mark}
 use Rattle.inline_content.specs.Marks.{kind_at}
-use Rattle.inline_content.specs.View.{width, line_left, kind_between}
+use Rattle.inline_content.specs.View.{width, line_rest, kind_between}
 use Rattle.inline_content.proofs.Views.{widths, widths_append, between_append, between_ending}
 use Rattle.inline_content.proofs.Characters.{spelled, between_character, kind_ahead}
 
@@ -175,29 +175,29 @@ module _ (p : ℕ → Bool) (marks : List Mark) where
 
 -- the kind of the character that a rest begins with
 pub rest_kind : (p : ℕ → Bool) (end : Kind) (rest others : List ℕ) (c : ℕ) → rest ≡ encode_utf8 c ++ others → c < 2097152
-    → character_kind p c ≡ first_kind p end (line_left (content_codes rest))
+    → character_kind p c ≡ first_kind p end (line_rest (content_codes rest))
 unfolding encode_utf8
 rest_kind p end rest others c e small = elim (cases_Bool (ends_line c)) [
   | inl h ↦ elim (or_cases (eqb c 10) (eqb c 13) h) [
     | inl f ↦
         let ten = eqb-true c 10 f in
-        ap (character_kind p) ten ∙ sym (ap (λ l. first_kind p end (line_left (content_codes l))) (e ∙ ap (λ x. encode_utf8 x ++ others) ten))
+        ap (character_kind p) ten ∙ sym (ap (λ l. first_kind p end (line_rest (content_codes l))) (e ∙ ap (λ x. encode_utf8 x ++ others) ten))
     | inr r ↦
         let thirteen = eqb-true c 13 r in
-        ap (character_kind p) thirteen ∙ sym (ap (λ l. first_kind p end (line_left (content_codes l))) (e ∙ ap (λ x. encode_utf8 x ++ others) thirteen) ∙ at_return p others)
+        ap (character_kind p) thirteen ∙ sym (ap (λ l. first_kind p end (line_rest (content_codes l))) (e ∙ ap (λ x. encode_utf8 x ++ others) thirteen) ∙ at_return p others)
   ]
   | inr h ↦
       sym
-      (ap (λ l. first_kind p end (line_left (content_codes l))) e
-      ∙ ap (λ l. first_kind p end (line_left l)) (character_codes c others small h)
+      (ap (λ l. first_kind p end (line_rest (content_codes l))) e
+      ∙ ap (λ l. first_kind p end (line_rest l)) (character_codes c others small h)
       ∙ kind_ahead p end c (content_codes others) small h)
 ]
   where
-    at_return : (p : ℕ → Bool) (bs : List ℕ) → first_kind p end (line_left (content_codes (13 ∷ bs))) ≡ Whitespace
+    at_return : (p : ℕ → Bool) (bs : List ℕ) → first_kind p end (line_rest (content_codes (13 ∷ bs))) ≡ Whitespace
     at_return p [] = refl
     at_return p (b ∷ bs) = elim (cases_Bool (eqb b 10)) [
-      | inl f ↦ ap (λ l. first_kind p end (line_left l)) (cond-true (eqb b 10) _ _ f)
-      | inr n ↦ ap (λ l. first_kind p end (line_left l)) (cond-false (eqb b 10) _ _ n)
+      | inl f ↦ ap (λ l. first_kind p end (line_rest l)) (cond-true (eqb b 10) _ _ f)
+      | inr n ↦ ap (λ l. first_kind p end (line_rest l)) (cond-false (eqb b 10) _ _ n)
     ]
 
 -- ---- a rest of a content

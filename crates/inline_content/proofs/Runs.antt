@@ -14,7 +14,7 @@ use Rattle.definition_inline.specs.Attention.{is_marker, run_between, run_size, 
 use Rattle.inline_links.specs.Codes.{IsRest}
 use Rattle.inline_content.specs.declared.mark.Mark.{Mark}
 use Rattle.inline_content.specs.Marks.{kind_at}
-use Rattle.inline_content.specs.View.{line_left, kind_after, kind_between, previous_from, view_from, marked}
+use Rattle.inline_content.specs.View.{line_rest, kind_after, kind_between, previous_from, view_from, codes_with_marks}
 use Rattle.inline_content.proofs.Views.{widths, codes_from, after_at, view_is}
 use Rattle.inline_content.proofs.Places.{codes_append, split_codes}
 
@@ -96,23 +96,23 @@ pub text_is : (text rest : List ℕ) → IsRest text rest → text ≡ take (len
 text_is text rest h = let n = length text - length rest in sym (take-append-drop n text) ∙ ap (λ l. take n text ++ l) (sym h.place)
 
 module _ (p : ℕ → Bool) (end : Kind) (marks : List Mark) (options : ParseOptions) where
-  pub rest_of_view : (text rest : List ℕ) → codes_of (drop (length (content_codes text) - length (content_codes rest)) (marked p end marks text)) ≡ drop (length (content_codes text) - length (content_codes rest)) (content_codes text)
+  pub rest_of_view : (text rest : List ℕ) → codes_of (drop (length (content_codes text) - length (content_codes rest)) (codes_with_marks p end marks text)) ≡ drop (length (content_codes text) - length (content_codes rest)) (content_codes text)
   rest_of_view text rest =
       let n = length (content_codes text) - length (content_codes rest) in
-      sym (drop-map (λ (c : InlineCode). c.code) n (marked p end marks text)) ∙ ap (drop n) (codes_from p end marks 0 None (kind_at marks 0) (content_codes text))
+      sym (drop-map (λ (c : InlineCode). c.code) n (codes_with_marks p end marks text)) ∙ ap (drop n) (codes_from p end marks 0 None (kind_at marks 0) (content_codes text))
 
   pub no_run : (text rest : List ℕ) → IsRest text rest → (0 < length rest → is_marker options (get_or rest 0 0) ≡ false)
-      → None ≡ run_at options (drop (length (content_codes text) - length (content_codes rest)) (marked p end marks text))
+      → None ≡ run_at options (drop (length (content_codes text) - length (content_codes rest)) (codes_with_marks p end marks text))
   no_run text [] r h =
       let n = length (content_codes text) in
-      sym (no_run_codes options (drop (n - 0) (marked p end marks text)) (λ c cs e. absurd (omega (arith, ap length (sym e ∙ rest_of_view text [] ∙ drop_all (n - 0) (content_codes text) (omega arith))))))
+      sym (no_run_codes options (drop (n - 0) (codes_with_marks p end marks text)) (λ c cs e. absurd (omega (arith, ap length (sym e ∙ rest_of_view text [] ∙ drop_all (n - 0) (content_codes text) (omega arith))))))
   no_run text (y ∷ ys) r h =
       let codes = content_codes text in
       let n = length codes - length (content_codes (y ∷ ys)) in
       let zs = take (length text - length (y ∷ ys)) text in
       let whole = ap content_codes (text_is text (y ∷ ys) r) in
       sym
-      (no_run_codes options (drop n (marked p end marks text))
+      (no_run_codes options (drop n (codes_with_marks p end marks text))
       (λ c cs e.
       let here : drop n codes ≡ c ∷ cs = sym (rest_of_view text (y ∷ ys)) ∙ e in
       elim (split_codes zs y ys) [
@@ -171,7 +171,7 @@ module _ (p : ℕ → Bool) (end : Kind) (marks : List Mark) (options : ParseOpt
 
   -- a run of codes
   run_of_codes : (place : ℕ) (previous : Option ℕ) (kind : Kind) (b : ℕ) (bs : List ℕ) (size : ℕ) (before after : Kind) → is_marker options b ≡ true
-      → size ≡ prefix_len (λ x. x == b) (b ∷ bs) → before ≡ kind → after ≡ first_kind p end (line_left (content_codes (drop size (b ∷ bs))))
+      → size ≡ prefix_len (λ x. x == b) (b ∷ bs) → before ≡ kind → after ≡ first_kind p end (line_rest (content_codes (drop size (b ∷ bs))))
       → Some (run_between options b size before after) ≡ run_at options (view_from p end marks place previous kind (b ∷ content_codes bs))
   run_of_codes place previous kind b bs size before after h sized is_before is_after =
       let v = view_from p end marks place previous kind (b ∷ content_codes bs) in
@@ -185,15 +185,15 @@ module _ (p : ℕ → Bool) (end : Kind) (marks : List Mark) (options : ParseOpt
       let in_codes : size ≡ prefix_len (λ x. x == b) codes = sized ∙ sym (size_bytes b (b ∷ bs) return both) ∙ ap (prefix_len (λ x. x == b)) plain in
       let le = prefix_len-le-length (λ x. x == b) codes in
       let at_end : get_or codes (size - 1) 0 ≡ b = eqb-true (get_or codes (size - 1) 0) b (prefix_len_passes (λ x. x == b) codes (size - 1) 0 (omega (arith, in_codes, sized, first))) in
-      let d = inline_code b previous kind (kind_after p end b (line_left (content_codes bs))) in
+      let d = inline_code b previous kind (kind_after p end b (line_rest (content_codes bs))) in
       let next : suc (size - 1) ≡ size = omega (arith, sized, first) in
       let past : drop (suc (size - 1)) codes ≡ content_codes (drop size (b ∷ bs)) =
       ap (λ k. drop k codes) next ∙ ap (drop size) (sym plain) ∙ drop_bytes b size (b ∷ bs) return (omega (arith, sized)) in
       let last : after ≡ (get_or v (size - 1) d).after =
       is_after
       ∙ sym (cond-false (is_eol b) end _ (within_line options b h))
-      ∙ ap (λ l. kind_after p end b (line_left l)) (sym past)
-      ∙ ap (λ x. kind_after p end x (line_left (drop (suc (size - 1)) codes))) (sym at_end)
+      ∙ ap (λ l. kind_after p end b (line_rest l)) (sym past)
+      ∙ ap (λ x. kind_after p end x (line_rest (drop (suc (size - 1)) codes))) (sym at_end)
       ∙ sym (after_at p end marks place previous kind codes (size - 1) d (omega (arith, in_codes, le, sized, first))) in
       ap Some (same_run b size (run_size b v) before kind after (get_or v (run_size b v - 1) d).after count is_before (last ∙ ap (λ k. (get_or v (k - 1) d).after) count))
       ∙ sym (cond-true (is_marker options b) _ None h)
@@ -201,8 +201,8 @@ module _ (p : ℕ → Bool) (end : Kind) (marks : List Mark) (options : ParseOpt
   pub a_run : (text rest : List ℕ) (size : ℕ) (before after : Kind) → IsRest text rest → 0 < length rest → is_marker options (get_or rest 0 0) ≡ true
       → size ≡ prefix_len (λ x. x == get_or rest 0 0) rest
       → before ≡ kind_between p marks 0 (kind_at marks 0) (content_codes (take (length text - length rest) text)) (content_codes rest)
-      → after ≡ first_kind p end (line_left (content_codes (drop size rest)))
-      → Some (run_between options (get_or rest 0 0) size before after) ≡ run_at options (drop (length (content_codes text) - length (content_codes rest)) (marked p end marks text))
+      → after ≡ first_kind p end (line_rest (content_codes (drop size rest)))
+      → Some (run_between options (get_or rest 0 0) size before after) ≡ run_at options (drop (length (content_codes text) - length (content_codes rest)) (codes_with_marks p end marks text))
   a_run text [] size before after r some h sized is_before is_after = absurd (omega (arith, some))
   a_run text (b ∷ bs) size before after r some h sized is_before is_after =
       let rest = b ∷ bs in

@@ -11,7 +11,7 @@ use Rattle.caseless.specs.Caseless.{default_case_fold}
 use Rattle.caseless.proofs.CaselessLemmas.{default_case_fold-append}
 use Rattle.caseless.proofs.Computing.{caseless}
 use Rattle.definition_text.specs.Content.{is_space, content_codes, after_return_code}
-use Rattle.definition_inline.specs.LabelMatch.{is_word, words, case_folded, word_folded, normal_label, place_of, first_match}
+use Rattle.definition_inline.specs.LabelMatch.{is_word, words, case_fold, fold_word, normal_label, place_of, first_match}
 use Rattle.definition_inline.proofs.LinkRenaming.{Renames, space_same}
 
 -- ---- spaces, tabs and line endings for others of their kind
@@ -29,7 +29,7 @@ pub words_renamed : (f : ℕ → ℕ) → Renames f → (cs : List ℕ) → word
 words_renamed f renames cs = ap (filter is_word) (split_renamed f renames cs)
 
 pub normal_renamed : (f : ℕ → ℕ) → Renames f → (cs : List ℕ) → normal_label (map f cs) ≡ normal_label cs
-normal_renamed f renames cs = ap (join_by word_folded (32 ∷ [])) (words_renamed f renames cs)
+normal_renamed f renames cs = ap (join_by fold_word (32 ∷ [])) (words_renamed f renames cs)
 
 pub normals_renamed : (f : ℕ → ℕ) → Renames f → (labels : List (List ℕ)) → map normal_label (map (map f) labels) ≡ map normal_label labels
 normals_renamed f renames [] = refl
@@ -150,7 +150,7 @@ words-content_codes bs = same_words (codes_split bs) (bytes_split bs) (same_spli
 
 -- ---- words folded one by one, or the whole label
 
-pub case_folded-append : (xs ys : List ℕ) → IsUtf8 xs → case_folded (xs ++ ys) ≡ case_folded xs ++ case_folded ys
+pub case_folded-append : (xs ys : List ℕ) → IsUtf8 xs → case_fold (xs ++ ys) ≡ case_fold xs ++ case_fold ys
 case_folded-append xs ys text =
     ap (λ cs. encode_utf8_all (default_case_fold cs)) (chars-append xs ys text)
     ∙ ap encode_utf8_all (default_case_fold-append (chars xs) (chars ys))
@@ -164,34 +164,34 @@ pub space_is_text : IsUtf8 (32 ∷ [])
 unfolding is_utf8 chars encode
 space_is_text = IsUtf8-from_is_utf8 (32 ∷ []) refl
 
-nothing_folded : case_folded [] ≡ []
+nothing_folded : case_fold [] ≡ []
 unfolding default_case_fold chars
 nothing_folded = refl
 
-space_folded : case_folded (32 ∷ []) ≡ 32 ∷ []
+space_folded : case_fold (32 ∷ []) ≡ 32 ∷ []
 unfolding caseless chars encode
 space_folded = refl
 
-text_folded : (word : List ℕ) → IsUtf8 word → word_folded word ≡ case_folded word
-text_folded word text = ap case_folded (utf8_lossy-IsUtf8 word text)
+text_folded : (word : List ℕ) → IsUtf8 word → fold_word word ≡ case_fold word
+text_folded word text = ap case_fold (utf8_lossy-IsUtf8 word text)
 
-others_folded : (ws : List (List ℕ)) → AllByRecursion IsUtf8 ws → flat_map (λ w. (32 ∷ []) ++ word_folded w) ws ≡ case_folded (flat_map (λ w. (32 ∷ []) ++ w) ws)
+others_folded : (ws : List (List ℕ)) → AllByRecursion IsUtf8 ws → flat_map (λ w. (32 ∷ []) ++ fold_word w) ws ≡ case_fold (flat_map (λ w. (32 ∷ []) ++ w) ws)
 others_folded [] all = sym nothing_folded
 others_folded (w ∷ ws) all =
     let more = flat_map (λ w. (32 ∷ []) ++ w) ws in
     ap₂ (λ first left. (32 ∷ first) ++ left) (text_folded w all.0) (others_folded ws all.1)
     ∙ ap (λ t. 32 ∷ t) (sym (case_folded-append w more all.0))
-    ∙ ap (λ t. t ++ case_folded (w ++ more)) (sym space_folded)
+    ∙ ap (λ t. t ++ case_fold (w ++ more)) (sym space_folded)
     ∙ sym (case_folded-append (32 ∷ []) (w ++ more) space_is_text)
 
 -- it is the same to collapse white space first and then to fold the case
-pub folded_collapsed : (ws : List (List ℕ)) → AllByRecursion IsUtf8 ws → join_by word_folded (32 ∷ []) ws ≡ case_folded (join_by (λ word. word) (32 ∷ []) ws)
+pub folded_collapsed : (ws : List (List ℕ)) → AllByRecursion IsUtf8 ws → join_by fold_word (32 ∷ []) ws ≡ case_fold (join_by (λ word. word) (32 ∷ []) ws)
 folded_collapsed [] all = sym nothing_folded
 folded_collapsed (w ∷ ws) all =
     ap₂ ◌++◌ (text_folded w all.0) (others_folded ws all.1)
     ∙ sym (case_folded-append w (flat_map (λ w. (32 ∷ []) ++ w) ws) all.0)
 
-pub normal_label-collapsed : (label : List ℕ) → AllByRecursion IsUtf8 (words label) → normal_label label ≡ case_folded (collapsed label)
+pub normal_label-collapsed : (label : List ℕ) → AllByRecursion IsUtf8 (words label) → normal_label label ≡ case_fold (collapsed label)
 normal_label-collapsed label all = folded_collapsed (words label) all
 
 -- ---- worked labels

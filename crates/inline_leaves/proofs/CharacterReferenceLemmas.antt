@@ -9,7 +9,7 @@ use Rattle.std.specs.List.{prefix_len}
 use Rattle.std.specs.Option.{option_map}
 use Rattle.markdown_options.specs.declared.configuration.Constructs.{Constructs}
 use Rattle.definition_text.specs.Content.{Part, part, content_codes}
-use Rattle.definition_inline.specs.CharacterReference.{CharacterReference, character_reference, Names, before_semicolon, terminated, numbered, named, number_reference, reference_after, reference_form, reference_text, reference_leaf, reference_of, reference_at}
+use Rattle.definition_inline.specs.CharacterReference.{CharacterReference, character_reference, Names, before_semicolon, part_to_semicolon, reference_by_number, reference_by_name, number_reference, reference_after, reference_form, reference_text, reference_leaf, reference_of, reference_at}
 use Rattle.inline_references.specs.Markers.{marker_size}
 use Rattle.inline_references.specs.Places.{IsCutFrom}
 use Rattle.inline_references.specs.declared.reference.CharacterReference.{CharacterReference as TextReference}
@@ -39,7 +39,7 @@ semicolon_codes text (c ∷ cs) = elim (cases_Bool (eqb c 13)) [
     by_case true = refl
     by_case false = refl
 
-terminated_codes : (test : ℕ → Bool) (most : ℕ) (xs : List ℕ) → test 13 ≡ false → test 257 ≡ false → terminated test most (content_codes xs) ≡ option_map coded (terminated test most xs)
+terminated_codes : (test : ℕ → Bool) (most : ℕ) (xs : List ℕ) → test 13 ≡ false → test 257 ≡ false → part_to_semicolon test most (content_codes xs) ≡ option_map coded (part_to_semicolon test most xs)
 terminated_codes test most xs return both =
     let n = prefix_len test xs in
     let codes = content_codes xs in
@@ -56,11 +56,11 @@ terminated_codes test most xs return both =
     by_case true e = e
     by_case false e = refl
 
-numbered_coded : (base : ℕ) (o : Option Part) → numbered base (option_map coded o) ≡ option_map coded_reference (numbered base o)
+numbered_coded : (base : ℕ) (o : Option Part) → reference_by_number base (option_map coded o) ≡ option_map coded_reference (reference_by_number base o)
 numbered_coded base None = refl
 numbered_coded base (Some p) = refl
 
-named_coded : (o : Option Part) → named (option_map coded o) ≡ option_map coded_reference (named o)
+named_coded : (o : Option Part) → reference_by_name (option_map coded o) ≡ option_map coded_reference (reference_by_name o)
 named_coded None = refl
 named_coded (Some p) = refl
 
@@ -74,9 +74,9 @@ number_codes (c ∷ cs) = elim (cases_Bool (eqb c 13)) [
   | inr h ↦
       let codes = plain_code c cs (eqb-false c 13 h) in
       ap number_reference codes
-      ∙ by_case _ _ (numbered 16 (terminated is_ascii_hexdigit 6 cs)) (numbered 10 (terminated is_ascii_digit 7 (c ∷ cs))) (eqb c 120 || eqb c 88)
-      (ap (numbered 16) (terminated_codes is_ascii_hexdigit 6 cs refl refl) ∙ numbered_coded 16 (terminated is_ascii_hexdigit 6 cs))
-      (ap (λ x. numbered 10 (terminated is_ascii_digit 7 x)) (sym codes) ∙ ap (numbered 10) (terminated_codes is_ascii_digit 7 (c ∷ cs) refl refl) ∙ numbered_coded 10 (terminated is_ascii_digit 7 (c ∷ cs)))
+      ∙ by_case _ _ (reference_by_number 16 (part_to_semicolon is_ascii_hexdigit 6 cs)) (reference_by_number 10 (part_to_semicolon is_ascii_digit 7 (c ∷ cs))) (eqb c 120 || eqb c 88)
+      (ap (reference_by_number 16) (terminated_codes is_ascii_hexdigit 6 cs refl refl) ∙ numbered_coded 16 (part_to_semicolon is_ascii_hexdigit 6 cs))
+      (ap (λ x. reference_by_number 10 (part_to_semicolon is_ascii_digit 7 x)) (sym codes) ∙ ap (reference_by_number 10) (terminated_codes is_ascii_digit 7 (c ∷ cs) refl refl) ∙ numbered_coded 10 (part_to_semicolon is_ascii_digit 7 (c ∷ cs)))
 ]
   where
     by_case : (a b x y : Option CharacterReference) (t : Bool) → a ≡ option_map coded_reference x → b ≡ option_map coded_reference y → cond t a b ≡ option_map coded_reference (cond t x y)
@@ -93,9 +93,9 @@ after_codes (c ∷ cs) = elim (cases_Bool (eqb c 13)) [
   | inr h ↦
       let codes = plain_code c cs (eqb-false c 13 h) in
       ap reference_after codes
-      ∙ by_case _ _ (number_reference cs) (named (terminated is_ascii_alphanumeric 31 (c ∷ cs))) (eqb c 35)
+      ∙ by_case _ _ (number_reference cs) (reference_by_name (part_to_semicolon is_ascii_alphanumeric 31 (c ∷ cs))) (eqb c 35)
       (number_codes cs)
-      (ap (λ x. named (terminated is_ascii_alphanumeric 31 x)) (sym codes) ∙ ap named (terminated_codes is_ascii_alphanumeric 31 (c ∷ cs) refl refl) ∙ named_coded (terminated is_ascii_alphanumeric 31 (c ∷ cs)))
+      (ap (λ x. reference_by_name (part_to_semicolon is_ascii_alphanumeric 31 x)) (sym codes) ∙ ap reference_by_name (terminated_codes is_ascii_alphanumeric 31 (c ∷ cs) refl refl) ∙ named_coded (part_to_semicolon is_ascii_alphanumeric 31 (c ∷ cs)))
 ]
   where
     by_case : (a b x y : Option CharacterReference) (t : Bool) → a ≡ option_map coded_reference x → b ≡ option_map coded_reference y → cond t a b ≡ option_map coded_reference (cond t x y)

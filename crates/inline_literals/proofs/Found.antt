@@ -16,7 +16,7 @@ use Rattle.definition_inline.specs.GfmAutolinkLiteral as literal
 use Rattle.definition_inline.specs.GfmAutolinkLiteral.{LiteralStart, literal_start, or_start, may_precede_www, may_precede_protocol, begins_caselessly, is_control, domain, ends_literal, has_low_line, is_cut, cut_more, without_tail, literal_run, literal_name, literal_start_at, named_literal, literal_after, literal_at}
 use Rattle.definition_inline.proofs.GfmAutolinkLiteral.{no_start_at}
 use Rattle.inline_content.specs.declared.mark.Mark.{Mark}
-use Rattle.inline_content.specs.View.{width, line_left, kind_after, kind_before, kind_between, previous_after, previous_from, view_from, marked}
+use Rattle.inline_content.specs.View.{width, line_rest, kind_after, kind_before, kind_between, previous_after, previous_from, view_from, codes_with_marks}
 use Rattle.inline_content.specs.Marks.{kind_at}
 use Rattle.inline_content.proofs.Places.{codes_append}
 use Rattle.inline_content.proofs.Runs.{text_is}
@@ -68,13 +68,13 @@ name_plain xs =
 module _ (p : ℕ → Bool) (end : Kind) (marks : List Mark) where
   -- the kind of the character that bytes begin with
   abbrev kind_of : List ℕ → Kind
-  kind_of xs = first_kind p end (line_left (content_codes xs))
+  kind_of xs = first_kind p end (line_rest (content_codes xs))
 
   -- of bytes, of which there is one, whatever stands after the content
-  same_kind : (b : ℕ) (bs : List ℕ) → kind_of (b ∷ bs) ≡ first_kind p Whitespace (line_left (content_codes (b ∷ bs)))
+  same_kind : (b : ℕ) (bs : List ℕ) → kind_of (b ∷ bs) ≡ first_kind p Whitespace (line_rest (content_codes (b ∷ bs)))
   same_kind b bs =
       let first = codes_some b bs in
-      ap (λ l. first_kind p end (line_left l)) first.2 ∙ sym (ap (λ l. first_kind p Whitespace (line_left l)) first.2)
+      ap (λ l. first_kind p end (line_rest l)) first.2 ∙ sym (ap (λ l. first_kind p Whitespace (line_rest l)) first.2)
 
   -- no line ending belongs to a domain
   no_ending : (b : ℕ) (bs : List ℕ) → (b ≡ 13 → ⊥) → is_eol b ≡ true → begins_domain p b bs ≡ false
@@ -93,19 +93,19 @@ module _ (p : ℕ → Bool) (end : Kind) (marks : List Mark) where
   domains (suc n) [] place previous before plain = absurd (omega (arith, plain.within))
   domains (suc n) (b ∷ bs) place previous before plain =
       let cs = content_codes bs in
-      let next : List ℕ → List InlineCode = view_from p end marks (place + width b) (previous_after b) (kind_before p marks (place + width b) before b (line_left cs)) in
+      let next : List ℕ → List InlineCode = view_from p end marks (place + width b) (previous_after b) (kind_before p marks (place + width b) before b (line_rest cs)) in
       let apart : b ≡ 13 → ⊥ = plain.plain 0 (omega arith) in
       let code : content_codes (b ∷ bs) ≡ b ∷ cs = plain_code b bs apart in
       let later : IsPlain bs n = record { within = omega (arith, plain.within); plain = λ k lt. plain.plain (suc k) (omega (arith, lt)) } in
       ap (λ k. domain k (take (suc n) (view_from p end marks place previous before (content_codes (b ∷ bs))))) (same_kind b bs)
-      ∙ ap (λ l. domain (first_kind p Whitespace (line_left (content_codes (b ∷ bs)))) (take (suc n) (view_from p end marks place previous before l))) code
+      ∙ ap (λ l. domain (first_kind p Whitespace (line_rest (content_codes (b ∷ bs)))) (take (suc n) (view_from p end marks place previous before l))) code
       ∙ elim (cases_Bool (begins_domain p b bs)) [
         | inr none ↦ cond-false (begins_domain p b bs) _ _ none ∙ ap (λ k. take k (b ∷ bs)) (sym (cond-false (begins_domain p b bs) (1 + domain_size p n bs) 0 none))
         | inl some ↦
             let line : is_eol b ≡ false = no_line b bs apart some in
             cond-true (begins_domain p b bs) _ _ some
-            ∙ ap (λ k. b ∷ domain k (take n (next cs))) (cond-false (is_eol b) end (first_kind p end (line_left cs)) line)
-            ∙ ap (λ l. b ∷ l) (domains n bs (place + width b) (previous_after b) (kind_before p marks (place + width b) before b (line_left cs)) later)
+            ∙ ap (λ k. b ∷ domain k (take n (next cs))) (cond-false (is_eol b) end (first_kind p end (line_rest cs)) line)
+            ∙ ap (λ l. b ∷ l) (domains n bs (place + width b) (previous_after b) (kind_before p marks (place + width b) before b (line_rest cs)) later)
             ∙ ap (λ k. take k (b ∷ bs)) (one (domain_size p n bs) ∙ sym (cond-true (begins_domain p b bs) (1 + domain_size p n bs) 0 some))
       ]
     where
@@ -123,8 +123,8 @@ module _ (p : ℕ → Bool) (end : Kind) (marks : List Mark) where
       → literal.begins_name (kind_of xs) (view_from p end marks place previous before (content_codes xs)) ≡ begins_name p xs
   names_begin [] place previous before = refl
   names_begin (b ∷ bs) place previous before =
-      let codes_side : List ℕ → Bool = λ cs. literal.begins_name (first_kind p end (line_left cs)) (view_from p end marks place previous before cs) in
-      let bytes_side : ℕ → List ℕ → Bool = λ c cs. is_other (first_kind p Whitespace (line_left cs)) && not (is_control c) in
+      let codes_side : List ℕ → Bool = λ cs. literal.begins_name (first_kind p end (line_rest cs)) (view_from p end marks place previous before cs) in
+      let bytes_side : ℕ → List ℕ → Bool = λ c cs. is_other (first_kind p Whitespace (line_rest cs)) && not (is_control c) in
       elim (cases_Bool (eqb b 13)) [
         | inl h ↦
             let e = eqb-true b 13 h in
@@ -149,10 +149,10 @@ module _ (p : ℕ → Bool) (end : Kind) (marks : List Mark) where
       or_from (eqb b 10 || eqb b 13) (eqb b 257) (or_from (eqb b 10) (eqb b 13) (ne_eqb b 10 s.inside) (ne_eqb b 13 (s.plain.plain (size - 1) some))) (ne_eqb b 257 (λ e. omega (arith, e, s.ascii))) in
       let next : suc (size - 1) ≡ size = omega (arith, s.some) in
       after_at p end marks place previous before cs (size - 1) d (omega (arith, long, s.some))
-      ∙ ap (λ k. kind_after p end (get_or cs (size - 1) 0) (line_left (drop k cs))) next
-      ∙ ap (λ k. kind_after p end k (line_left (drop size cs))) byte
+      ∙ ap (λ k. kind_after p end (get_or cs (size - 1) 0) (line_rest (drop k cs))) next
+      ∙ ap (λ k. kind_after p end k (line_rest (drop size cs))) byte
       ∙ cond-false (is_eol b) end _ line
-      ∙ ap (λ l. first_kind p end (line_left l)) (plain_drop size xs s.plain.within s.plain.plain)
+      ∙ ap (λ l. first_kind p end (line_rest l)) (plain_drop size xs s.plain.within s.plain.plain)
 
   -- what is left after a literal's start
   left_after_start : (xs : List ℕ) (size place : ℕ) (previous : Option ℕ) (before : Kind) → StartsLiteral xs size
@@ -212,8 +212,8 @@ module _ (p : ℕ → Bool) (end : Kind) (marks : List Mark) where
       let xs = b ∷ bs in
       let code : content_codes xs ≡ b ∷ content_codes bs = plain_code b bs (s.plain.plain 0 s.some) in
       let view : List ℕ → List InlineCode = view_from p end marks place previous before in
-      let c = inline_code b previous before (kind_after p end b (line_left (content_codes bs))) in
-      let cs = view_from p end marks (place + width b) (previous_after b) (kind_before p marks (place + width b) before b (line_left (content_codes bs))) (content_codes bs) in
+      let c = inline_code b previous before (kind_after p end b (line_rest (content_codes bs))) in
+      let cs = view_from p end marks (place + width b) (previous_after b) (kind_before p marks (place + width b) before b (line_rest (content_codes bs))) (content_codes bs) in
       let same : codes_of (c ∷ cs) ≡ content_codes xs = codes_from p end marks place previous before (b ∷ content_codes bs) ∙ sym code in
       ap (λ l. literal_at on (view l)) code
       ∙ cond-true on.gfm_autolink_literal (literal_after c cs (literal_start_at previous (codes_of (c ∷ cs)))) None is
@@ -292,12 +292,12 @@ module _ (p : ℕ → Bool) (end : Kind) (marks : List Mark) (text : List ℕ) w
   front rest = content_codes (take (length text - length rest) text)
 
   abbrev view : List ℕ → List InlineCode
-  view rest = drop (length (content_codes text) - length (content_codes rest)) (marked p end marks text)
+  view rest = drop (length (content_codes text) - length (content_codes rest)) (codes_with_marks p end marks text)
 
   pub view_codes : (rest : List ℕ) → codes_of (view rest) ≡ drop (length (content_codes text) - length (content_codes rest)) (content_codes text)
   view_codes rest =
       let n = length (content_codes text) - length (content_codes rest) in
-      sym (drop-map (λ (c : InlineCode). c.code) n (marked p end marks text)) ∙ ap (drop n) (codes_from p end marks 0 None (kind_at marks 0) (content_codes text))
+      sym (drop-map (λ (c : InlineCode). c.code) n (codes_with_marks p end marks text)) ∙ ap (drop n) (codes_from p end marks 0 None (kind_at marks 0) (content_codes text))
 
   view_here : (b : ℕ) (bs : List ℕ) → IsRest text (b ∷ bs) → (b ≡ 10 → ⊥)
       → view (b ∷ bs)
@@ -322,8 +322,8 @@ module _ (p : ℕ → Bool) (end : Kind) (marks : List Mark) (text : List ℕ) w
       let previous = previous_from None (front (b ∷ bs)) in
       let before = kind_between p marks 0 (kind_at marks 0) (front (b ∷ bs)) (content_codes (b ∷ bs)) in
       let code : content_codes (b ∷ bs) ≡ b ∷ content_codes bs = plain_code b bs (λ e. omega (arith, e, first)) in
-      let c = inline_code b previous before (kind_after p end b (line_left (content_codes bs))) in
-      let cs = view_from p end marks (place + width b) (previous_after b) (kind_before p marks (place + width b) before b (line_left (content_codes bs))) (content_codes bs) in
+      let c = inline_code b previous before (kind_after p end b (line_rest (content_codes bs))) in
+      let cs = view_from p end marks (place + width b) (previous_after b) (kind_before p marks (place + width b) before b (line_rest (content_codes bs))) (content_codes bs) in
       let same : codes_of (c ∷ cs) ≡ content_codes (b ∷ bs) = codes_from p end marks place previous before (b ∷ content_codes bs) ∙ sym code in
       ap (literal_at on) (view_here b bs r (λ e. omega (arith, e, first)) ∙ ap (view_from p end marks place previous before) code)
       ∙ ap (λ o. cond on.gfm_autolink_literal (literal_after c cs o) None) (ap (literal_start_at previous) same ∙ start_codes previous (b ∷ bs) ∙ none)

@@ -8,7 +8,7 @@ use Rattle.definition_text.specs.InlineCode.{first_kind, is_continuation}
 use Rattle.definition_inline.specs.Attention.{is_other}
 use Rattle.definition_inline.specs.GfmAutolinkLiteral as literal
 use Rattle.definition_inline.specs.GfmAutolinkLiteral.{begins_caselessly, has_low_line, is_among, is_control, is_trailing, literal_name, literal_start}
-use Rattle.inline_content.specs.View.{line_left}
+use Rattle.inline_content.specs.View.{line_rest}
 use Rattle.inline_leaves.specs.Leaves.{kind_view, IsPlain}
 use Rattle.inline_literals.specs.declared.gfm_autolink_literal.LiteralStart.{LiteralStart}
 use Rattle.inline_literals.specs.declared.names_in_vain.NamesInVain.{NamesInVain}
@@ -44,7 +44,7 @@ pub record StartsLiteral (bytes : List ℕ) (size : ℕ) : Type 0 where
 module _ (p : ℕ → Bool) where
   -- a character comes first that is neither whitespace nor punctuation
   abbrev pub begins_other : List ℕ → Bool
-  begins_other bytes = is_other (first_kind p Whitespace (line_left (content_codes bytes)))
+  begins_other bytes = is_other (first_kind p Whitespace (line_rest (content_codes bytes)))
 
   -- bytes after the start of a literal begin as they have to
   abbrev pub begins_name : List ℕ → Bool

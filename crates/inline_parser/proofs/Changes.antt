@@ -10,8 +10,8 @@ use Rattle.definition_inline.specs.Inline as inline
 use Rattle.inline_rows.specs.InlineRows.{part_rows}
 use Rattle.definition_inline.specs.Scan as scan
 use Rattle.definition_inline.specs.Scan.{start_bytes, label_part, makes_link}
-use Rattle.definition_inline.specs.LabelEnd.{Ended, Formed, Leads, Calls}
-use Rattle.definition_inline.specs.Spans.{Token, Item, Delimiters, emphasized}
+use Rattle.definition_inline.specs.LabelEnd.{LinkTail, LinkOrCall, Leads, Calls}
+use Rattle.definition_inline.specs.Spans.{Token, Item, Delimiters, with_spans}
 use Rattle.inline_runs.specs.View.{run_view}
 use Rattle.inline_runs.specs.declared.run.Run.{Run}
 use Rattle.inline_rows.specs.View.{rows_view, row_view, data_rows, target_linked}
@@ -20,7 +20,7 @@ use Rattle.inline_rows.specs.declared.row.InlineRow.TheVariants.{Exit}
 use Rattle.inline_rows.specs.declared.row.LinkTarget.{LinkTarget}
 use Rattle.inline_spans.specs.Container.{AreWithin, AreBytes, AreTold, text_of}
 use Rattle.inline_parser.specs.declared.label.OpenLabel.{OpenLabel}
-use Rattle.inline_parser.specs.Shows.{ShowsBy, IsOpen, AreOutside, unformed_in, formed_in, start_view, entered}
+use Rattle.inline_parser.specs.Shows.{ShowsBy, IsOpen, AreOutside, unformed_in, formed_in, start_view, enter_row}
 use Rattle.inline_parser.proofs.Readings as readings
 use Rattle.inline_parser.proofs.Sound as sound
 use Rattle.inline_parser.proofs.Formed.{IsInner}
@@ -189,14 +189,14 @@ module _ (leads : Target → inline.Linked) (at : ℕ → inline.Linked) where
 
   -- the innermost label start forms a link or an image
   pub last_formed : (rows all new : List InlineRow) (runs new_runs : List Run) (slots new_slots : List ℕ) (o : OpenLabel) (opens : List OpenLabel) (labels : List scan.OpenLabel) (now : scan.Text)
-      (target : LinkTarget) (e : Ended) (holds_link : Bool) (enter : InlineRow) (makes : Bool)
+      (target : LinkTarget) (e : LinkTail) (holds_link : Bool) (enter : InlineRow) (makes : Bool)
       → (inner : IsInner leads at rows runs slots o opens labels now.tokens) → target_linked at target ≡ leads e.target → AreTold leads at inner.outer_rows now.tokens all
-      → new ≡ set all o.row enter ++ Exit ∷ [] → enter ≡ entered o.start target → new_runs ≡ take o.runs runs → new_slots ≡ take o.runs slots
+      → new ≡ set all o.row enter ++ Exit ∷ [] → enter ≡ enter_row o.start target → new_runs ≡ take o.runs runs → new_slots ≡ take o.runs slots
       → holds_link ≡ (o.holds_link || makes) → makes ≡ makes_link (start_view o.start) now.holds_link
       → IsShown new new_runs new_slots opens holds_link (formed_in (Leads e) labels now)
   last_formed rows all new runs new_runs slots new_slots o opens labels now target e holds_link enter makes inner there told new_is enter_is runs_are slots_are holds makes_is =
-      let more = inner.label.outer.tokens ++ Item (label_part inner.label.start e.target (emphasized now.tokens)) ∷ [] in
-      let made = set all o.row (entered o.start target) ++ Exit ∷ [] in
+      let more = inner.label.outer.tokens ++ Item (label_part inner.label.start e.target (with_spans now.tokens)) ∷ [] in
+      let made = set all o.row (enter_row o.start target) ++ Exit ∷ [] in
       subst (λ ls. IsShown new new_runs new_slots opens holds_link (formed_in (Leads e) ls now)) (sym inner.labels_are)
       (record {
         by =
@@ -229,7 +229,7 @@ module _ (leads : Target → inline.Linked) (at : ℕ → inline.Linked) where
             ∙ ap₂ (λ a b. a || makes_link b now.holds_link) inner.holds_link inner.start;
       })
 
-  pub none_formed : (rows : List InlineRow) (runs : List Run) (slots : List ℕ) (all rest : List OpenLabel) (labels : List scan.OpenLabel) (now : scan.Text) (found : Formed) (holds_link : Bool)
+  pub none_formed : (rows : List InlineRow) (runs : List Run) (slots : List ℕ) (all rest : List OpenLabel) (labels : List scan.OpenLabel) (now : scan.Text) (found : LinkOrCall) (holds_link : Bool)
       → all ≡ [] → rest ≡ [] → holds_link ≡ now.holds_link → ShowsBy leads at rows runs slots (reverse all) labels now.tokens
       → IsShown rows runs slots (reverse rest) holds_link (formed_in found labels now)
   none_formed rows runs slots all rest labels now found holds_link e none same s =

@@ -20,7 +20,7 @@ use Rattle.definition_inline.proofs.GfmAutolinkLiteral.{literals_off}
 use Rattle.definition_inline.proofs.Scanning.{drop-codes_of}
 use Rattle.definition_inline.specs.Attention.{run_at}
 use Rattle.definition_inline.specs.Spans.{Item, Delimiters}
-use Rattle.definition_inline.specs.LabelEnd.{Ended, formed_size}
+use Rattle.definition_inline.specs.LabelEnd.{LinkTail, formed_size}
 use Rattle.definition_inline.specs.LabelEnd as ends
 use Rattle.definition_page.specs.Targets.{Targets}
 use Rattle.definition_inline.specs.Scan as scan
@@ -46,7 +46,7 @@ use Rattle.inline_parser.specs.declared.label.LabelStart.{LabelStart}
 use Rattle.inline_parser.specs.declared.label.LabelStart.TheVariants as start
 use Rattle.inline_parser.specs.Plain.{is_text_at}
 use Rattle.inline_parser.specs.Scanned.{context_by, ended_here, IsPlace, IsRunFront, IsSingle, StartsLabel}
-use Rattle.inline_parser.specs.Shows.{start_view, opened, unformed_in, formed_in}
+use Rattle.inline_parser.specs.Shows.{start_view, with_open_label, unformed_in, formed_in}
 use Rattle.inline_parser.proofs.Views.{IsNext, after_next, next_place, codes_left, view_next}
 use Rattle.inline_parser.proofs.Goes as goes
 use Rattle.inline_parser.proofs.Texts as texts
@@ -156,18 +156,18 @@ pub some_place : {rest : List ℕ} {o : Option Formed} {found : LabelEnd} → o 
 some_place {rest} is h = subst (λ x. IfSome x (IsAfterFormed rest)) is h
 
 -- a link or an image that was found is the definition's
-pub record IsFound (ls : List (List ℕ)) (rest : List ℕ) (found : LabelEnd) (o : Option ends.Formed) : Type 0 where
-  pub end : Ended
+pub record IsFound (ls : List (List ℕ)) (rest : List ℕ) (found : LabelEnd) (o : Option ends.LinkOrCall) : Type 0 where
+  pub end : LinkTail
   pub is : o ≡ Some (ends.Leads end)
   pub as_end : IsEnd ls rest found end
 
-pub found_is : (ls : List (List ℕ)) (rest : List ℕ) (found : LabelEnd) (o : Option ends.Formed) → IsFormed ls rest (Some (Leads found)) o → IsFound ls rest found o
+pub found_is : (ls : List (List ℕ)) (rest : List ℕ) (found : LabelEnd) (o : Option ends.LinkOrCall) → IsFormed ls rest (Some (Leads found)) o → IsFound ls rest found o
 found_is ls rest found (Some (ends.Leads e)) h = record { end = e; is = refl; as_end = h }
 found_is ls rest found (Some (ends.Calls label)) h = absurd h
 found_is ls rest found None h = absurd h
 
 -- and so is a call
-pub call_is : (ls : List (List ℕ)) (rest : List ℕ) (name : _) (o : Option ends.Formed) → IsFormed ls rest (Some (Calls name)) o → o ≡ Some (ends.Calls (content_codes name.now))
+pub call_is : (ls : List (List ℕ)) (rest : List ℕ) (name : _) (o : Option ends.LinkOrCall) → IsFormed ls rest (Some (Calls name)) o → o ≡ Some (ends.Calls (content_codes name.now))
 call_is ls rest name (Some (ends.Calls label)) h = ap (λ l. Some (ends.Calls l)) (sym h)
 call_is ls rest name (Some (ends.Leads end)) h = absurd h
 call_is ls rest name None h = absurd h
@@ -179,7 +179,7 @@ none_after content = omega arith
 pub same_next : (content : List ℕ) → IsNext content content
 same_next content = end_next content content (after_same content)
 
-pub none_is : (ls : List (List ℕ)) (rest : List ℕ) (o : Option ends.Formed) → IsFormed ls rest None o → o ≡ None
+pub none_is : (ls : List (List ℕ)) (rest : List ℕ) (o : Option ends.LinkOrCall) → IsFormed ls rest None o → o ≡ None
 none_is ls rest None h = refl
 none_is ls rest (Some e) h = absurd h
 
@@ -271,14 +271,14 @@ module _ (options : ParseOptions) (names : List ℕ → Option (List ℕ)) (p : 
   pub start_follows : (rest : List ℕ) (s : LabelStart) (now final : scan.Reading) → IsPlace content.text.now rest → leaf_here (without_labels options names) (view_at p content rest) ≡ None
       → run_at options (view_at p content rest) ≡ None → Some (start_view s) ≡ label_start_at options.constructs (content_codes rest) → StartsLabel rest s → 0 < length rest
       → scan.scan (context_by options names ds) 0 now (view_at p content rest) ≡ final
-      → scan.scan (context_by options names ds) 0 (opened s (drop (length (start_bytes (start_view s))) rest) now) (view_at p content (drop (length (start_bytes (start_view s))) rest)) ≡ final
+      → scan.scan (context_by options names ds) 0 (with_open_label s (drop (length (start_bytes (start_view s))) rest) now) (view_at p content (drop (length (start_bytes (start_view s))) rest)) ≡ final
   start_follows rest s now final place none no_run is front some same =
       let k = length (start_bytes (start_view s)) in
       let plain = start_plain s rest front.first in
       let after = is_after rest (drop k rest) k refl front.end.some front.end.within front.end.cut in
       let codes = codes_left p content rest place in
       let left : drop k (codes_of (view_at p content rest)) ≡ content_codes (drop k rest) = ap (drop k) codes ∙ plain_drop k rest front.end.within plain in
-      moved rest (drop k rest) now (opened s (drop k rest) now) final k place (after_next rest (drop k rest) after) (sym (size_plain k rest (drop k rest) refl front.end.within plain)) same
+      moved rest (drop k rest) now (with_open_label s (drop k rest) now) final k place (after_next rest (drop k rest) after) (sym (size_plain k rest (drop k rest) refl front.end.within plain)) same
       (goes.start_view_goes (context_by options names ds) now (view_at p content rest) (start_view s) k (start_count s) (view_count rest place (omega (arith, after.fewer))) none no_run
       (ap (label_start_at options.constructs) codes ∙ sym is)
       ∙ ap (λ from. scan.scan (context_by options names ds) 0 (scan.reading (scan.text [] false) (record { start = start_view s; from = from; outer = now.now } ∷ now.open_labels)) (drop k (view_at p content rest))) left)
@@ -300,7 +300,7 @@ module _ (options : ParseOptions) (names : List ℕ → Option (List ℕ)) (p : 
       (sym (one_byte rest some ∙ ap (λ b. b ∷ []) bracket)))
 
   -- a `]` that forms a link or an image
-  pub formed_follows : (rest after : List ℕ) (e : ends.Formed) (now final : scan.Reading) → IsPlace content.text.now rest → leaf_here (without_labels options names) (view_at p content rest) ≡ None
+  pub formed_follows : (rest after : List ℕ) (e : ends.LinkOrCall) (now final : scan.Reading) → IsPlace content.text.now rest → leaf_here (without_labels options names) (view_at p content rest) ≡ None
       → run_at options (view_at p content rest) ≡ None → label_start_at options.constructs (content_codes rest) ≡ None → options.constructs.label_end ≡ true → get_or rest 0 0 ≡ 93 → IsSingle rest → 0 < length rest
       → ended_here (context_by options names ds) (content_codes rest) now.open_labels now.now ≡ Some e → formed_size e ≡ size_before (drop 1 rest) after → IsNext (drop 1 rest) after
       → scan.scan (context_by options names ds) 0 now (view_at p content rest) ≡ final

@@ -5,7 +5,7 @@ use Rattle.definition_text.specs.InlineCode.{InlineCode, codes_of}
 use Rattle.definition_inline.specs.Inline.{Data, Leaf}
 use Rattle.definition_inline.specs.Attention.{Run, run_at}
 use Rattle.definition_inline.specs.Spans.{Item, Delimiters}
-use Rattle.definition_inline.specs.LabelEnd.{Formed, formed_size}
+use Rattle.definition_inline.specs.LabelEnd.{LinkOrCall, formed_size}
 use Rattle.definition_inline.specs.Scan.{InlineContext, leaf_here, LabelStart, label_start_at, start_more, text, Text, OpenLabel, Reading, reading, read_tokens, label_end_step, ended_step, and_then, scan}
 use Rattle.definition_inline.proofs.Scanning.{scan_skipped, scan_step, step_leaf, step_run, step_start, step_last}
 use Rattle.definition_inline.proofs.InlineSizes.{here_fits}
@@ -64,14 +64,14 @@ module _ (context : InlineContext) where
       → scan context 0 r (c ∷ cs) ≡ scan context 0 (read_tokens (Item (Data 93) ∷ []) (unformed_in r.open_labels r.now)) cs
   end_forms_nothing r c cs none no_run no_start is ended = end_read r c cs none no_run no_start is ∙ none_read r.now r.open_labels c cs ended
 
-  some_read : (now : Text) (labels : List OpenLabel) (c : InlineCode) (cs : List InlineCode) (e : Formed) → ended_here context (codes_of (c ∷ cs)) labels now ≡ Some e
+  some_read : (now : Text) (labels : List OpenLabel) (c : InlineCode) (cs : List InlineCode) (e : LinkOrCall) → ended_here context (codes_of (c ∷ cs)) labels now ≡ Some e
       → and_then (label_end_step context (codes_of (c ∷ cs)) now labels) (λ k next. scan context k next cs) ≡ scan context 0 (formed_in e labels now) (drop (formed_size e) cs)
   some_read now [] c cs e is = absurd (no_none e is)
   some_read now (label ∷ others) c cs e is =
       ap (λ o. and_then (ended_step label others now o) (λ k next. scan context k next cs)) is
       ∙ scan_skipped context (formed_size e) (formed_in e (label ∷ others) now) cs
 
-  pub end_forms : (r : Reading) (c : InlineCode) (cs : List InlineCode) (e : Formed) → leaf_here context (c ∷ cs) ≡ None → run_at context.options (c ∷ cs) ≡ None
+  pub end_forms : (r : Reading) (c : InlineCode) (cs : List InlineCode) (e : LinkOrCall) → leaf_here context (c ∷ cs) ≡ None → run_at context.options (c ∷ cs) ≡ None
       → label_start_at context.options.constructs (codes_of (c ∷ cs)) ≡ None → (context.options.constructs.label_end && eqb c.code 93) ≡ true
       → ended_here context (codes_of (c ∷ cs)) r.open_labels r.now ≡ Some e
       → scan context 0 r (c ∷ cs) ≡ scan context 0 (formed_in e r.open_labels r.now) (drop (formed_size e) cs)
@@ -98,7 +98,7 @@ module _ (context : InlineContext) where
   nothing_view_goes r [] some none no_run no_start on is ended = absurd (omega (arith, some))
   nothing_view_goes r (c ∷ cs) some none no_run no_start on is ended = end_forms_nothing r c cs none no_run no_start (is_end c.code on is) ended
 
-  pub formed_view_goes : (r : Reading) (view : List InlineCode) (e : Formed) → 0 < length view → leaf_here context view ≡ None → run_at context.options view ≡ None
+  pub formed_view_goes : (r : Reading) (view : List InlineCode) (e : LinkOrCall) → 0 < length view → leaf_here context view ≡ None → run_at context.options view ≡ None
       → label_start_at context.options.constructs (codes_of view) ≡ None → context.options.constructs.label_end ≡ true → get_or (codes_of view) 0 0 ≡ 93
       → ended_here context (codes_of view) r.open_labels r.now ≡ Some e
       → scan context 0 r view ≡ scan context 0 (formed_in e r.open_labels r.now) (drop (formed_size e) (drop 1 view))

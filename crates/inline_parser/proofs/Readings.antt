@@ -6,7 +6,7 @@ use Rattle.definition_inline.specs.Inline.{Target, Inline, Data}
 use Rattle.definition_inline.specs.Inline as inline
 use Rattle.inline_rows.specs.InlineRows.{part_rows}
 use Rattle.definition_inline.specs.Scan as scan
-use Rattle.definition_inline.specs.Scan.{LinkStart, ImageStart, start_bytes, start_tokens, label_part, unformed, formed, whole_text}
+use Rattle.definition_inline.specs.Scan.{LinkStart, ImageStart, start_bytes, start_tokens, label_part, with_plain_start, with_link_or_call, whole_text}
 use Rattle.definition_inline.specs.Spans.{Token, Item, Delimiters}
 use Rattle.inline_runs.specs.View.{run_view}
 use Rattle.inline_runs.specs.declared.run.Run.{Run}
@@ -164,7 +164,7 @@ module _ (leads : Target → inline.Linked) (at : ℕ → inline.Linked) where
   -- ---- at the end
 
   abbrev pub whole_of : scan.Text → List scan.OpenLabel → scan.Text
-  whole_of now labels = fold (λ inner label. unformed label inner) now labels
+  whole_of now labels = fold (λ inner label. with_plain_start label inner) now labels
 
   pub shows_whole : (opens : List OpenLabel) (rows : List InlineRow) (runs : List Run) (slots : List ℕ) (labels : List scan.OpenLabel) (now : scan.Text)
       → ShowsBy leads at rows runs slots opens labels now.tokens → IsContainer leads at rows 0 runs slots (whole_of now labels).tokens
@@ -181,6 +181,6 @@ module _ (leads : Target → inline.Linked) (at : ℕ → inline.Linked) where
   shows_whole (o ∷ opens) rows runs slots labels now s =
       let there = has_label rows runs slots o opens labels now.tokens s in
       subst (λ ls. IsContainer leads at rows 0 runs slots (whole_of now ls).tokens) (sym there.labels_are)
-      (shows_whole opens rows runs slots there.others (unformed there.label now)
+      (shows_whole opens rows runs slots there.others (with_plain_start there.label now)
       (shows_unformed rows runs slots o opens there.label there.others now.tokens
       (subst (λ ls. ShowsBy leads at rows runs slots (o ∷ opens) ls now.tokens) there.labels_are s)))

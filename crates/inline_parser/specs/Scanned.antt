@@ -7,7 +7,7 @@ use Rattle.definition_text.specs.Content.{content_codes}
 use Rattle.definition_page.specs.InlinePieces.{leads_to}
 use Rattle.definition_inline.specs.Attention.{run_at}
 use Rattle.definition_inline.specs.Scan as scan
-use Rattle.definition_inline.specs.LabelEnd.{Formed}
+use Rattle.definition_inline.specs.LabelEnd.{LinkOrCall}
 use Rattle.definition_inline.specs.Scan.{InlineContext, ended_by, leaf_here, start_bytes}
 use Rattle.definition_page.specs.Targets.{Targets, is_label_of, is_footnote_of, labels_of, linked_at, linked_by}
 use Rattle.inline_content.specs.declared.content.Content.{Content}
@@ -58,7 +58,7 @@ pub record IsPlaced {A : Type 0} (is_punctuation : ℕ → Bool) (content : Cont
   pub sound : IsSound s.reading
 
 -- what a `]` forms with the innermost label start that is open, if there is one
-abbrev pub ended_here : InlineContext → List ℕ → List scan.OpenLabel → scan.Text → Option Formed
+abbrev pub ended_here : InlineContext → List ℕ → List scan.OpenLabel → scan.Text → Option LinkOrCall
 ended_here context content [] inner = None
 ended_here context content (label ∷ others) inner = ended_by context content label inner
 
@@ -81,15 +81,15 @@ pub record StartsLabel (bytes : List ℕ) (start : LabelStart) : Type 0 where
   pub first : take (length (start_bytes (start_view start))) bytes ≡ start_bytes (start_view start)
 
 -- what a content is read as from a place on
-abbrev pub scanned : ParseOptions → (List ℕ → Option (List ℕ)) → (ℕ → Bool) → Targets → Content → List ℕ → scan.Reading
-scanned options names is_punctuation ds content start =
+abbrev pub scan_from : ParseOptions → (List ℕ → Option (List ℕ)) → (ℕ → Bool) → Targets → Content → List ℕ → scan.Reading
+scan_from options names is_punctuation ds content start =
     scan.scan (context_by options names ds) 0 (scan.reading (scan.text [] false) []) (view_at is_punctuation content start)
 
 -- a content that is being read from this place to this end
 pub record IsScanning {A : Type 0} (options : ParseOptions) (names : List ℕ → Option (List ℕ)) (is_punctuation : ℕ → Bool) (labels footnotes : LabelTable A) (content : Content) (start : List ℕ) (s : Scanner A) : Type 0 where
   pub placed : IsPlaced is_punctuation content s
   pub follows : (ds : Targets) → HasTargets labels footnotes ds
-      → Follows options names is_punctuation ds content s (scanned options names is_punctuation ds content start)
+      → Follows options names is_punctuation ds content s (scan_from options names is_punctuation ds content start)
 
 -- whatever the document's definitions are and whatever is read in the end, the new state leads there as the old one did, unless memory ran out
 abbrev pub GoesOn : {T A B C : Type 0} → (List ℕ → Option (List ℕ)) → (ℕ → Bool) → Source T A → Scanner A → Result B C → Scanner A → Type 0

@@ -5,8 +5,8 @@ use Rattle.definition_text.specs.Content.{content_codes}
 use Rattle.definition_inline.specs.Inline.{Target, Data}
 use Rattle.definition_inline.specs.Inline as inline
 use Rattle.definition_inline.specs.Scan as scan
-use Rattle.definition_inline.specs.Scan.{LinkStart, ImageStart, start_bytes, unformed, formed}
-use Rattle.definition_inline.specs.LabelEnd.{Formed}
+use Rattle.definition_inline.specs.Scan.{LinkStart, ImageStart, start_bytes, with_plain_start, with_link_or_call}
+use Rattle.definition_inline.specs.LabelEnd.{LinkOrCall}
 use Rattle.definition_inline.specs.Spans.{Token}
 use Rattle.inline_links.specs.Codes.{IsRest}
 use Rattle.inline_runs.specs.declared.run.Run.{Run}
@@ -25,9 +25,9 @@ start_view Link = LinkStart
 start_view Image = ImageStart
 
 -- the row that starts what is formed
-abbrev pub entered : LabelStart → LinkTarget → InlineRow
-entered Link target = EnterLink target
-entered Image target = EnterImage target
+abbrev pub enter_row : LabelStart → LinkTarget → InlineRow
+enter_row Link target = EnterLink target
+enter_row Image target = EnterImage target
 
 -- the bytes of a label start
 abbrev pub OpensAt : LabelStart → List ℕ → Type 0
@@ -36,24 +36,24 @@ OpensAt start text = text ≡ start_bytes (start_view start)
 -- ---- what the definition reads
 
 -- a label start before these bytes
-abbrev pub opened : LabelStart → List ℕ → scan.Reading → scan.Reading
-opened start from r =
+abbrev pub with_open_label : LabelStart → List ℕ → scan.Reading → scan.Reading
+with_open_label start from r =
     scan.reading (scan.text [] false) (record { start = start_view start; from = content_codes from; outer = r.now } ∷ r.open_labels)
 
 abbrev pub unformed_in : List scan.OpenLabel → scan.Text → scan.Reading
 unformed_in [] now = scan.reading now []
-unformed_in (label ∷ others) now = scan.reading (unformed label now) others
+unformed_in (label ∷ others) now = scan.reading (with_plain_start label now) others
 
 -- the innermost label start forms nothing
 abbrev pub unformed_last : scan.Reading → scan.Reading
 unformed_last r = unformed_in r.open_labels r.now
 
-abbrev pub formed_in : Formed → List scan.OpenLabel → scan.Text → scan.Reading
+abbrev pub formed_in : LinkOrCall → List scan.OpenLabel → scan.Text → scan.Reading
 formed_in found [] now = scan.reading now []
-formed_in found (label ∷ others) now = scan.reading (formed label found now) others
+formed_in found (label ∷ others) now = scan.reading (with_link_or_call label found now) others
 
 -- the innermost label start forms this
-abbrev pub formed_last : Formed → scan.Reading → scan.Reading
+abbrev pub formed_last : LinkOrCall → scan.Reading → scan.Reading
 formed_last found r = formed_in found r.open_labels r.now
 
 -- ---- how rows show it

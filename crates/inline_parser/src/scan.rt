@@ -14,7 +14,7 @@ ghost use Rattle.definition_inline.specs.Inline.{Target, Linked, Data};
 ghost use Rattle.definition_page.specs.InlinePieces.{leads_to};
 ghost use Rattle.inline_rows.specs.InlineRows.{inline_rows};
 ghost use Rattle.definition_inline.specs.Scan as scan;
-ghost use Rattle.definition_inline.specs.Scan.{inlines_from, spans_from, unindented, formed_at, label_start_at, read_tokens};
+ghost use Rattle.definition_inline.specs.Scan.{inlines_from, spans_from, without_indent, formed_at, label_start_at, read_tokens};
 ghost use Rattle.definition_inline.specs.Scan.{start_bytes, starts_image, starts_link};
 ghost use Rattle.definition_inline.specs.GfmLabelStartFootnote.{starts_call, starts_marked_call};
 ghost use Rattle.definition_inline.specs.Spans.{Item, Delimiters};
@@ -26,7 +26,7 @@ ghost use Rattle.inline_rows.specs.View.{rows_view};
 ghost use Rattle.inline_label_ends.specs.Ends.{IsAfterFormed, IsFormed};
 ghost use Rattle.inline_parser.specs.Scanned.{context_by, ended_here, has_no_return, HasTargets, IsPlace, IsPlaced, IsRunFront, IsSingle, StartsLabel};
 ghost use Rattle.inline_parser.specs.Scanned.{GoesOn, HasNoLeaf, HasNoLeafHere, HasNoRun, Shortens, StaysPlaced};
-ghost use Rattle.inline_parser.specs.Shows.{opened, start_view, IsSound, Shows, ShowsThen, StartsBefore};
+ghost use Rattle.inline_parser.specs.Shows.{with_open_label, start_view, IsSound, Shows, ShowsThen, StartsBefore};
 
 use crate::gfm_autolink_literal::linked;
 use crate::label::{LabelStart, OpenLabel};
@@ -134,7 +134,7 @@ fn span_rows<'a, T: Tables, A: Allocator + Clone>(
 pub fn content_start<'a>(content: Content<'a>) -> &'a str
     ensures place { IsPlace content.entry.text.now result.now }
     ensures view { (is_punctuation : ℕ → Bool) →
-        view_at is_punctuation content.entry result.now ≡ unindented (content_view is_punctuation content.entry) }
+        view_at is_punctuation content.entry result.now ≡ without_indent (content_view is_punctuation content.entry) }
 {
     after_white(content.text())
 }
@@ -297,7 +297,7 @@ impl<'a, A: Allocator + Clone> Scanner<'a, A> {
         requires front { StartsLabel self.old.rest.now start }
         ensures placed { StaysPlaced self.old result self.new }
         ensures rest { OnOk result (self.new.rest.now ≡ drop (length (start_bytes (start_view start))) self.old.rest.now) }
-        ensures read { ShowsThen self.old.reading result self.new.reading (opened start (drop (length (start_bytes (start_view start))) self.old.rest.now)) }
+        ensures read { ShowsThen self.old.reading result self.new.reading (with_open_label start (drop (length (start_bytes (start_view start))) self.old.rest.now)) }
     {
         let size = start.size();
         let after = cut_after(self.rest, size);

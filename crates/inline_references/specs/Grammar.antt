@@ -3,7 +3,7 @@ use Rattle.std.specs.Prelude.{◌≡◌, ℕ, ◌≤◌, Bool, List, [], ◌∷�
 use Rattle.std.specs.Char.{is_ascii_digit, is_ascii_hexdigit, is_ascii_alphanumeric}
 use Rattle.std.specs.List.{list_all}
 use Rattle.definition_inline.specs.CharacterReference.{CharacterName, Named, Numbered, CharacterReference, character_reference, Names, number_of, reference_form, reference_text}
-use Rattle.definition_inline.specs.Decoded.{decoded}
+use Rattle.definition_inline.specs.Decoded.{decode}
 
 -- from one to so many bytes, all of a kind
 pub record IsValue (test : ℕ → Bool) (most : ℕ) (value : List ℕ) : Type 0 where
@@ -41,7 +41,7 @@ pub data Decodes (names : Names) : List ℕ → List ℕ → Type 0 where
 
 -- a text is decoded to this one text, and to no other
 abbrev pub DecodesDecoded : Type 0
-DecodesDecoded = (names : Names) (text : List ℕ) → Decodes names text (decoded names text)
+DecodesDecoded = (names : Names) (text : List ℕ) → Decodes names text (decode names text)
 
 abbrev pub DecodesAlone : Type 0
-DecodesAlone = (names : Names) (text out : List ℕ) → Decodes names text out → decoded names text ≡ out
+DecodesAlone = (names : Names) (text out : List ℕ) → Decodes names text out → decode names text ≡ out

@@ -9,7 +9,7 @@ use Rattle.definition_inline.specs.Attention.{Run}
 use Rattle.definition_inline.specs.Inline.{Target, Linked, Inline, Data}
 use Rattle.inline_rows.specs.InlineRows.{inline_rows}
 use Rattle.definition_inline.specs.Pairing.{Pair, pairs}
-use Rattle.definition_inline.specs.Spans.{Token, Item, Delimiters, SpanRow, Holds, Opens, Closes, span_of, bytes_taken, run_rows, rows_from, runs_of, emphasized}
+use Rattle.definition_inline.specs.Spans.{Token, Item, Delimiters, SpanRow, Holds, Opens, Closes, span_of, bytes_taken, run_rows, rows_from, runs_of, with_spans}
 use Rattle.inline_spans.specs.Told.{told_rows}
 use Rattle.inline_spans.proofs.Balanced.{Nests, nested_rows}
 use Rattle.inline_spans.proofs.Taken.{AreOrdered, pairs_ordered}
@@ -121,7 +121,7 @@ rows_nest n ps place (Delimiters run ∷ ts) ordered =
     (subst (λ m. Nests (count (is_open (place + 1)) ps) (rows_from ps (place + 1) ts) (count (is_open m) ps)) more (rows_nest n ps (place + 1) ts ordered))
 
 -- the rows of the inline structure of a container
-pub emphasized_rows : (leads : Target → Linked) (ts : List Token) → inline_rows leads (emphasized ts) ≡ told_rows leads (rows_from (pairs (runs_of ts)) 0 ts)
+pub emphasized_rows : (leads : Target → Linked) (ts : List Token) → inline_rows leads (with_spans ts) ≡ told_rows leads (rows_from (pairs (runs_of ts)) 0 ts)
 emphasized_rows leads ts =
     let ps = pairs (runs_of ts) in
     let n = length (runs_of ts) in

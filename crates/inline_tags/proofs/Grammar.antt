@@ -6,7 +6,7 @@ use Rattle.std.specs.Prelude.{codes}
 use Rattle.std.specs.List.{prefix_len}
 use Rattle.definition_text.specs.Columns.{tab_column}
 use Rattle.definition_text.specs.Bytes.{is_letter, begins_with, after_all, without_slash}
-use Rattle.definition_inline.specs.HtmlTags.{followed_by, is_tag_space, tag_space, is_tag_name_byte, begins_attribute, is_attribute_byte, is_unquoted, quoted, value, value_or, specification, attribute, begins_with_attribute, has_attribute, attributes, tag_end, open_end, closing_end, open_rest, closing_rest, open_tag, closing_tag}
+use Rattle.definition_inline.specs.HtmlTags.{followed_by, is_tag_space, tag_space, is_tag_name_byte, begins_attribute, is_attribute_byte, is_unquoted, quoted_value, value, value_or, specification, attribute, begins_with_attribute, has_attribute, attributes, tag_end, open_end, closing_end, open_rest, closing_rest, open_tag, closing_tag}
 use Rattle.inline_tags.specs.Places.{Place, NameStart, Name, Space, Attribute, AttributeSpace, Equals, Unquoted, DoubleQuoted, SingleQuoted, Quoted, Slash, ClosingStart, ClosingName, ClosingSpace, End, Nowhere, at_end, after_part, after_attribute, after_equals, after_closing_name, tag_rest, rest_after}
 
 -- what follows a tag that goes on from a place, which may be its end
@@ -134,14 +134,14 @@ equals_space : (b : ℕ) (bs : List ℕ) → is_tag_space b ≡ true → from (a
 equals_space b bs h = ap (λ t. from (cond t Equals (cond (eqb b 34) DoubleQuoted (cond (eqb b 39) SingleQuoted (cond (is_unquoted b) Unquoted Nowhere)))) bs) h
 
 value_reads : (most : ℕ) (b : ℕ) (bs : List ℕ) → is_tag_space b ≡ false
-    → rest_after DoubleQuoted bs ≡ followed_by (quoted 34 bs) (tail most) → rest_after SingleQuoted bs ≡ followed_by (quoted 39 bs) (tail most)
+    → rest_after DoubleQuoted bs ≡ followed_by (quoted_value 34 bs) (tail most) → rest_after SingleQuoted bs ≡ followed_by (quoted_value 39 bs) (tail most)
     → rest_after Unquoted bs ≡ tail most (after_all is_unquoted bs) → from (after_equals b) bs ≡ followed_by (value (b ∷ bs)) (tail most)
 value_reads most b bs h double single bare =
     ap (λ t. from (cond t Equals (cond (eqb b 34) DoubleQuoted (cond (eqb b 39) SingleQuoted (cond (is_unquoted b) Unquoted Nowhere)))) bs) h
     ∙ by_case (eqb b 34) (eqb b 39) (is_unquoted b)
   where
     by_case : (d s u : Bool) → from (cond d DoubleQuoted (cond s SingleQuoted (cond u Unquoted Nowhere))) bs
-        ≡ followed_by (cond d (quoted 34 bs) (cond s (quoted 39 bs) (cond u (Some (after_all is_unquoted bs)) None))) (tail most)
+        ≡ followed_by (cond d (quoted_value 34 bs) (cond s (quoted_value 39 bs) (cond u (Some (after_all is_unquoted bs)) None))) (tail most)
     by_case true s u = double
     by_case false true u = single
     by_case false false true = bare
@@ -198,26 +198,26 @@ mutual
   quoted_reads (b ∷ bs) zero h = absurd (omega arith)
   quoted_reads (b ∷ bs) (suc most) h = part_reads most b bs (space_reads bs most (omega arith))
 
-  double_reads : (bytes : List ℕ) (most : ℕ) → length bytes ≤ most → rest_after DoubleQuoted bytes ≡ followed_by (quoted 34 bytes) (tail most)
+  double_reads : (bytes : List ℕ) (most : ℕ) → length bytes ≤ most → rest_after DoubleQuoted bytes ≡ followed_by (quoted_value 34 bytes) (tail most)
   double_reads [] most h = refl
   double_reads (b ∷ bs) most h = elim (cases_Bool (eqb b 34)) [
     | inl e ↦
         ap (λ p. from p bs) (cond-true (eqb b 34) Quoted DoubleQuoted e) ∙ quoted_reads bs most (omega arith)
-        ∙ sym (ap (λ o. followed_by o (tail most)) (cond-true (eqb b 34) (Some bs) (quoted 34 bs) e))
+        ∙ sym (ap (λ o. followed_by o (tail most)) (cond-true (eqb b 34) (Some bs) (quoted_value 34 bs) e))
     | inr e ↦
         ap (λ p. from p bs) (cond-false (eqb b 34) Quoted DoubleQuoted e) ∙ double_reads bs most (omega arith)
-        ∙ sym (ap (λ o. followed_by o (tail most)) (cond-false (eqb b 34) (Some bs) (quoted 34 bs) e))
+        ∙ sym (ap (λ o. followed_by o (tail most)) (cond-false (eqb b 34) (Some bs) (quoted_value 34 bs) e))
   ]
 
-  single_reads : (bytes : List ℕ) (most : ℕ) → length bytes ≤ most → rest_after SingleQuoted bytes ≡ followed_by (quoted 39 bytes) (tail most)
+  single_reads : (bytes : List ℕ) (most : ℕ) → length bytes ≤ most → rest_after SingleQuoted bytes ≡ followed_by (quoted_value 39 bytes) (tail most)
   single_reads [] most h = refl
   single_reads (b ∷ bs) most h = elim (cases_Bool (eqb b 39)) [
     | inl e ↦
         ap (λ p. from p bs) (cond-true (eqb b 39) Quoted SingleQuoted e) ∙ quoted_reads bs most (omega arith)
-        ∙ sym (ap (λ o. followed_by o (tail most)) (cond-true (eqb b 39) (Some bs) (quoted 39 bs) e))
+        ∙ sym (ap (λ o. followed_by o (tail most)) (cond-true (eqb b 39) (Some bs) (quoted_value 39 bs) e))
     | inr e ↦
         ap (λ p. from p bs) (cond-false (eqb b 39) Quoted SingleQuoted e) ∙ single_reads bs most (omega arith)
-        ∙ sym (ap (λ o. followed_by o (tail most)) (cond-false (eqb b 39) (Some bs) (quoted 39 bs) e))
+        ∙ sym (ap (λ o. followed_by o (tail most)) (cond-false (eqb b 39) (Some bs) (quoted_value 39 bs) e))
   ]
 
   equals_reads : (bytes : List ℕ) (most : ℕ) → length bytes ≤ most → rest_after Equals bytes ≡ followed_by (value (tag_space bytes)) (tail most)

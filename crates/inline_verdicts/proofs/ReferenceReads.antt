@@ -4,7 +4,7 @@ use Rattle.std.proofs.lemmas.Bool.{cases_Bool, eqb-true, lt-ltb}
 use Rattle.std.specs.Char.{is_ascii_alphanumeric, is_ascii_digit, is_ascii_hexdigit}
 use Rattle.std.specs.List.{prefix_len}
 use Rattle.definition_text.specs.Content.{Part}
-use Rattle.definition_inline.specs.CharacterReference.{before_semicolon, named, numbered, numbered_text, number_of, number_reference, reference_after, reference_leaf, reference_of, terminated}
+use Rattle.definition_inline.specs.CharacterReference.{before_semicolon, reference_by_name, reference_by_number, numbered_text, number_of, number_reference, reference_after, reference_leaf, reference_of, part_to_semicolon}
 use Rattle.definition_inline.specs.Inline.{Inline as InlinePart, Character, Leaf, leaf}
 use Rattle.engine_events.specs.Events.{event}
 use Rattle.engine_events.specs.declared.event.Event.{Event}
@@ -29,7 +29,7 @@ use Rattle.inline_states.specs.Inlines.{bodies}
 use Rattle.inline_codes.specs.Codes.{Sees, byte, nothing, seen, tab}
 use Rattle.inline_codes.specs.TextBytes.{Shows}
 use Rattle.inline_verdicts.specs.CharacterReference.{CharacterReferenceVerdict, IsReference, ReferenceVerdict, decimal, hexadecimal, referring}
-use Rattle.inline_verdicts.specs.CharacterReference.{named as by_name}
+use Rattle.inline_verdicts.specs.CharacterReference.{reference_by_name as by_name}
 use Rattle.inline_verdicts.specs.Stretch.{Stretch, longer}
 use Rattle.inline_verdicts.specs.Verdicts.{Reads}
 use Rattle.inline_verdicts.proofs.Loops.{At, byte_at, end_at, fed, goes_to}
@@ -50,7 +50,7 @@ number_known : (texts : List ℕ → Option (List ℕ)) (bytes : List ℕ) (m k 
 number_known texts bytes m k i e h = rw (lt-ltb 0 k h, e) refl
 
 -- where the first code isn't of the sort
-terminated_none : (sort : ℕ → Bool) (most c : ℕ) (cs : List ℕ) → sort c ≡ false → terminated sort most (c ∷ cs) ≡ None
+terminated_none : (sort : ℕ → Bool) (most c : ℕ) (cs : List ℕ) → sort c ≡ false → part_to_semicolon sort most (c ∷ cs) ≡ None
 terminated_none sort most c cs h = ap (λ (n : ℕ). if nat_le 1 n && nat_le n most then before_semicolon (take n (c ∷ cs)) (drop n (c ∷ cs)) else None) (prefix_by sort c cs false h)
 
 module _ {T : Type 0} (texts : List ℕ → Option (List ℕ)) (is_punctuation : ℕ → Bool) (x : Context T) (text : Text) (c : Config Inlines) (p q : Point) (cs : List ℕ)
@@ -114,7 +114,7 @@ module _ {T : Type 0} (texts : List ℕ → Option (List ℕ)) (is_punctuation :
       abbrev Value_outcome : Option Part → Type 0
       Value_outcome = Outcome texts is_punctuation x text at_mark kind es e v j low h at whole ds t known size_is rest_is knows
 
-      outcome : Value_outcome (terminated kind.sort kind.most whole)
+      outcome : Value_outcome (part_to_semicolon kind.sort kind.most whole)
       outcome = value_reads texts is_punctuation x text at_mark kind es e v j low h at whole ds t known size_is rest_is knows
 
       -- these events and this kind are those of a reference
@@ -141,24 +141,24 @@ module _ {T : Type 0} (texts : List ℕ → Option (List ℕ)) (is_punctuation :
       by_text shapes rest None f = fails f.0 (back f.0 false f.1)
       by_text shapes rest (Some found) g = goes_well shapes (Character found ∷ []) rest g
 
-      by_names : Shapes → ((word : List ℕ) → known word ≡ is_some (texts word)) → Verdict_by (reference_of texts all (named (terminated kind.sort kind.most whole)))
-      by_names shapes is = by_part (terminated kind.sort kind.most whole) outcome
+      by_names : Shapes → ((word : List ℕ) → known word ≡ is_some (texts word)) → Verdict_by (reference_of texts all (reference_by_name (part_to_semicolon kind.sort kind.most whole)))
+      by_names shapes is = by_part (part_to_semicolon kind.sort kind.most whole) outcome
         where
-          by_part : (o : Option Part) → Value_outcome o → Verdict_by (reference_of texts all (named o))
+          by_part : (o : Option Part) → Value_outcome o → Verdict_by (reference_of texts all (reference_by_name o))
           by_part None f = fails f.0 (back f.0 false f.1)
           by_part (Some part) g = by_text shapes part.rest (texts part.text) (subst (λ (b : Bool). Value_settled b part.rest) (is part.text) g)
 
-      by_number : Shapes → ((word : List ℕ) → known word ≡ true) → (base : ℕ) → Verdict_by (reference_of texts all (numbered base (terminated kind.sort kind.most whole)))
-      by_number shapes is base = by_part (terminated kind.sort kind.most whole) outcome
+      by_number : Shapes → ((word : List ℕ) → known word ≡ true) → (base : ℕ) → Verdict_by (reference_of texts all (reference_by_number base (part_to_semicolon kind.sort kind.most whole)))
+      by_number shapes is base = by_part (part_to_semicolon kind.sort kind.most whole) outcome
         where
-          by_part : (o : Option Part) → Value_outcome o → Verdict_by (reference_of texts all (numbered base o))
+          by_part : (o : Option Part) → Value_outcome o → Verdict_by (reference_of texts all (reference_by_number base o))
           by_part None f = fails f.0 (back f.0 false f.1)
           by_part (Some part) g = by_text shapes part.rest (Some (numbered_text (number_of base part.text))) (subst (λ (b : Bool). Value_settled b part.rest) (is part.text) g)
 
     -- ---- a name
 
     by_letter : (code : ℕ) (ds : List ℕ) (r : Point) → cs ≡ code ∷ ds → text.byte (text.start q) ≡ Some (as_byte (seen code) r) → Sees text r ds → is_ascii_alphanumeric code ≡ true
-        → Verdict_by (reference_of texts all (named (terminated is_ascii_alphanumeric 31 (code ∷ ds))))
+        → Verdict_by (reference_of texts all (reference_by_name (part_to_semicolon is_ascii_alphanumeric 31 (code ∷ ds))))
     by_letter code ds r is e t letter =
         let same : is_ascii_alphanumeric (seen code) ≡ true = seen_sort is_ascii_alphanumeric refl refl refl code ∙ letter in
         let first = byte_at begun_at e in
@@ -209,7 +209,7 @@ module _ {T : Type 0} (texts : List ℕ → Option (List ℕ)) (is_punctuation :
       hash_read code es more rest f = one_further 38 cs rest (subst (λ (l : List ℕ). IsRest l rest) (sym is) (one_further 35 ds rest (subst (λ (l : List ℕ). IsRest l rest) (sym more) (one_further code es rest f))))
 
       by_digit : (code : ℕ) (es : List ℕ) (v : Point) → ds ≡ code ∷ es → text.byte (text.start r) ≡ Some (as_byte (seen code) v) → Sees text v es → ((code == 120) || (code == 88)) ≡ false → is_ascii_digit code ≡ true
-          → Verdict_by (reference_of texts all (numbered 10 (terminated is_ascii_digit 7 (code ∷ es))))
+          → Verdict_by (reference_of texts all (reference_by_number 10 (part_to_semicolon is_ascii_digit 7 (code ∷ es))))
       by_digit code es v more f t no_x digit =
           let same : is_ascii_digit (seen code) ≡ true = seen_sort is_ascii_digit refl refl refl code ∙ digit in
           let first = byte_at hash_at f in
@@ -232,7 +232,7 @@ module _ {T : Type 0} (texts : List ℕ → Option (List ℕ)) (is_punctuation :
           (λ word. refl) 10
 
       by_x : (code : ℕ) (es : List ℕ) (v : Point) → ds ≡ code ∷ es → text.byte (text.start r) ≡ Some (as_byte (seen code) v) → Sees text v es → ((code == 120) || (code == 88)) ≡ true
-          → Verdict_by (reference_of texts all (numbered 16 (terminated is_ascii_hexdigit 6 es)))
+          → Verdict_by (reference_of texts all (reference_by_number 16 (part_to_semicolon is_ascii_hexdigit 6 es)))
       by_x code es v more f t is_x =
           let same : ((seen code == 120) || (seen code == 88)) ≡ true = seen_sort (λ (b : ℕ). (b == 120) || (b == 88)) refl refl refl code ∙ is_x in
           let first = byte_at hash_at f in
@@ -261,17 +261,17 @@ module _ {T : Type 0} (texts : List ℕ → Option (List ℕ)) (is_punctuation :
 
       -- at another byte, or at the end
       no_digit : (code : ℕ) (es : List ℕ) (b : ℕ) (v : Point) → text.byte (text.start r) ≡ Some (as_byte b v) → ((b == 120) || (b == 88)) ≡ false → is_ascii_digit b ≡ false → is_ascii_digit code ≡ false
-          → Verdict_by (reference_of texts all (numbered 10 (terminated is_ascii_digit 7 (code ∷ es))))
+          → Verdict_by (reference_of texts all (reference_by_number 10 (part_to_semicolon is_ascii_digit 7 (code ∷ es))))
       no_digit code es b v f no_x none same =
-          subst (λ (o : Option Part). Verdict_by (reference_of texts all (numbered 10 o))) (sym (terminated_none is_ascii_digit 7 code es same))
+          subst (λ (o : Option Part). Verdict_by (reference_of texts all (reference_by_number 10 o))) (sym (terminated_none is_ascii_digit 7 code es same))
           (stops_hash (ReferenceStates.numeric_by texts is_punctuation x b hash false false (byte_at hash_at f) no_x none))
 
       by_numeric : (es : List ℕ) → ds ≡ es → Sees text r es → Verdict_by (reference_of texts all (number_reference es))
       by_numeric [] more (nothing f) = stops_hash (ReferenceStates.numeric_ends texts is_punctuation x hash (end_at hash_at f))
       by_numeric (code ∷ es) more (byte {q = v} apart f t) = elim (cases_Bool ((code == 120) || (code == 88))) [
-        | inl h ↦ subst (λ (b : Bool). Verdict_by (reference_of texts all (if b then numbered 16 (terminated is_ascii_hexdigit 6 es) else numbered 10 (terminated is_ascii_digit 7 (code ∷ es))))) (sym h) (by_x code es v more f t h)
+        | inl h ↦ subst (λ (b : Bool). Verdict_by (reference_of texts all (if b then reference_by_number 16 (part_to_semicolon is_ascii_hexdigit 6 es) else reference_by_number 10 (part_to_semicolon is_ascii_digit 7 (code ∷ es))))) (sym h) (by_x code es v more f t h)
         | inr h ↦
-            subst (λ (b : Bool). Verdict_by (reference_of texts all (if b then numbered 16 (terminated is_ascii_hexdigit 6 es) else numbered 10 (terminated is_ascii_digit 7 (code ∷ es))))) (sym h)
+            subst (λ (b : Bool). Verdict_by (reference_of texts all (if b then reference_by_number 16 (part_to_semicolon is_ascii_hexdigit 6 es) else reference_by_number 10 (part_to_semicolon is_ascii_digit 7 (code ∷ es))))) (sym h)
             (elim (cases_Bool (is_ascii_digit code)) [
               | inl k ↦ by_digit code es v more f t h k
               | inr k ↦ no_digit code es (seen code) v f (seen_sort (λ (b : ℕ). (b == 120) || (b == 88)) refl refl refl code ∙ h) (seen_sort is_ascii_digit refl refl refl code ∙ k) k
@@ -282,9 +282,9 @@ module _ {T : Type 0} (texts : List ℕ → Option (List ℕ)) (is_punctuation :
     -- ---- after the `&`
 
     no_letter : (code : ℕ) (ds : List ℕ) (b : ℕ) (r : Point) → text.byte (text.start q) ≡ Some (as_byte b r) → (b == 35) ≡ false → is_ascii_alphanumeric b ≡ false → is_ascii_alphanumeric code ≡ false
-        → Verdict_by (reference_of texts all (named (terminated is_ascii_alphanumeric 31 (code ∷ ds))))
+        → Verdict_by (reference_of texts all (reference_by_name (part_to_semicolon is_ascii_alphanumeric 31 (code ∷ ds))))
     no_letter code ds b r e no_hash none same =
-        subst (λ (o : Option Part). Verdict_by (reference_of texts all (named o))) (sym (terminated_none is_ascii_alphanumeric 31 code ds same))
+        subst (λ (o : Option Part). Verdict_by (reference_of texts all (reference_by_name o))) (sym (terminated_none is_ascii_alphanumeric 31 code ds same))
         (stops_open (ReferenceStates.open_by texts is_punctuation x b begun false (byte_at begun_at e) no_hash none))
 
     by_code : (ds : List ℕ) → cs ≡ ds → Sees text q ds → Verdict_by (reference_of texts all (reference_after ds))
@@ -292,10 +292,10 @@ module _ {T : Type 0} (texts : List ℕ → Option (List ℕ)) (is_punctuation :
     by_code (code ∷ ds) is (byte {q = r} apart e t) = elim (cases_Bool (code == 35)) [
       | inl h ↦
           let same : code ≡ 35 = eqb-true code 35 h in
-          subst (λ (b : Bool). Verdict_by (reference_of texts all (if b then number_reference ds else named (terminated is_ascii_alphanumeric 31 (code ∷ ds))))) (sym h)
+          subst (λ (b : Bool). Verdict_by (reference_of texts all (if b then number_reference ds else reference_by_name (part_to_semicolon is_ascii_alphanumeric 31 (code ∷ ds))))) (sym h)
           (by_numeric ds r (is ∙ ap (λ (k : ℕ). k ∷ ds) same) (e ∙ ap (λ (k : ℕ). Some (as_byte (seen k) r)) same) ds refl t)
       | inr h ↦
-          subst (λ (b : Bool). Verdict_by (reference_of texts all (if b then number_reference ds else named (terminated is_ascii_alphanumeric 31 (code ∷ ds))))) (sym h)
+          subst (λ (b : Bool). Verdict_by (reference_of texts all (if b then number_reference ds else reference_by_name (part_to_semicolon is_ascii_alphanumeric 31 (code ∷ ds))))) (sym h)
           (elim (cases_Bool (is_ascii_alphanumeric code)) [
             | inl k ↦ by_letter code ds r is e t k
             | inr k ↦ no_letter code ds (seen code) r e (seen_as_itself 35 refl code ∙ h) (seen_sort is_ascii_alphanumeric refl refl refl code ∙ k) k

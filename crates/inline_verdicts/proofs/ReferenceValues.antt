@@ -5,7 +5,7 @@ use Rattle.std.proofs.lemmas.List.{drop-drop, length-drop}
 use Rattle.std.specs.Char.{is_ascii_alphanumeric, is_ascii_digit, is_ascii_hexdigit}
 use Rattle.std.specs.List.{prefix_len}
 use Rattle.definition_text.specs.Content.{Part, part}
-use Rattle.definition_inline.specs.CharacterReference.{before_semicolon, terminated}
+use Rattle.definition_inline.specs.CharacterReference.{before_semicolon, part_to_semicolon}
 use Rattle.engine_events.specs.Events.{event}
 use Rattle.engine_events.specs.declared.event.Event.{Event}
 use Rattle.engine_events.specs.declared.event.Kind.TheVariants.{Enter, Exit}
@@ -68,7 +68,7 @@ none_if true o h = h
 none_if false o h = refl
 
 terminated_by : (sort : ℕ → Bool) (most total : ℕ) (whole rest : List ℕ) → prefix_len sort whole ≡ total → drop (prefix_len sort whole) whole ≡ rest
-    → terminated sort most whole ≡ (if nat_le 1 total && nat_le total most then before_semicolon (take total whole) rest else None)
+    → part_to_semicolon sort most whole ≡ (if nat_le 1 total && nat_le total most then before_semicolon (take total whole) rest else None)
 terminated_by sort most total whole rest h k =
     ap (λ (r : List ℕ). if nat_le 1 (prefix_len sort whole) && nat_le (prefix_len sort whole) most then before_semicolon (take (prefix_len sort whole) whole) r else None) k
     ∙ ap (λ (n : ℕ). if nat_le 1 n && nat_le n most then before_semicolon (take n whole) rest else None) h
@@ -273,5 +273,5 @@ module _ {T : Type 0} (texts : List ℕ → Option (List ℕ)) (is_punctuation :
           (too_long r.0 capped.config.current refl r.2 r.1)
     ]
 
-    pub value_reads : Outcome (terminated kind.sort kind.most whole)
+    pub value_reads : Outcome (part_to_semicolon kind.sort kind.most whole)
     value_reads = subst Outcome (sym (terminated_by kind.sort kind.most total whole (drop n cs) size_is rest_is)) value_ended

@@ -2,7 +2,7 @@
 use Rattle.std.proofs.Common.{◌≡◌, ◌≢◌, ℕ, eqb, [], ◌∷◌, ◌++◌, sym, refl, ap, ◌∙◌, inl, inr, append_assoc}
 use Rattle.std.proofs.lemmas.Bool.{cases_Bool, cond-true, cond-false, eqb-true, eqb-false}
 use Rattle.definition_block.specs.Tree.{Block, Holds, Items, Blocks, Nil, Cons, join, is_ending}
-use Rattle.definition_block.specs.Lists.{endings_of, after_endings, item_marker, list_marker, list_items, rest_of, before_list, before, grouped_block, grouped}
+use Rattle.definition_block.specs.Lists.{endings_of, after_endings, item_marker, list_marker, list_items, rest_of, before_list, before, grouped_block, group_items}
 use Rattle.block_rows.specs.Rows.{Exit, start_row, block_rows, rows_of}
 use Rattle.laws_block.specs.GroupedRows.{ListsOnlyGroup}
 
@@ -58,6 +58,6 @@ mutual
   pub lists_only_group : ListsOnlyGroup
   lists_only_group Nil = refl
   lists_only_group (Cons b bs) =
-      rows_before (grouped_block b) (grouped bs)
-      ∙ ap (λ rows. rows ++ rows_of (grouped bs)) (block_only_groups b)
+      rows_before (grouped_block b) (group_items bs)
+      ∙ ap (λ rows. rows ++ rows_of (group_items bs)) (block_only_groups b)
       ∙ ap (λ rows. block_rows b ++ rows) (lists_only_group bs)

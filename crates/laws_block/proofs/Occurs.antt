@@ -13,9 +13,9 @@ use Rattle.definition_text.specs.declared.beside.Kind.{Kind}
 use Rattle.definition_text.specs.declared.beside.Kind.TheVariants.{Whitespace}
 use Rattle.definition_block.specs.Container.{Container, Quote, Item, Footnote}
 use Rattle.definition_text.specs.Lines.{TextLine, lines}
-use Rattle.definition_text.specs.Columns.{Rest, whole, is_blank, is_white, trimmed, indent, bare, bytes_of}
+use Rattle.definition_text.specs.Columns.{Rest, whole, is_blank, is_white, trim, indent, bare, bytes_of}
 use Rattle.definition_text.specs.Indents.{small_indent}
-use Rattle.definition_block.specs.Started.{Started}
+use Rattle.definition_block.specs.ContainerStart.{ContainerStart}
 use Rattle.definition_block.specs.GfmFootnoteDefinition.{footnote_mark, footnote_of, footnote_start}
 use Rattle.definition_block.specs.Containers.{continues, starts, quote_or, footnote_or}
 use Rattle.definition_block.proofs.GfmFootnoteDefinition.{footnote_either}
@@ -36,8 +36,8 @@ use Rattle.definition_inline.specs.Definition.{Definition as LinkDefinition, def
 use Rattle.definition_text.specs.Content.{Part, content_of}
 use Rattle.definition_block.specs.Definitions.{lines_before, Cut, cut_into, cut_after, cut_most, cut}
 use Rattle.definition_text.specs.BlockLines.{own_lines, BlockLine}
-use Rattle.definition_block.specs.Tree.{one, ended, empty_tree, nothing, tree, blanks, paragraph_of, close_leaf, is_ending, all_endings, front, trailing, without_last, last_of, holds, close, has_text, has_table, is_some_line, table_of, table_if, makes_table, leaf_with_line, with_line, rest_line, indented_takes, fenced_takes, html_with, html_takes, takes, or_heading, or_fence, or_html, begins, after, text_line_of, break_or_text, text_here, heading_of, underlined, turns, begun, taken, leaf_line, beside_in, start, new, began_blank, goes_on, grow, beside_line, step, steps, closed, children, children_after, Block, Paragraph, Heading, Break, IndentedCode, FencedCode, Html, Table, Definition, Holds, Items, Ending, Blank, Blocks, Nil, Cons, join, blocks, OpenLeaf, Text, Indented, Fenced, OpenHtml, OpenTable, Opening, Leaf, Inside, Tree as BlockTree}
-use Rattle.definition_block.specs.Lists.{before, grouped_block, grouped}
+use Rattle.definition_block.specs.Tree.{one, block_and_ending, empty_tree, nothing, tree, blanks, paragraph_of, close_leaf, is_ending, all_endings, front, trailing, without_last, last_of, holds, close, has_text, has_table, is_some_line, table_of, table_if, makes_table, leaf_with_line, with_line, rest_line, indented_takes, fenced_takes, html_with, html_takes, takes, or_heading, or_fence, or_html, begins, after, text_line_of, break_or_text, text_here, heading_of, heading_if, turns, begun, tree_or, leaf_line, beside_in, start, new, began_blank, goes_on, grow, beside_line, step, steps, blocks_at_end, children, children_after, Block, Paragraph, Heading, Break, IndentedCode, FencedCode, Html, Table, Definition, Holds, Items, Ending, Blank, Blocks, Nil, Cons, join, blocks, OpenLeaf, Text, Indented, Fenced, OpenHtml, OpenTable, Opening, Leaf, Inside, Tree as BlockTree}
+use Rattle.definition_block.specs.Lists.{before, grouped_block, group_items}
 use Rattle.laws_block.specs.ItemMarkers.{is_item_marker, is_unmarked, ItemsAreMarked}
 use Rattle.laws_block.specs.Occurs.{block_has, has, is_word, is_math, NoMath, NoFrontmatter, is_quote, is_list_item, is_footnote_definition, is_indented_code, is_fenced_code, is_html, is_table, is_thematic_break, is_definition, is_heading, is_one_line, is_long_heading, is_deep_heading, NoQuotes, NoItems, NoFootnoteDefinitions, NoIndentedCode, NoFencedCode, NoHtml, NoTables, NoBreaks, NoDefinitions, NoHeadings, NoLongHeadings, NoDeepHeadings, NoLists}
 
@@ -63,7 +63,7 @@ abbrev mutual
   BlockMayStand on (Heading rank ls) = HeadingMayStand on rank ls
   BlockMayStand on Break = on.thematic_break ≡ true
   BlockMayStand on (IndentedCode ls) = on.code_indented ≡ true
-  BlockMayStand on (FencedCode info closed ls) = InfoMayStand on info
+  BlockMayStand on (FencedCode info blocks_at_end ls) = InfoMayStand on info
   BlockMayStand on (Html ls) = on.html_flow ≡ true
   BlockMayStand on (Table ls) = on.gfm_table ≡ true
   BlockMayStand on (Definition label destination title) = on.definition ≡ true
@@ -106,7 +106,7 @@ guarded on more o = cond_both (on && more) o None (WhereSome (λ x. on ≡ true)
 -- no white space stands in a first word
 is_word-first : (text : List ℕ) → is_word (first_word text) ≡ true
 is_word-first text =
-    let t = trimmed text in
+    let t = trim text in
     let p : ℕ → Bool = λ b. not (is_white b) in
     let n = position_or_len is_white t in
     list_all-from_AllPass p (take n t) (λ k d lt.
@@ -300,7 +300,7 @@ module _ (on : Constructs) where
   may_begun None away other p a q = q
   may_begun (Some t) away other p a q = may_after away t a p
 
-  may_taken : (o : Option BlockTree) (other : BlockTree) → SomeTreeMayStand o → TreeMayStand on other → TreeMayStand on (taken o other)
+  may_taken : (o : Option BlockTree) (other : BlockTree) → SomeTreeMayStand o → TreeMayStand on other → TreeMayStand on (tree_or o other)
   may_taken None other p q = q
   may_taken (Some t) other p q = p
 
@@ -324,7 +324,7 @@ module _ (on : Constructs) where
   may_break : (away : Opening) (rest : Rest) (beside : Beside) → OpeningMayStand on away → TreeMayStand on (break_or_text on away rest beside)
   may_break away rest beside p =
       cond_both (is_break on rest) _ _ (TreeMayStand on)
-      (λ e. may_after away (tree (ended Break beside.ending) nothing) p (((and_parts on.thematic_break _ (and_parts (on.thematic_break && small_indent on rest) _ e).0).0, (tt, tt)), tt))
+      (λ e. may_after away (tree (block_and_ending Break beside.ending) nothing) p (((and_parts on.thematic_break _ (and_parts (on.thematic_break && small_indent on rest) _ e).0).0, (tt, tt)), tt))
       (λ _. may_taken (makes_table on away rest beside) (text_line_of on away rest beside) (may_make_table away rest beside) (may_text away rest beside p))
 
   -- an underline gives the rank 1 or 2
@@ -344,7 +344,7 @@ module _ (on : Constructs) where
   may_heading rank definitions (line ∷ others) ending h p = (may-join definitions _ p (inr h, (tt, tt)), tt)
 
   may_underlined : (o : Option ℕ) (ls : List BlockLine) (ending : Option LineEnding) → WhereSome (λ rank. (on.heading_setext ≡ true) × (leb rank 2 ≡ true)) o
-      → SomeTreeMayStand (underlined on o ls ending)
+      → SomeTreeMayStand (heading_if on o ls ending)
   may_underlined None ls ending h = tt
   may_underlined (Some rank) ls ending h = may_heading rank (cut on ls).definitions (cut on ls).left ending h (may_cut ls)
 
@@ -357,10 +357,10 @@ module _ (on : Constructs) where
 
   -- ---- containers
 
-  abbrev StartedMayStand : Option Started → Type 0
-  StartedMayStand o = WhereSome (λ (s : Started). ContainerMayStand on s.container) o
+  abbrev StartedMayStand : Option ContainerStart → Type 0
+  StartedMayStand o = WhereSome (λ (s : ContainerStart). ContainerMayStand on s.container) o
 
-  may_quote_or : (other : Option Started) (o : Option Rest) → StartedMayStand other → WhereSome (λ (r : Rest). on.block_quote ≡ true) o → StartedMayStand (quote_or other o)
+  may_quote_or : (other : Option ContainerStart) (o : Option Rest) → StartedMayStand other → WhereSome (λ (r : Rest). on.block_quote ≡ true) o → StartedMayStand (quote_or other o)
   may_quote_or other None p q = p
   may_quote_or other (Some rest) p q = q
 
@@ -391,8 +391,8 @@ module _ (on : Constructs) where
       may_quote_or (footnote_or (item_start on interrupts rest) (footnote_start on rest)) (quote_prefix on rest)
       (footnote_either StartedMayStand (item_start on interrupts rest) (footnote_start on rest) (may_item_start interrupts rest) (may_footnote_start rest)) (guarded on.block_quote (small_indent on rest) _)
 
-  may_start : (o : Option Started) (away : Opening) (other : BlockTree) (more : Started → BlockTree) → StartedMayStand o → OpeningMayStand on away
-      → TreeMayStand on other → ((s : Started) → TreeMayStand on (more s)) → TreeMayStand on (start on o away other more)
+  may_start : (o : Option ContainerStart) (away : Opening) (other : BlockTree) (more : ContainerStart → BlockTree) → StartedMayStand o → OpeningMayStand on away
+      → TreeMayStand on other → ((s : ContainerStart) → TreeMayStand on (more s)) → TreeMayStand on (start on o away other more)
   may_start None away other more p a q m = q
   may_start (Some s) away other more p a q m =
       let t = more s in
@@ -478,11 +478,11 @@ not_indented on off (IndentedCode ls) p = absurd (both_ways on.code_indented off
 not_indented on off b p = refl
 
 not_fenced : (on : Constructs) → on.code_fenced ≡ false → (b : Block) → BlockMayStand on b → is_fenced_code b ≡ false
-not_fenced on off (FencedCode info closed ls) p = elim p [ inl h ↦ absurd (both_ways on.code_fenced off h.0) | inr h ↦ h.1 ]
+not_fenced on off (FencedCode info blocks_at_end ls) p = elim p [ inl h ↦ absurd (both_ways on.code_fenced off h.0) | inr h ↦ h.1 ]
 not_fenced on off b p = refl
 
 not_math : (on : Constructs) → on.math_flow ≡ false → (b : Block) → BlockMayStand on b → is_math b ≡ false
-not_math on off (FencedCode info closed ls) p = elim p [ inl h ↦ ap not h.1 | inr h ↦ absurd (both_ways on.math_flow off h.0) ]
+not_math on off (FencedCode info blocks_at_end ls) p = elim p [ inl h ↦ ap not h.1 | inr h ↦ absurd (both_ways on.math_flow off h.0) ]
 not_math on off b p = refl
 
 not_html : (on : Constructs) → on.html_flow ≡ false → (b : Block) → BlockMayStand on b → is_html b ≡ false
@@ -574,7 +574,7 @@ module _ (on : Constructs) (off : on.list_item ≡ false) where
     block_as_it_is (Holds c kids) p = ap (Holds c) (as_they_are kids p.1)
     block_as_it_is b p = refl
 
-    as_they_are : (bs : Blocks) → MayStand on bs → grouped bs ≡ bs
+    as_they_are : (bs : Blocks) → MayStand on bs → group_items bs ≡ bs
     as_they_are Nil p = refl
     as_they_are (Cons b bs) p =
         ap (before (grouped_block b)) (as_they_are bs p.1) ∙ ap (λ x. before x bs) (block_as_it_is b p.0) ∙ before_others b bs p.0

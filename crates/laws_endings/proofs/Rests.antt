@@ -7,14 +7,14 @@ use Rattle.std.proofs.lemmas.List.{drop-map, take-map, map-append}
 use Rattle.markdown_options.specs.declared.line_ending.LineEnding.{LineEnding}
 use Rattle.markdown_options.specs.declared.configuration.Constructs.{Constructs}
 use Rattle.definition_block.specs.Container.{Container, Quote, Item, Footnote}
-use Rattle.definition_text.specs.Columns.{Rest, codes_from, tab_column, columns_after_tab, indent, bare, is_tab_column, is_byte, bytes_of, block_codes, is_white, trimmed}
-use Rattle.definition_text.specs.Indents.{small_indent, outdented}
+use Rattle.definition_text.specs.Columns.{Rest, codes_from, tab_column, columns_after_tab, indent, bare, is_tab_column, is_byte, bytes_of, block_codes, is_white, trim}
+use Rattle.definition_text.specs.Indents.{small_indent, outdent}
 use Rattle.definition_text.specs.Content.{line_ending_code}
 use Rattle.definition_text.specs.Runs.{run, after_run}
-use Rattle.definition_block.specs.Started.{Started}
+use Rattle.definition_block.specs.ContainerStart.{ContainerStart}
 use Rattle.definition_block.specs.ThematicBreak.{is_break}
 use Rattle.definition_block.specs.BlockQuote.{after_byte, after_mark, quote_prefix}
-use Rattle.definition_block.specs.ListItem.{Marker, marker_of, is_digit, number_of, bullet, delimiter, ordered, marker, gap, is_item, item, item_after, item_start, is_inside}
+use Rattle.definition_block.specs.ListItem.{Marker, marker_of, is_digit, number_of, bullet, delimiter, ordered_marker, marker, gap, is_item, item, item_after, item_start, is_inside}
 use Rattle.definition_block.specs.GfmFootnoteDefinition.{footnote_start}
 use Rattle.definition_block.specs.Containers.{continues, quote_or, footnote_or, starts}
 use Rattle.definition_block.proofs.GfmFootnoteDefinition.{fine_after, footnote_fine, footnote_either}
@@ -39,7 +39,7 @@ module _ (Fine : List ℕ → Type 0) (dropped : (n : ℕ) (cs : List ℕ) → F
   FineMarker o = IfSome o (λ m. Fine m.rest)
 
   -- the same of the rest after what starts a container
-  abbrev pub FineStarted : Option Started → Type 0
+  abbrev pub FineStarted : Option ContainerStart → Type 0
   FineStarted o = IfSome o (λ s. Fine s.rest)
 
   byte_fine : (byte : ℕ) (rest : Rest) → Fine rest → FineRest (after_byte byte rest)
@@ -68,7 +68,7 @@ module _ (Fine : List ℕ → Type 0) (dropped : (n : ℕ) (cs : List ℕ) → F
       cond_both (eqb code 46 || eqb code 41) (Some (marker_of code (Some number) (digits + 1) codes)) None FineMarker
       (λ _. dropped 1 (code ∷ codes) k) (λ _. tt)
 
-  ordered_fine : (digits : ℕ) (rest : Rest) → Fine rest → FineMarker (ordered digits rest)
+  ordered_fine : (digits : ℕ) (rest : Rest) → Fine rest → FineMarker (ordered_marker digits rest)
   ordered_fine digits rest k =
       let number = number_of (take digits rest) in
       cond_both (leb digits 9) (delimiter number digits (drop digits rest)) None FineMarker
@@ -77,7 +77,7 @@ module _ (Fine : List ℕ → Type 0) (dropped : (n : ℕ) (cs : List ℕ) → F
   marker_fine : (rest : Rest) → Fine rest → FineMarker (marker rest)
   marker_fine rest k =
       let digits = prefix_len is_digit rest in
-      cond_both (eqb digits 0) (bullet rest) (ordered digits rest) FineMarker (λ _. bullet_fine rest k) (λ _. ordered_fine digits rest k)
+      cond_both (eqb digits 0) (bullet rest) (ordered_marker digits rest) FineMarker (λ _. bullet_fine rest k) (λ _. ordered_fine digits rest k)
 
   after_marker_fine : (columns : ℕ) (interrupts : Bool) (o : Option Marker) → FineMarker o → FineStarted (item_after columns interrupts o)
   after_marker_fine columns interrupts None k = tt
@@ -90,7 +90,7 @@ module _ (Fine : List ℕ → Type 0) (dropped : (n : ℕ) (cs : List ℕ) → F
       cond_both (on.list_item && small_indent on rest && not (is_break on rest)) (item_after (indent rest) interrupts found) None FineStarted
       (λ _. after_marker_fine (indent rest) interrupts found (marker_fine (bare rest) (dropped (indent rest) rest k))) (λ _. tt)
 
-  either_fine : (other : Option Started) (o : Option Rest) → FineStarted other → FineRest o → FineStarted (quote_or other o)
+  either_fine : (other : Option ContainerStart) (o : Option Rest) → FineStarted other → FineRest o → FineStarted (quote_or other o)
   either_fine other None h k = h
   either_fine other (Some rest) h k = k
 
@@ -147,7 +147,7 @@ module _ (e : LineEnding) where
   pub bare-kept : (rest : Rest) → Kept rest → Kept (bare rest)
   bare-kept rest k = drop-kept (indent rest) rest k
 
-  pub outdented-kept : (most : ℕ) (rest : Rest) → Kept rest → Kept (outdented most rest)
+  pub outdented-kept : (most : ℕ) (rest : Rest) → Kept rest → Kept (outdent most rest)
   outdented-kept most rest k = drop-kept (min most (indent rest)) rest k
 
   -- ---- the codes of a line
@@ -173,7 +173,7 @@ module _ (e : LineEnding) where
   KeptRest o = FineRest Kept drop-kept o
 
   -- the same of the rest after what starts a container
-  abbrev pub KeptStarted : Option Started → Type 0
+  abbrev pub KeptStarted : Option ContainerStart → Type 0
   KeptStarted o = FineStarted Kept drop-kept o
 
   pub starts-kept : (on : Constructs) (interrupts : Bool) (rest : Rest) → Kept rest → KeptStarted (starts on interrupts rest)
@@ -187,7 +187,7 @@ module _ (e : LineEnding) where
   abbrev pub KeptAtx : Option Atx → Type 0
   KeptAtx o = IfSome o (λ found. Kept found.content)
 
-  trimmed-kept : (text : List ℕ) → Kept text → Kept (trimmed text)
+  trimmed-kept : (text : List ℕ) → Kept text → Kept (trim text)
   trimmed-kept text k =
       let rest = drop (prefix_len is_white text) text in
       take-kept (length rest - suffix_len is_white rest) rest (drop-kept (prefix_len is_white text) text k)
@@ -197,13 +197,13 @@ module _ (e : LineEnding) where
 
   without_closing-kept : (text : List ℕ) → Kept text → Kept (without_closing text)
   without_closing-kept text k =
-      cond_both (ends_apart (without_run text)) (trimmed (without_run text)) text Kept
+      cond_both (ends_apart (without_run text)) (trim (without_run text)) text Kept
       (λ _. trimmed-kept (without_run text) (without_run-kept text k)) (λ _. k)
 
   atx_of-kept : (text : List ℕ) → Kept text → KeptAtx (atx_of text)
   atx_of-kept text k =
       let rank = run 35 text in
-      let after = trimmed (after_run 35 text) in
+      let after = trim (after_run 35 text) in
       cond_both (leb 1 rank && leb rank 6 && begins_apart (after_run 35 text)) (Some (atx rank (without_closing after))) None KeptAtx
       (λ _. without_closing-kept after (trimmed-kept (after_run 35 text) (drop-kept rank text k))) (λ _. tt)
 

@@ -18,7 +18,7 @@ use Rattle.definition_page.specs.Tags.{Words, Number, Attribute, attribute, tag,
 use Rattle.definition_page.specs.Pieces.{Piece, Void, Says, Eol, Fresh, NoteStart, NoteEnd}
 use Rattle.definition_page.specs.InlinePieces.{Meaning, raw_html, element, inline_counts, inline_pieces}
 use Rattle.definition_page.specs.Page.{Block, Paragraph, Heading, Break, IndentedCode, FencedCode, Html, Table, Definition, Quote, ItemList, Item, Footnote, Ending, Blank, Blocks, Nil, Cons}
-use Rattle.definition_page.specs.BlockPieces.{checkable_attributes, done_attributes, check_pieces, Place, inside, code_line, html_line, says, heading_name, info_attributes, start_attributes, list_tag, is_silent, last_shown, ends_plainly, fresh_unless, fenced_pieces, block_pieces, children_pieces}
+use Rattle.definition_page.specs.BlockPieces.{checkable_attributes, done_attributes, check_pieces, Place, inside, code_line, html_line, says, heading_name, info_attributes, start_attributes, list_tag, is_silent, last_visible, ends_plainly, fresh_unless, fenced_pieces, block_pieces, children_pieces}
 use Rattle.laws_endings.specs.Endings.{with_ending, ending_with, if_ending_with, codes_with, line_with, lines_with}
 use Rattle.laws_endings.specs.Inlines.{inlines_with}
 use Rattle.laws_endings_reads.proofs.Each.{Each, WhereSome, each_filter, each_map}
@@ -129,7 +129,7 @@ module _ (e : LineEnding) where
     is_silent-with place (Some (Footnote label kids)) = refl
     is_silent-with place (Some b) = refl
 
-    last_shown-with : (b : Option Block) (bs : Blocks) → last_shown (sibling_with b) (page_blocks_with e bs) ≡ sibling_with (last_shown b bs)
+    last_shown-with : (b : Option Block) (bs : Blocks) → last_visible (sibling_with b) (page_blocks_with e bs) ≡ sibling_with (last_visible b bs)
     last_shown-with b Nil = refl
     last_shown-with b (Cons Definition bs) = last_shown-with b bs
     last_shown-with b (Cons (Footnote label kids) bs) = last_shown-with b bs
@@ -357,16 +357,16 @@ module _ (e : LineEnding) where
       block-with place before (Item kids) p =
           let kids' = children_pieces m' (inside place.tight) None (page_blocks_with e kids) in
           let ps = children_pieces m (inside place.tight) None kids in
-          let end = fresh_unless (ends_plainly place.tight (last_shown None kids)) in
-          let same : ends_plainly place.tight (last_shown None (page_blocks_with e kids)) ≡ ends_plainly place.tight (last_shown None kids) =
-          ap (ends_plainly place.tight) (last_shown-with None kids) ∙ ends_plainly-with place.tight (last_shown None kids) in
+          let end = fresh_unless (ends_plainly place.tight (last_visible None kids)) in
+          let same : ends_plainly place.tight (last_visible None (page_blocks_with e kids)) ≡ ends_plainly place.tight (last_visible None kids) =
+          ap (ends_plainly place.tight) (last_shown-with None kids) ∙ ends_plainly-with place.tight (last_visible None kids) in
           subst (λ plainly. PiecesWith e m.compile (Fresh ∷ element (bare_tag (codes "li")) (kids' ++ fresh_unless plainly))
           (Fresh ∷ element (bare_tag (codes "li")) (ps ++ end)))
           (sym same)
           (fresh-then (element (bare_tag (codes "li")) (kids' ++ end)) (element (bare_tag (codes "li")) (ps ++ end))
           (bare-with (codes "li") (kids' ++ end) (ps ++ end) refl
           (append-with e m.compile kids' ps end end (children-with (inside place.tight) None kids p)
-          (fresh_unless-with (ends_plainly place.tight (last_shown None kids))))))
+          (fresh_unless-with (ends_plainly place.tight (last_visible None kids))))))
       block-with place before (Footnote label kids) p =
           let kids' = children_pieces m' (inside false) None (page_blocks_with e kids) in
           let ps = children_pieces m (inside false) None kids in

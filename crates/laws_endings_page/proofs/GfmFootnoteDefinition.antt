@@ -11,7 +11,7 @@ use Rattle.definition_page.specs.Pieces.{Piece, Open, Close, Says, Fresh}
 use Rattle.definition_page.specs.InlinePieces.{element}
 use Rattle.definition_page.specs.GfmLabelStartFootnote.{text_or, footnote_id, call_id, leads_to_id}
 use Rattle.definition_page.specs.GfmFootnoteDefinition.{Footnote, back_tag, arrow, count_pieces, back_pieces, space_after, backs_pieces, ended_size, with_backs, content_pieces, item_tag, footnote_pieces, footnotes_pieces, heading_name, heading_tag, heading_pieces, section_tag, section_pieces}
-use Rattle.definition_page.specs.Layout.{Called, note_of}
+use Rattle.definition_page.specs.Layout.{NoteCalls, note_of}
 use Rattle.laws_endings.specs.Endings.{with_ending}
 use Rattle.laws_endings_reads.proofs.Each.{Each}
 use Rattle.laws_endings_page.specs.Laws.{HasNoFeed, HaveNoFeeds}
@@ -134,7 +134,7 @@ module _ (e : LineEnding) (options : CompileOptions) where
         (element-with e options (codes "li") own own (Fresh ∷ other ++ Fresh ∷ []) (Fresh ∷ one ++ Fresh ∷ []) refl (item-with label)
         (then-fresh e options (Fresh ∷ other) (Fresh ∷ one) (fresh-then e options other one (content-with html backs (backs-with label calls)))))
 
-    footnotes-with : (notes : List (List ℕ)) (called : List Called)
+    footnotes-with : (notes : List (List ℕ)) (called : List NoteCalls)
         → PiecesWith e options (footnotes_pieces options (map (note_of (map (with_ending e) notes)) called))
         (footnotes_pieces options (map (note_of notes) called))
     footnotes-with notes [] = no_pieces e options
@@ -199,7 +199,7 @@ module _ (e : LineEnding) (options : CompileOptions) where
         (fresh-then e options (list others) (list ones)
         (element-with e options (codes "ol") [] [] (others ++ Fresh ∷ []) (ones ++ Fresh ∷ []) refl refl (then-fresh e options others ones p)))))))
 
-  pub section-with : (notes : List (List ℕ)) (called : List Called) → MayCall e options called
+  pub section-with : (notes : List (List ℕ)) (called : List NoteCalls) → MayCall e options called
       → PiecesWith e options (section_pieces options (map (note_of (map (with_ending e) notes)) called)) (section_pieces options (map (note_of notes) called))
   section-with notes [] may = no_pieces e options
   section-with notes (c ∷ cs) (inl none) = absurd (omega (arith, ap length none))

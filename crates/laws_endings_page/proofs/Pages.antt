@@ -14,12 +14,12 @@ use Rattle.definition_text.specs.Columns.{is_tab_column, code_byte}
 use Rattle.definition_text.specs.Content.{ending_code, line_codes}
 use Rattle.definition_text.specs.InlineCode.{InlineCode, codes_of, with_kinds, next_kind, line_content, inline_content}
 use Rattle.definition_inline.specs.GfmTaskListItem.{check_at, check_size}
-use Rattle.definition_inline.specs.Scan.{InlineContext, inlines, inlines_from, unindented}
+use Rattle.definition_inline.specs.Scan.{InlineContext, inlines, inlines_from, without_indent}
 use Rattle.definition_inline.specs.Strings.{string_text}
 use Rattle.definition_block.specs.Container.{Quote, Item, Footnote}
 use Rattle.definition_block.specs.Tree as tree
 use Rattle.definition_block.specs.Tree.{is_ending, join, one}
-use Rattle.definition_block.specs.Lists.{leading, endings_of, after_endings, is_some_block, has_gap, has_gap_inside, is_loose, item_marker, list_marker, list_items, rest_of, before_list, before, grouped_block, grouped}
+use Rattle.definition_block.specs.Lists.{endings_at_front, endings_of, after_endings, is_some_block, has_gap, has_gap_inside, is_loose, item_marker, list_marker, list_items, rest_of, before_list, before, grouped_block, group_items}
 use Rattle.definition_block.specs.GfmTable.{Cell, cells, line_cells, delimiters as delimiters_of}
 use Rattle.definition_inline.specs.Inline.{Inlines}
 use Rattle.definition_page.specs.GfmTable.{TableRow, Table, head_line, delimiter_line, body_lines, line_aligns, in_cell}
@@ -81,9 +81,9 @@ mutual
   grouped_block_fits (tree.Holds c kids) h = grouped_fits kids h
   grouped_block_fits b h = h
 
-  pub grouped_fits : (bs : tree.Blocks) → BlocksFit bs → BlocksFit (grouped bs)
+  pub grouped_fits : (bs : tree.Blocks) → BlocksFit bs → BlocksFit (group_items bs)
   grouped_fits tree.Nil p = tt
-  grouped_fits (tree.Cons b bs) p = before_fits (grouped_block b) (grouped bs) (grouped_block_fits b p.0) (grouped_fits bs p.1)
+  grouped_fits (tree.Cons b bs) p = before_fits (grouped_block b) (group_items bs) (grouped_block_fits b p.0) (grouped_fits bs p.1)
 
 module _ (e : LineEnding) where
   is_ending-with : (b : tree.Block) → is_ending (block_with e b) ≡ is_ending b
@@ -151,19 +151,19 @@ module _ (e : LineEnding) where
     grouped_block-with (tree.Holds c kids) = ap (tree.Holds c) (grouped-with kids)
     grouped_block-with b = refl
 
-    pub grouped-with : (bs : tree.Blocks) → grouped (blocks_with e bs) ≡ blocks_with e (grouped bs)
+    pub grouped-with : (bs : tree.Blocks) → group_items (blocks_with e bs) ≡ blocks_with e (group_items bs)
     grouped-with tree.Nil = refl
     grouped-with (tree.Cons b bs) =
-        ap (λ first. before first (grouped (blocks_with e bs))) (grouped_block-with b)
+        ap (λ first. before first (group_items (blocks_with e bs))) (grouped_block-with b)
         ∙ ap (before (block_with e (grouped_block b))) (grouped-with bs)
-        ∙ before-with (grouped_block b) (grouped bs)
+        ∙ before-with (grouped_block b) (group_items bs)
 
   -- ---- whether a list is loose
 
-  leading-with : (bs : tree.Blocks) → leading (blocks_with e bs) ≡ leading bs
+  leading-with : (bs : tree.Blocks) → endings_at_front (blocks_with e bs) ≡ endings_at_front bs
   leading-with tree.Nil = refl
   leading-with (tree.Cons b bs) =
-      ap (λ is. cond is (suc (leading (blocks_with e bs))) 0) (is_ending-with b) ∙ ap (λ n. cond (is_ending b) (suc n) 0) (leading-with bs)
+      ap (λ is. cond is (suc (endings_at_front (blocks_with e bs))) 0) (is_ending-with b) ∙ ap (λ n. cond (is_ending b) (suc n) 0) (leading-with bs)
 
   is_some_block-with : (bs : tree.Blocks) → is_some_block (blocks_with e bs) ≡ is_some_block bs
   is_some_block-with tree.Nil = refl
@@ -174,10 +174,10 @@ module _ (e : LineEnding) where
   has_gap-with tree.Nil = refl
   has_gap-with (tree.Cons b bs) =
       let bs' = blocks_with e bs in
-      ap (λ is. (not is && leb 2 (leading bs') && is_some_block bs') || has_gap bs') (is_ending-with b)
+      ap (λ is. (not is && leb 2 (endings_at_front bs') && is_some_block bs') || has_gap bs') (is_ending-with b)
       ∙ ap (λ n. (not (is_ending b) && leb 2 n && is_some_block bs') || has_gap bs') (leading-with bs)
-      ∙ ap (λ some. (not (is_ending b) && leb 2 (leading bs) && some) || has_gap bs') (is_some_block-with bs)
-      ∙ ap (λ gap. (not (is_ending b) && leb 2 (leading bs) && is_some_block bs) || gap) (has_gap-with bs)
+      ∙ ap (λ some. (not (is_ending b) && leb 2 (endings_at_front bs) && some) || has_gap bs') (is_some_block-with bs)
+      ∙ ap (λ gap. (not (is_ending b) && leb 2 (endings_at_front bs) && is_some_block bs) || gap) (has_gap-with bs)
 
   has_gap_inside-with : (bs : tree.Blocks) → has_gap_inside (blocks_with e bs) ≡ has_gap_inside bs
   has_gap_inside-with tree.Nil = refl
@@ -404,11 +404,11 @@ module _ (e : LineEnding) where
         let on = r.options.constructs in
         let other = inline_content p Whitespace (lines_with e ls) in
         let content = inline_content p Whitespace ls in
-        let alike : AreAlike (unindented other) (content_with e (unindented content)) =
-        subst (AreAlike (unindented other)) (unindented-with e content) (alike_unindented other (content_with e content) (content-with p ls h)) in
-        ap (λ codes. checked_paragraph r (unindented other) (check_at on first codes)) (codes-same (unindented other) (unindented content) alike)
-        ∙ ap (checked_paragraph r (unindented other)) (check_at-with e on first (codes_of (unindented content)))
-        ∙ checked-same (unindented other) (unindented content) alike (check_at on first (codes_of (unindented content)))
+        let alike : AreAlike (without_indent other) (content_with e (without_indent content)) =
+        subst (AreAlike (without_indent other)) (unindented-with e content) (alike_unindented other (content_with e content) (content-with p ls h)) in
+        ap (λ codes. checked_paragraph r (without_indent other) (check_at on first codes)) (codes-same (without_indent other) (without_indent content) alike)
+        ∙ ap (checked_paragraph r (without_indent other)) (check_at-with e on first (codes_of (without_indent content)))
+        ∙ checked-same (without_indent other) (without_indent content) alike (check_at on first (codes_of (without_indent content)))
 
     checked_fits : (content : List InlineCode) → Each Single (codes_of content) → (found : Option Bool) → PageBlockFits (checked_paragraph r content found)
     checked_fits content p None = from_fits context content p
@@ -417,9 +417,9 @@ module _ (e : LineEnding) where
     paragraph_fits : (first : Bool) (ls : List BlockLine) → LinesFit ls → PageBlockFits (read_paragraph r first ls)
     paragraph_fits first ls h =
         let content = inline_content r.tables.is_punctuation Whitespace ls in
-        checked_fits (unindented content)
+        checked_fits (without_indent content)
         (dropped_codes context (prefix_len (λ (c : InlineCode). is_white c.code) content) content (content_fits r.tables.is_punctuation ls h))
-        (check_at r.options.constructs first (codes_of (unindented content)))
+        (check_at r.options.constructs first (codes_of (without_indent content)))
 
     singles_of : (cs : List ℕ) → Each Plain cs → Each Single cs
     singles_of [] p = tt

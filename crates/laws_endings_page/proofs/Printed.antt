@@ -10,10 +10,10 @@ use Rattle.definition_text.specs.Encode.{plain}
 use Rattle.definition_inline.specs.Inline.{Target, Resource, Reference, Linked, linked, LiteralKind, Inline, Data, Escape, Character, Code, Math, Autolink, Literal, Html, EscapedBreak, TrailingBreak, LineEnd, Emphasis, Strong, Strikethrough, Link, Image, Call, Inlines, Nil, Cons}
 use Rattle.definition_inline.specs.LabelMatch.{normal_label, place_of, first_match}
 use Rattle.definition_inline.specs.Strings.{string_text}
-use Rattle.definition_page.specs.Urls.{percent, permitted, sanitized, href_protocols, src_protocols}
+use Rattle.definition_page.specs.Urls.{percent, permitted, sanitize, href_protocols, src_protocols}
 use Rattle.definition_page.specs.Tags.{Said, Words, EndOfLine, Attribute, attribute, attribute_bytes}
 use Rattle.definition_page.specs.Pieces.{Piece, Void, Says}
-use Rattle.definition_page.specs.InlinePieces.{Meaning, permitted_url, link_url, image_url, leads_to, url_of, titled, title_attribute, link_tag, image_tag, address, literal_address, math_tag, html_says, description, call_at, count_at, part_counts, inline_counts, element, part_pieces, inline_pieces}
+use Rattle.definition_page.specs.InlinePieces.{Meaning, permitted_url, link_url, image_url, leads_to, url_of, title_attributes, title_attribute, link_tag, image_tag, address, literal_address, math_tag, html_says, description, call_at, count_at, part_counts, inline_counts, element, part_pieces, inline_pieces}
 use Rattle.laws_endings.specs.Endings.{with_ending, code_with, codes_with}
 use Rattle.laws_endings.specs.Inlines.{target_with, inline_with, inlines_with}
 use Rattle.laws_endings.proofs.Matching.{normal_label-with}
@@ -62,7 +62,7 @@ module _ (e : LineEnding) where
 
     permitted_no_feed : (all : Bool) (protocols : List (List ℕ)) (url : List ℕ) → Each IsNoFeed (permitted_url all protocols url)
     permitted_no_feed all protocols url =
-        cond_both (all || permitted protocols (sanitized url)) (percent url) [] (Each IsNoFeed) (λ _. percent_no_feed url) (λ _. tt)
+        cond_both (all || permitted protocols (sanitize url)) (percent url) [] (Each IsNoFeed) (λ _. percent_no_feed url) (λ _. tt)
 
     words_one : (text : List ℕ) → Each IsNoFeed text → SaidsWith e (Words text ∷ []) (Words text ∷ [])
     words_one text p = says_one e (Words text) (Words text) (words-kept e text p)
@@ -89,7 +89,7 @@ module _ (e : LineEnding) where
     is_any [] = false
     is_any (b ∷ bs) = true
 
-    titled_any : (text : List ℕ) → is_any text ≡ true → titled text ≡ attribute (codes "title") text ∷ []
+    titled_any : (text : List ℕ) → is_any text ≡ true → title_attributes text ≡ attribute (codes "title") text ∷ []
     unfolding is_any
     titled_any [] h = absurd (true≢false (sym h))
     titled_any (b ∷ bs) h = refl
@@ -105,7 +105,7 @@ module _ (e : LineEnding) where
     any_by b more true = ending_any e more
     any_by b more false = refl
 
-    titled-with : (text : List ℕ) → AttributesWith e (titled (with_ending e text)) (titled text)
+    titled-with : (text : List ℕ) → AttributesWith e (title_attributes (with_ending e text)) (title_attributes text)
     titled-with [] = refl
     titled-with (b ∷ bs) =
         let text = b ∷ bs in
@@ -121,7 +121,7 @@ module _ (e : LineEnding) where
         → AttributesWith e (title_attribute meaning_with (option_map (codes_with e) title)) (title_attribute m title)
     title-with None p = refl
     title-with (Some title) p =
-        ap (λ text. flat_map attribute_bytes (titled text)) (string_text-with e m.on m.names title p) ∙ titled-with (string_text m.on m.names title)
+        ap (λ text. flat_map attribute_bytes (title_attributes text)) (string_text-with e m.on m.names title p) ∙ titled-with (string_text m.on m.names title)
 
     -- ---- tags of links and images
 

@@ -15,7 +15,7 @@ use Rattle.definition_inline.specs.CharacterEscape.{escape_at}
 use Rattle.definition_inline.specs.CharacterReference.{reference_at}
 use Rattle.definition_inline.specs.HardBreak.{line_end_at}
 use Rattle.definition_inline.specs.Strings.{begins_with_eol, spaces_at, string_leaf_at, or_byte, string_parts, string_bytes, string_text}
-use Rattle.definition_page.specs.GfmTagfilter.{filtered}
+use Rattle.definition_page.specs.GfmTagfilter.{filter_if}
 use Rattle.definition_page.specs.Tags.{Said, Words, AsItIs, EndOfLine, said_bytes}
 use Rattle.definition_page.specs.InlinePieces.{raw_html, HtmlLine, html_text_line, in_first_line, html_lines, html_line_says, later_line_says, html_lines_say, html_says, part_says, description}
 use Rattle.laws_endings.specs.Endings.{with_ending, code_with, codes_with}
@@ -166,7 +166,7 @@ module _ (e : LineEnding) where
   module _ (options : CompileOptions) where
     pub raw-kept : (html : List ℕ) → Each IsNoFeed html → SaidWith (raw_html options html) (raw_html options html)
     raw-kept html p =
-        let text = filtered options html in
+        let text = filter_if options html in
         cond_both options.allow_dangerous_html (AsItIs text) (Words html) (λ s. SaidWith s s)
         (λ _. ap plain (sym (kept e text (filtered_no_feed options html p))) ∙ plain-with e text) (λ _. words-kept html p)
 

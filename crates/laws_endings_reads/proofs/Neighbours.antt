@@ -14,8 +14,8 @@ use Rattle.definition_inline.specs.GfmStrikethrough.{is_tilde}
 use Rattle.definition_inline.specs.Attention.{Run, is_marker, run_between, run_size, run_at}
 use Rattle.definition_inline.specs.Inline.{or_else}
 use Rattle.definition_inline.specs.GfmAutolinkLiteral.{linked_literals}
-use Rattle.definition_inline.specs.Scan.{InlineContext, leaf_at, leaf_here, text, Reading, reading, Step, Next, leaf_step, step, and_then, scan, whole_text, inlines, inlines_from, unindented}
-use Rattle.definition_inline.specs.Spans.{emphasized}
+use Rattle.definition_inline.specs.Scan.{InlineContext, leaf_at, leaf_here, text, Reading, reading, Step, Next, leaf_step, step, and_then, scan, whole_text, inlines, inlines_from, without_indent}
+use Rattle.definition_inline.specs.Spans.{with_spans}
 use Rattle.laws_endings.specs.Endings.{code_with, codes_with}
 use Rattle.laws_endings.specs.Inlines.{inline_code_with, content_with}
 use Rattle.laws_endings.proofs.Codes.{same_code}
@@ -40,7 +40,7 @@ alike_prefix test (a ∷ rest) (b ∷ bs) h =
     ap (λ code. cond (test code) (1 + prefix_len (λ (x : InlineCode). test x.code) rest) 0) h.0.code
     ∙ ap (λ n. cond (test b.code) (1 + n) 0) (alike_prefix test rest bs h.1)
 
-pub alike_unindented : (one other : List InlineCode) → AreAlike one other → AreAlike (unindented one) (unindented other)
+pub alike_unindented : (one other : List InlineCode) → AreAlike one other → AreAlike (without_indent one) (without_indent other)
 alike_unindented one other h =
     let n = prefix_len (λ (c : InlineCode). is_white c.code) one in
     subst (λ m. AreAlike (drop n one) (drop m other)) (alike_prefix is_white one other h) (alike_drop n one other h)
@@ -123,10 +123,10 @@ module _ (context : InlineContext) where
   alike_scan (suc k) r (a ∷ rest) (b ∷ bs) h = alike_scan k r rest bs h.1
 
   pub alike_from : (one other : List InlineCode) → AreAlike one other → inlines_from context one ≡ inlines_from context other
-  alike_from one other h = ap (λ r. linked_literals context.options.constructs (emphasized (whole_text r).tokens)) (alike_scan 0 (reading (text [] false) []) one other h)
+  alike_from one other h = ap (λ r. linked_literals context.options.constructs (with_spans (whole_text r).tokens)) (alike_scan 0 (reading (text [] false) []) one other h)
 
   pub alike_inlines : (one other : List InlineCode) → AreAlike one other → inlines context one ≡ inlines context other
-  alike_inlines one other h = alike_from (unindented one) (unindented other) (alike_unindented one other h)
+  alike_inlines one other h = alike_from (without_indent one) (without_indent other) (alike_unindented one other h)
 
 -- ---- kinds of whole characters
 

@@ -17,8 +17,8 @@ abbrev pub escaped_byte : ℕ → List ℕ
 escaped_byte b = if is_ascii_punctuation b then 92 ∷ b ∷ [] else b ∷ []
 
 -- a text with a backslash before each ASCII punctuation byte
-abbrev pub escaped : List ℕ → List ℕ
-escaped text = flat_map escaped_byte text
+abbrev pub with_backslashes : List ℕ → List ℕ
+with_backslashes text = flat_map escaped_byte text
 
 -- a byte that is no tab and ends no line
 abbrev pub is_line_byte : ℕ → Bool
@@ -43,7 +43,7 @@ IsTrimmedLine text = (list_all is_line_byte text ≡ true) × (begins_with_space
 abbrev pub EscapeLaw : Type 0
 EscapeLaw =
     (context : InlineContext) (meaning : InlineMeaning) (content : List InlineCode) (text : List ℕ)
-    → context.options.constructs.character_escape ≡ true → IsTrimmedLine text → codes_of content ≡ escaped text
+    → context.options.constructs.character_escape ≡ true → IsTrimmedLine text → codes_of content ≡ with_backslashes text
     → inline_html meaning (inlines context content) ≡ encode text
 
 -- a byte
@@ -59,4 +59,4 @@ has_bare_endings (b ∷ bs) = not (is_white b && begins_with_eol bs) && (not (is
 abbrev pub StringEscapeLaw : Type 0
 StringEscapeLaw =
     (on : Constructs) (names : List ℕ → Option (List ℕ)) (text : List ℕ) → on.character_escape ≡ true → list_all is_octet text ≡ true
-    → has_bare_endings text ≡ true → string_text on names (content_codes (escaped text)) ≡ text
+    → has_bare_endings text ≡ true → string_text on names (content_codes (with_backslashes text)) ≡ text

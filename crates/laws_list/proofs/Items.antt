@@ -9,20 +9,20 @@ use Rattle.definition_text.specs.Columns.{Rest, is_white, is_blank, indent, bare
 use Rattle.definition_text.specs.Indents.{small_indent}
 use Rattle.definition_text.specs.Lines.{TextLine, text_line, lines, first_of}
 use Rattle.definition_block.specs.Container.{Container, Item}
-use Rattle.definition_block.specs.Started.{Started, started}
+use Rattle.definition_block.specs.ContainerStart.{ContainerStart, container_start}
 use Rattle.definition_block.specs.BlockQuote.{quote_prefix}
 use Rattle.definition_block.specs.ListItem.{item_after, item_start, item_continues, marker}
 use Rattle.definition_block.specs.ThematicBreak.{is_break, is_break_text}
 use Rattle.definition_block.specs.GfmFootnoteDefinition.{footnote_start}
 use Rattle.definition_block.specs.Containers.{quote_or, footnote_or, starts}
-use Rattle.definition_block.specs.Tree.{Block, Blocks, Nil, Cons, join, Inside, Tree, tree, nothing, empty_tree, all_endings, front, trailing, holds, beside_in, beside_line, leaf_line, start, new, began_blank, goes_on, grow, step, steps, closed, children, blocks}
+use Rattle.definition_block.specs.Tree.{Block, Blocks, Nil, Cons, join, Inside, Tree, tree, nothing, empty_tree, all_endings, front, trailing, holds, beside_in, beside_line, leaf_line, start, new, began_blank, goes_on, grow, step, steps, blocks_at_end, children, blocks}
 use Rattle.definition_block.specs.Definitions.{definitions}
 use Rattle.laws_quote.proofs.Tabs.{Tabless, Tabless-from_All, codes_from-Tabless, LinesTabless, lines_tabless}
 use Rattle.laws_quote.proofs.Starting.{new-suc}
 use Rattle.laws_quote.proofs.Grown.{after-nothing}
 use Rattle.laws_quote.proofs.Quotes.{blocks-children}
 use Rattle.laws_quote.proofs.Endings.{definitions-join}
-use Rattle.laws_list.specs.Listed.{listed}
+use Rattle.laws_list.specs.Listed.{list_lines}
 use Rattle.laws_list.specs.Laws.{indented_line, listed_lines, begins_dark, plus_item, ListLaw, ListDefinitionsLaw}
 use Rattle.laws_list.proofs.Lines.{listed_lines_law}
 use Rattle.laws_list.proofs.Begun.{IsBegun, begun_blank, new_begun, more_begun}
@@ -37,14 +37,14 @@ abbrev plus_of : ℕ → Container
 plus_of size = Item (record { marker = 43; number = None; size = size })
 
 -- the item of `+ ` before codes of which the first is white or not
-abbrev found_by : Bool → ℕ → Rest → Option Started
+abbrev found_by : Bool → ℕ → Rest → Option ContainerStart
 found_by white c cs =
     let blank : Bool = white && list_all is_white cs in
     let columns = 1 + cond white (1 + prefix_len is_white cs) 0 in
     let gap = cond (blank || leb 5 columns) 1 columns in
-    cond (cond blank true (leb 1 columns && true)) (Some (started (plus_of (0 + 1 + gap)) (drop gap (32 ∷ c ∷ cs)))) None
+    cond (cond blank true (leb 1 columns && true)) (Some (container_start (plus_of (0 + 1 + gap)) (drop gap (32 ∷ c ∷ cs)))) None
 
-item_found : (c : ℕ) (cs : Rest) → is_white c ≡ false → item_after 0 false (marker (43 ∷ 32 ∷ c ∷ cs)) ≡ Some (started plus_item (c ∷ cs))
+item_found : (c : ℕ) (cs : Rest) → is_white c ≡ false → item_after 0 false (marker (43 ∷ 32 ∷ c ∷ cs)) ≡ Some (container_start plus_item (c ∷ cs))
 item_found c cs h = ap (λ white. found_by white c cs) h
 
 no_break : (on : Constructs) (codes : Rest) → is_break on (43 ∷ 32 ∷ codes) ≡ false
@@ -61,7 +61,7 @@ no_footnote : (on : Constructs) (codes : Rest) → footnote_start on (43 ∷ cod
 no_footnote on codes = either_way (on.gfm_footnote_definition && small_indent on (43 ∷ codes)) None
 
 module _ (on : Constructs) (items : on.list_item ≡ true) where
-  starts_item : (c : ℕ) (cs : Rest) → is_white c ≡ false → starts on false (43 ∷ 32 ∷ c ∷ cs) ≡ Some (started plus_item (c ∷ cs))
+  starts_item : (c : ℕ) (cs : Rest) → is_white c ≡ false → starts on false (43 ∷ 32 ∷ c ∷ cs) ≡ Some (container_start plus_item (c ∷ cs))
   starts_item c cs h =
       let rest = 43 ∷ 32 ∷ c ∷ cs in
       let found = item_after 0 false (marker rest) in
@@ -150,11 +150,11 @@ module _ (on : Constructs) (items : on.list_item ≡ true) where
       ∙ steps-in_item ls (step on Whitespace empty_tree line) (first_begun line no_tabs.0 h) no_tabs.1
 
   text_item : (off : on.frontmatter ≡ false) (before : Kind) (text : List ℕ) → begins_dark (first_of (lines text)).content ≡ true → Tabless text
-      → blocks on before (listed text) ≡ holds plus_item (blocks on Whitespace text)
+      → blocks on before (list_lines text) ≡ holds plus_item (blocks on Whitespace text)
   text_item off before text h no_tab =
-      blocks-children on before (listed text) off
+      blocks-children on before (list_lines text) off
       ∙ ap (children on before) (listed_lines_law text)
-      ∙ ap (closed on) (lines_item before (lines text) h (lines_tabless text no_tab))
+      ∙ ap (blocks_at_end on) (lines_item before (lines text) h (lines_tabless text no_tab))
       ∙ sym (ap (holds plus_item) (blocks-children on Whitespace text off))
 
 -- ---- definitions

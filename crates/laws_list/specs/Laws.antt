@@ -9,7 +9,7 @@ use Rattle.definition_text.specs.Lines.{TextLine, text_line, lines, first_line}
 use Rattle.definition_block.specs.Tree.{Blocks, Holds, join, one, front, trailing, blocks}
 use Rattle.definition_block.specs.Definitions.{definitions}
 use Rattle.laws_quote.specs.Laws.{HasNoTab}
-use Rattle.laws_list.specs.Listed.{listed}
+use Rattle.laws_list.specs.Listed.{list_lines}
 
 -- a line with the same ending, and two spaces before its content
 abbrev pub indented_line : TextLine → TextLine
@@ -22,7 +22,7 @@ listed_lines (line ∷ others) = text_line (43 ∷ 32 ∷ line.content) line.end
 
 -- the lines of the listed text are the text's, with these before their contents
 abbrev pub ListedLinesLaw : Type 0
-ListedLinesLaw = (text : List ℕ) → lines (listed text) ≡ listed_lines (lines text)
+ListedLinesLaw = (text : List ℕ) → lines (list_lines text) ≡ listed_lines (lines text)
 
 -- bytes begin with one that is no space, tab or column of a tab
 abbrev pub begins_dark : List ℕ → Bool
@@ -43,11 +43,11 @@ abbrev pub ListLaw : Type 0
 ListLaw =
     (on : Constructs) (before : Kind) (text : List ℕ) → on.list_item ≡ true → on.frontmatter ≡ false
     → begins_dark (first_line text).content ≡ true → HasNoTab text
-    → let kids = blocks on Whitespace text in blocks on before (listed text) ≡ join (item_of (front kids)) (trailing kids)
+    → let kids = blocks on Whitespace text in blocks on before (list_lines text) ≡ join (item_of (front kids)) (trailing kids)
 
 -- the link reference definitions are the same in an item
 abbrev pub ListDefinitionsLaw : Type 0
 ListDefinitionsLaw =
     (on : Constructs) (before : Kind) (text : List ℕ) → on.list_item ≡ true → on.frontmatter ≡ false
     → begins_dark (first_line text).content ≡ true → HasNoTab text
-    → definitions (blocks on before (listed text)) ≡ definitions (blocks on Whitespace text)
+    → definitions (blocks on before (list_lines text)) ≡ definitions (blocks on Whitespace text)

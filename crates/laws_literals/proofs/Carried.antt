@@ -3,7 +3,7 @@ use Rattle.std.proofs.Common.{◌≡◌, ℕ, zero, suc, ◌-◌, List, [], ◌�
 use Rattle.std.proofs.lemmas.Bool.{cond_both, eqb-true}
 use Rattle.markdown_options.specs.declared.configuration.Constructs.{Constructs}
 use Rattle.definition_inline.specs.Inline.{LiteralKind, Target, Inline, Data, Escape, Character, Code, Math, Autolink, Literal, Html, EscapedBreak, TrailingBreak, LineEnd, Call, Emphasis, Strong, Strikethrough, Link, Image, Inlines, Nil, Cons}
-use Rattle.definition_inline.specs.GfmAutolinkLiteral.{Address, address_at, address_or_text, parts_from, with_addresses, followed, without_literals, with_literals, linked_literals, without_last}
+use Rattle.definition_inline.specs.GfmAutolinkLiteral.{Address, address_at, address_or_text, parts_from, with_addresses, parts_before, without_literals, with_literals, linked_literals, without_last}
 use Rattle.laws_each.proofs.Each.{Each, each-append, each-take, each-drop}
 
 module _ (Good : Inline → Type 0) (AllGood : Inlines → Type 0) (Keeps : Inlines → Inlines → Type 0) where
@@ -36,9 +36,9 @@ module _ (Good : Inline → Type 0) (AllGood : Inlines → Type 0) (Keeps : Inli
     data_good [] h = tt
     data_good (b ∷ bs) h = (h.0, data_good bs h.1)
 
-    followed_good : (is : List Inline) (others : Inlines) → Each Good is → AllGood others → AllGood (followed is others)
+    followed_good : (is : List Inline) (others : Inlines) → Each Good is → AllGood others → AllGood (parts_before is others)
     followed_good [] others h p = p
-    followed_good (i ∷ is) others h p = c.more i (followed is others) h.0 (followed_good is others h.1 p)
+    followed_good (i ∷ is) others h p = c.more i (parts_before is others) h.0 (followed_good is others h.1 p)
 
     -- ---- the parts of a run of text
 
@@ -102,7 +102,7 @@ module _ (Good : Inline → Type 0) (AllGood : Inlines → Type 0) (Keeps : Inli
     without_good (Cons (Link target kids) is) h = held (Link target) (c.link target) kids _ is _ h (c.keeps_without kids) (without_good kids) (without_good is)
     without_good (Cons (Image target kids) is) h = held (Image target) (c.image target) kids _ is _ h (c.keeps_without kids) (without_good kids) (without_good is)
 
-    after_run : (run : List ℕ) (is : Inlines) → AreBytes run → AllGood is → AllGood (followed (with_addresses run) is)
+    after_run : (run : List ℕ) (is : Inlines) → AreBytes run → AllGood is → AllGood (parts_before (with_addresses run) is)
     after_run run is h p = followed_good (with_addresses run) is (addresses_good run h) p
 
     with_good : (run : List ℕ) (is : Inlines) → AreBytes run → AllGood is → AllGood (with_literals run is)

@@ -15,7 +15,7 @@ use Rattle.definition_block.specs.declared.align_kind.AlignKind.{AlignKind}
 use Rattle.definition_page.specs.GfmTable.{Table, TableRow, align_attributes, cell_pieces, cells_pieces, row_pieces, ending_piece, body_row_pieces, head_pieces, body_pieces, table_pieces}
 use Rattle.definition_page.specs.Page as page
 use Rattle.definition_page.specs.Page.{Page}
-use Rattle.definition_page.specs.BlockPieces.{checkable_attributes, done_attributes, check_pieces, Place, at_top, inside, html_line, says, heading_name, list_tag, last_shown, ends_plainly, fresh_unless, block_pieces, children_pieces, document_pieces}
+use Rattle.definition_page.specs.BlockPieces.{checkable_attributes, done_attributes, check_pieces, Place, at_top, inside, html_line, says, heading_name, list_tag, last_visible, ends_plainly, fresh_unless, block_pieces, children_pieces, document_pieces}
 
 -- options that print raw HTML and URLs alike
 pub record Alike (one another : CompileOptions) : Type 0 where
@@ -178,7 +178,7 @@ module _ (m : Meaning) (compile : CompileOptions) (alike : Alike compile m.compi
     same_block place before (page.ItemList number loose items) =
         ap (λ ps. Fresh ∷ element (list_tag number) (ps ++ Eol ∷ [])) (same_children (inside (not loose)) None items)
     same_block place before (page.Item kids) =
-        ap (λ ps. Fresh ∷ element (bare_tag (codes "li")) (ps ++ fresh_unless (ends_plainly place.tight (last_shown None kids))))
+        ap (λ ps. Fresh ∷ element (bare_tag (codes "li")) (ps ++ fresh_unless (ends_plainly place.tight (last_visible None kids))))
         (same_children (inside place.tight) None kids)
     same_block place before (page.Footnote label kids) = ap (λ ps. NoteStart ∷ ps ++ NoteEnd ∷ []) (same_children (inside false) None kids)
     same_block place before b = refl

@@ -19,7 +19,7 @@ use Rattle.definition_page.specs.InlinePieces.{Meaning, html_says, leads_to, lin
 use Rattle.definition_page.specs.GfmTable.{Table, TableRow, align_attributes, cell_pieces, cells_pieces, row_pieces, ending_piece, body_row_pieces, head_pieces, body_pieces, table_pieces}
 use Rattle.definition_page.specs.Page as page
 use Rattle.definition_page.specs.Page.{Page}
-use Rattle.definition_page.specs.BlockPieces.{check_pieces, Place, at_top, inside, code_line, html_line, says, heading_name, info_attributes, list_tag, last_shown, ends_plainly, is_silent, fresh_unless, fenced_pieces, block_pieces, children_pieces, document_pieces}
+use Rattle.definition_page.specs.BlockPieces.{check_pieces, Place, at_top, inside, code_line, html_line, says, heading_name, info_attributes, list_tag, last_visible, ends_plainly, is_silent, fresh_unless, fenced_pieces, block_pieces, children_pieces, document_pieces}
 use Rattle.definition_page.specs.DocumentPieces.{meaning_of, default_ending}
 use Rattle.definition_page.specs.Layout.{page_layout}
 use Rattle.definition_page.specs.Read.{read}
@@ -202,7 +202,7 @@ module _ (m : Meaning) (none : m.footnotes ≡ []) where
         )
     uncalled_block place before (page.Item kids) =
         let lines = children_pieces m (inside place.tight) None kids in
-        let plainly = ends_plainly place.tight (last_shown None kids) in (
+        let plainly = ends_plainly place.tight (last_visible None kids) in (
           tt,
           uncalled_element (bare_tag (codes "li")) (lines ++ fresh_unless plainly)
               (uncalled_append lines (fresh_unless plainly) (uncalled_children (inside place.tight) None kids) (uncalled_fresh plainly)),

@@ -22,13 +22,13 @@ pair_after_endings x y (b ∷ bs) =
     b ∷ (if is_last_of_ending b bs then pair_before x y (pair_after_endings x y bs) else pair_after_endings x y bs)
 
 -- `> ` before these bytes, if there are any
-abbrev pub marked : List ℕ → List ℕ
-marked bs = pair_before 62 32 bs
+abbrev pub with_mark : List ℕ → List ℕ
+with_mark bs = pair_before 62 32 bs
 
 -- `> ` after each ending that more bytes follow
 abbrev pub marked_after_endings : List ℕ → List ℕ
 marked_after_endings bs = pair_after_endings 62 32 bs
 
 -- `> ` before every line
-abbrev pub quoted : List ℕ → List ℕ
-quoted text = marked (marked_after_endings text)
+abbrev pub quote_lines : List ℕ → List ℕ
+quote_lines text = with_mark (marked_after_endings text)

@@ -19,7 +19,7 @@ use Rattle.definition_page.specs.Page.{Page, Block, Paragraph, Heading, Break, I
 use Rattle.definition_page.specs.InlinePieces.{Meaning, inline_counts, element, inline_pieces}
 use Rattle.definition_page.specs.GfmFootnoteDefinition.{Footnote as NoteWithCalls}
 use Rattle.definition_page.specs.Layout.{laid, lay, note_of, page_layout}
-use Rattle.definition_page.specs.BlockPieces.{checkable_attributes, done_attributes, check_tag, check_pieces, Place, at_top, inside, code_line, html_line, says, heading_name, info_attributes, list_tag, is_silent, last_shown, ends_plainly, fresh_unless, fenced_pieces, block_pieces, children_pieces, document_pieces}
+use Rattle.definition_page.specs.BlockPieces.{checkable_attributes, done_attributes, check_tag, check_pieces, Place, at_top, inside, code_line, html_line, says, heading_name, info_attributes, list_tag, is_silent, last_visible, ends_plainly, fresh_unless, fenced_pieces, block_pieces, children_pieces, document_pieces}
 use Rattle.html_safe_page.specs.Table.{start_rows, void_rows}
 use Rattle.html_safe_page.specs.SafePage.{IsSafePage}
 use Rattle.html_safe_page.proofs.Closing.{closed}
@@ -263,7 +263,7 @@ module _ (default : List ℕ) (ending : IsText default) (m : Meaning) (safe : Ar
         (lays_append m.compile default lines (Eol ∷ []) (children_add (inside (not loose)) None items h) (lays_eol m.compile default ending))
     block_adds place before (Item kids) h =
         let lines = children_pieces m (inside place.tight) None kids in
-        let plainly = ends_plainly place.tight (last_shown None kids) in
+        let plainly = ends_plainly place.tight (last_visible None kids) in
         block_element (bare_tag (codes "li")) (lines ++ fresh_unless plainly) (tt, refl)
         (lays_append m.compile default lines (fresh_unless plainly) (children_add (inside place.tight) None kids h) (adds_fresh_unless plainly))
     block_adds place before (Footnote label kids) h =

@@ -16,15 +16,15 @@ use Rattle.definition_text.specs.declared.beside.Beside.{Beside}
 use Rattle.definition_text.specs.declared.beside.Kind.{Kind}
 use Rattle.definition_text.specs.declared.beside.Kind.TheVariants.{Whitespace}
 use Rattle.definition_text.specs.Lines.{TextLine, text_line, in_first_line, after_return, lines, ends_line, ending_text, has_mark, without_mark, kind_before_text}
-use Rattle.definition_text.specs.Columns.{Rest, codes_from, whole, is_white, is_blank, is_byte, is_tab_column, bytes_of, block_codes, trimmed, tab_column, columns_after_tab}
+use Rattle.definition_text.specs.Columns.{Rest, codes_from, whole, is_white, is_blank, is_byte, is_tab_column, bytes_of, block_codes, trim, tab_column, columns_after_tab}
 use Rattle.definition_text.specs.Encode.{replacement_character, encoded_byte, encode}
 use Rattle.definition_text.specs.BlockLines.{BlockLine, own_lines}
-use Rattle.definition_block.specs.Tree.{beside_line, Block, Paragraph, Ending, Blank, Blocks, Nil, Cons, join, one, Text, Opening, Leaf, Tree, tree, empty_tree, close_leaf, close, rest_line, grow, step, steps, closed, children_after, blocks}
+use Rattle.definition_block.specs.Tree.{beside_line, Block, Paragraph, Ending, Blank, Blocks, Nil, Cons, join, one, Text, Opening, Leaf, Tree, tree, empty_tree, close_leaf, close, rest_line, grow, step, steps, blocks_at_end, children_after, blocks}
 use Rattle.definition_block.specs.Frontmatter.{after_frontmatter}
-use Rattle.definition_block.specs.Lists.{before, grouped_block, grouped}
+use Rattle.definition_block.specs.Lists.{before, grouped_block, group_items}
 use Rattle.definition_page.specs.Pieces.{is_fresh}
 use Rattle.html_bytes.specs.Pieces.{Piece, Bytes, Fresh, print}
-use Rattle.html_bytes.specs.Layout.{with_text, lay, nothing_laid, finished, page_layout}
+use Rattle.html_bytes.specs.Layout.{with_text, lay, nothing_laid, with_footnotes, page_layout}
 use Rattle.definition_page.specs.Layout.{Laid}
 use Rattle.definition_page.specs.Read.{on_page, ends_blank}
 use Rattle.html_bytes.specs.Html.{silences, block_pieces, children_pieces, last_piece, document_pieces, default_ending, blocks_html, marked_html}
@@ -75,7 +75,7 @@ line_take zero xs p = tt
 line_take (suc n) [] p = tt
 line_take (suc n) (x ∷ xs) p = (p.0, p.1, line_take n xs p.2)
 
-in_trimmed : (xs : List ℕ) → AreInLine xs → AreInLine (trimmed xs)
+in_trimmed : (xs : List ℕ) → AreInLine xs → AreInLine (trim xs)
 in_trimmed xs p =
     let rest = drop (prefix_len is_white xs) xs in
     line_take (length rest - suffix_len is_white rest) rest (line_drop (prefix_len is_white xs) xs p)
@@ -236,7 +236,7 @@ module _ (options : CompileOptions) (default : List ℕ) where
 
 -- what lines say, without their endings
 abbrev said_in_line : BlockLine → List ℕ
-said_in_line line = encode (trimmed line.codes)
+said_in_line line = encode (trim line.codes)
 
 abbrev said_in_lines : List BlockLine → List ℕ
 said_in_lines ls = flat_map said_in_line ls
@@ -270,7 +270,7 @@ plain_shows : (ls : List BlockLine) → AreText ls → Shows (plain_text ls) (sa
 plain_shows [] p = λ y. refl
 plain_shows (line ∷ ls) p =
     let said = said_in_line line in
-    let shown : ShowsItself said = shows_encoded (trimmed line.codes) (in_trimmed line.codes (first_line line ls p)) in
+    let shown : ShowsItself said = shows_encoded (trim line.codes) (in_trimmed line.codes (first_line line ls p)) in
     shows-append (line_text line) said (plain_text ls) (said_in_lines ls)
     (shows_no_more said said (ending_text line.ending) shown (shows_ending_text line.ending))
     (plain_shows ls (other_lines line ls p))
@@ -304,9 +304,9 @@ no_item (Ending ending) bs p = refl
 no_item (Blank ending) bs p = refl
 no_item b bs p = absurd p
 
-no_lists : (bs : Blocks) → BlocksAreText bs → grouped bs ≡ bs
+no_lists : (bs : Blocks) → BlocksAreText bs → group_items bs ≡ bs
 no_lists Nil p = refl
-no_lists (Cons b bs) p = no_item b (grouped bs) p.0 ∙ ap (Cons b) (no_lists bs p.1)
+no_lists (Cons b bs) p = no_item b (group_items bs) p.0 ∙ ap (Cons b) (no_lists bs p.1)
 
 -- blocks show what they say, in a document where every construct is off
 module _ (d : Document) (off : d.options.parse.constructs ≡ no_constructs) (options : CompileOptions) (default : List ℕ)
@@ -497,19 +497,19 @@ no_frontmatter [] = refl
 no_frontmatter (line ∷ others) = refl
 
 -- what is said at the end, by blocks that are text
-said_at_end : (ending : Option LineEnding) (t : Tree) (said : List ℕ) → TreeSays ending t said → said_in_blocks (closed no_constructs t) ≡ said
+said_at_end : (ending : Option LineEnding) (t : Tree) (said : List ℕ) → TreeSays ending t said → said_in_blocks (blocks_at_end no_constructs t) ≡ said
 said_at_end ending t said p =
     let kept = at_paragraph ending (λ o. said_in_blocks (close no_constructs o) ≡ said_in_open o) t.now p.now (λ ls r. said_closed ls) in
     said-join t.done (close no_constructs t.now) ∙ ap (λ s. said_in_blocks t.done ++ s) kept ∙ p.says
 
-text_at_end : (ending : Option LineEnding) (t : Tree) (said : List ℕ) → TreeSays ending t said → BlocksAreText (closed no_constructs t)
+text_at_end : (ending : Option LineEnding) (t : Tree) (said : List ℕ) → TreeSays ending t said → BlocksAreText (blocks_at_end no_constructs t)
 text_at_end ending t said p =
     text-join t.done (close no_constructs t.now) p.done
     (at_paragraph ending (λ o. BlocksAreText (close no_constructs o)) t.now p.now (λ ls r. text_closed ending ls r))
 
 -- where no footnote is called, the page is its text
-no_section : (options : CompileOptions) (default : List ℕ) (l : Laid) (t : List ℕ) → ShowsIn nothing_laid l t → Shows (finished options default l) t
-no_section options default l t p = subst (λ x. Shows (finished options default x) t) (sym p.is) p.shows
+no_section : (options : CompileOptions) (default : List ℕ) (l : Laid) (t : List ℕ) → ShowsIn nothing_laid l t → Shows (with_footnotes options default l) t
+no_section options default l t p = subst (λ x. Shows (with_footnotes options default x) t) (sym p.is) p.shows
 
 -- a page shows what its blocks say
 document_shows : (d : Document) → d.options.parse.constructs ≡ no_constructs → (options : CompileOptions) (default : List ℕ) (bs : Blocks) → Shows default []
@@ -520,8 +520,8 @@ document_shows d off options default bs nothing_shown p =
     let all = pieces-append options default (children_pieces d on_page false false bs) last (said_in_blocks bs) [] shown
     (pieces_last options default (ends_blank false bs) nothing_shown) in
     let laid_out = λ (cs : Blocks). fold (lay options default) nothing_laid (children_pieces d on_page false false cs ++ last) in
-    subst (λ cs. Shows (finished options default (laid_out cs)) (said_in_blocks bs)) (sym (no_lists bs p))
-    (subst (Shows (finished options default (laid_out bs))) (append-nil (said_in_blocks bs))
+    subst (λ cs. Shows (with_footnotes options default (laid_out cs)) (said_in_blocks bs)) (sym (no_lists bs p))
+    (subst (Shows (with_footnotes options default (laid_out bs))) (append-nil (said_in_blocks bs))
     (no_section options default (laid_out bs) (said_in_blocks bs ++ []) (all nothing_laid [] (λ y. refl))))
 
 -- what bytes show where nothing follows
@@ -534,7 +534,7 @@ page_shows tables options before text ending off p =
     let t = steps no_constructs before empty_tree (lines text) in
     let said = all_said_by (lines text) in
     let all = steps_say before LineFeed (lines text) empty_tree [] (record { done = tt; now = tt; says = refl }) p in
-    let bs = closed no_constructs t in
+    let bs = blocks_at_end no_constructs t in
     let d = document options tables (document_targets bs) in
     let shown = λ (bs : Blocks). visible false (blocks_html tables options ending bs) in
     ap (λ others. shown (children_after no_constructs before (lines text) others)) (no_frontmatter (lines text))

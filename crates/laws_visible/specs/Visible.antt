@@ -4,7 +4,7 @@ use Rattle.std.specs.List.{All, filter, flat_map}
 use Rattle.markdown_options.specs.declared.configuration.Options.{Options}
 use Rattle.markdown_options.specs.Defaults.{no_constructs}
 use Rattle.definition_text.specs.Lines.{TextLine, lines, without_mark}
-use Rattle.definition_text.specs.Columns.{whole, is_blank, block_codes, trimmed}
+use Rattle.definition_text.specs.Columns.{whole, is_blank, block_codes, trim}
 use Rattle.definition_text.specs.Encode.{encode}
 use Rattle.definition_page.specs.TextTables.{TextTables}
 use Rattle.definition_page.specs.Html.{html}
@@ -25,7 +25,7 @@ is_not_blank line = not (is_blank (whole line.content))
 
 -- what a line says: its content, trimmed and encoded
 abbrev pub said_by : TextLine → List ℕ
-said_by line = encode (trimmed (block_codes (whole line.content)))
+said_by line = encode (trim (block_codes (whole line.content)))
 
 -- what the lines say that aren't blank, joined
 abbrev pub all_said_by : List TextLine → List ℕ

@@ -4,7 +4,7 @@ use Rattle.std.proofs.lemmas.List.{append-nil, map-append, take-append-drop}
 use Rattle.std.proofs.lemmas.Iterator.Consumers.{YieldsList-end, YieldsList-so_far, YieldsList-from_first}
 use Rattle.definition_text.specs.Lines.{TextLine, lines}
 use Rattle.block_rows.specs.declared.row.Row.{Row}
-use Rattle.definition_block.specs.Tree.{Tree, step, steps, empty_tree, join, close, closed}
+use Rattle.definition_block.specs.Tree.{Tree, step, steps, empty_tree, join, close, blocks_at_end}
 use Rattle.block_rows.specs.Rows.{piece_lines, rows_of, rows_value, value_with}
 use Rattle.block_rows.proofs.OpenLines.{open_lines}
 use Rattle.text_lines.specs.Rest.{rest_lines, view_line}
@@ -51,4 +51,4 @@ returns-clause-rows g c =
     let h = c.in_ok-close_to.ensures.read [] t.done t.now refl clean c.loop-line.invariant.0 in
     ap (λ (rs : List Row). rows_value rs pool) (c.in_ok-finish.ensures.rows)
     ∙ settled q.rows.rows.items q.rows.waiting.items q.rows.bare pool [] (join t.done (close on t.now)) [] h.written q.rows.none
-    ∙ ap (λ (ls : List TextLine). value_with (rows_of (closed on (steps on before empty_tree ls))) []) all_lines
+    ∙ ap (λ (ls : List TextLine). value_with (rows_of (blocks_at_end on (steps on before empty_tree ls))) []) all_lines

@@ -13,7 +13,7 @@ use Rattle.html_page.specs.Printable.{IsPrintableRow}
 use Rattle.html_page.specs.PrinterView.{PrinterView, print_row, print_all, blank_page, ends_blank_rows, rows_html, printer_view}
 use Rattle.std.specs.Result.{IfOk}
 use Rattle.definition_page.specs.Layout.{Laid}
-use Rattle.html_bytes.specs.Layout.{finished, lay}
+use Rattle.html_bytes.specs.Layout.{with_footnotes, lay}
 use Rattle.html_page.specs.Prints.{page_view, with_fresh}
 use Rattle.html_bytes.specs.Html.{last_piece}
 use Rattle.html_page.specs.declared.printer.Printer.{Printer}
@@ -88,7 +88,7 @@ returns g c = λ ds has bs rows_are can.
       | else-ends_blank w ↦ ap (λ (p : Printer _). page_view p.page) w.printer-is ∙ ap (ends out) (sym w.if-ends_blank.false)
     ] in
     subst (λ x. IfOk c.finish.result (λ html. string_bytes html ≡ x))
-    (ap (finished o default)
+    (ap (with_footnotes o default)
     (ended
     ∙ ap (ends out) (c.ends_blank.ensures all)
     ∙ ap (λ x. ends x (ends_blank_rows every)) laid_out)

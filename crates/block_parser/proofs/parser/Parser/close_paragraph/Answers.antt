@@ -3,7 +3,7 @@ use Rattle.std.proofs.lemmas.List.{length-map, take_all}
 use Rattle.std.proofs.lemmas.Result.{on_ok_weaker}
 use Rattle.markdown_options.specs.declared.line_ending.LineEnding.{LineEnding}
 use Rattle.definition_text.specs.BlockLines.{BlockLine, last_ending, own_lines}
-use Rattle.definition_block.specs.Tree.{Blocks, Paragraph, ended, join, Text, paragraph_of}
+use Rattle.definition_block.specs.Tree.{Blocks, Paragraph, block_and_ending, join, Text, paragraph_of}
 use Rattle.block_rows.specs.Rows.{piece_lines, piece_line, Single, whole_lines}
 use Rattle.block_parser.specs.Spine.{Level, spine}
 use Rattle.block_parser.specs.View.{HasRead}
@@ -40,9 +40,9 @@ returns-then-has_whole_lines-clause-read g c =
     c.close_whole.ensures.read
   where
     some_case : (kids : Blocks) (around : List Level) (ls : List BlockLine) → c.len.result - c.args.self.now.lines_in_rows ≡ length ls → c.last_ending-ending.result ≡ last_ending ls
-        → HasRead c.close_whole.new.self (spine around (join kids (ended (Paragraph (own_lines ls)) c.last_ending-ending.result)) (Text [])) → HasRead c.close_whole.new.self (spine around (join kids (paragraph_of ls)) (Text []))
+        → HasRead c.close_whole.new.self (spine around (join kids (block_and_ending (Paragraph (own_lines ls)) c.last_ending-ending.result)) (Text [])) → HasRead c.close_whole.new.self (spine around (join kids (paragraph_of ls)) (Text []))
     some_case kids around [] all last h = absurd (c.if-count-eq0.false all)
-    some_case kids around (l ∷ ls) all last h = subst (λ (e : Option LineEnding). HasRead c.close_whole.new.self (spine around (join kids (ended (Paragraph (own_lines (l ∷ ls))) e)) (Text []))) last h
+    some_case kids around (l ∷ ls) all last h = subst (λ (e : Option LineEnding). HasRead c.close_whole.new.self (spine around (join kids (block_and_ending (Paragraph (own_lines (l ∷ ls))) e)) (Text []))) last h
 
 pub returns-clause-read : goal.returns-clause-read
 returns-clause-read g c =
@@ -59,6 +59,6 @@ returns-clause-read g c =
     c.end_leaf.ensures.read
   where
     some_case : (kids : Blocks) (around : List Level) (ls : List BlockLine) → c.len.result - c.args.self.now.lines_in_rows ≡ length ls → c.last_ending-ending.result ≡ last_ending ls
-        → HasRead c.end_leaf.new.self (spine around (join kids (ended (Paragraph (own_lines ls)) c.last_ending-ending.result)) (Text [])) → HasRead c.end_leaf.new.self (spine around (join kids (paragraph_of ls)) (Text []))
+        → HasRead c.end_leaf.new.self (spine around (join kids (block_and_ending (Paragraph (own_lines ls)) c.last_ending-ending.result)) (Text [])) → HasRead c.end_leaf.new.self (spine around (join kids (paragraph_of ls)) (Text []))
     some_case kids around [] all last h = absurd (c.if-count-eq0.false all)
-    some_case kids around (l ∷ ls) all last h = subst (λ (e : Option LineEnding). HasRead c.end_leaf.new.self (spine around (join kids (ended (Paragraph (own_lines (l ∷ ls))) e)) (Text []))) last h
+    some_case kids around (l ∷ ls) all last h = subst (λ (e : Option LineEnding). HasRead c.end_leaf.new.self (spine around (join kids (block_and_ending (Paragraph (own_lines (l ∷ ls))) e)) (Text []))) last h

@@ -2,7 +2,7 @@ use Rattle.std.proofs.Common.{◌≡◌, ◌-◌, ◌++◌, ◌∷◌, [], None,
 use Rattle.std.proofs.lemmas.List.{length-map, length-append, append-nil}
 use Rattle.std.proofs.lemmas.Result.{on_ok_weaker}
 use Rattle.definition_text.specs.Columns.{Rest}
-use Rattle.definition_text.specs.Indents.{outdented}
+use Rattle.definition_text.specs.Indents.{outdent}
 use Rattle.definition_block.specs.Tree.{Blocks, Tree, Indented, Leaf, rest_line, new}
 use Rattle.block_rows.specs.Rows.{piece_lines, piece_line}
 use Rattle.block_starts.specs.View.{rest_of, container_views}
@@ -25,7 +25,7 @@ returns-then-is_blank g c = λ ls pending around kids h.
     let on = c.args.on.now in
     let r = rest_of c.args.rest in
     let e = c.args.beside in
-    let l = rest_line (outdented 4 r) e in
+    let l = rest_line (outdent 4 r) e in
     let leaf = Indented ls (pending ++ l ∷ []) in
     let piece_is = c.piece.ensures ∙ ap (λ (x : Rest). rest_line x e) c.outdented.ensures in
     subst (λ (t : Tree). Shows p.rows.rows.items p.rows.waiting.items p.rows.bare (container_views p.open.items) (piece_lines c.push.new.self.items) (leaf_state p.leaf) (spine_after around kids t)) (sym (steps.indented_blank on e r ls pending (sym c.is_blank.ensures ∙ c.if-is_blank.true)))
@@ -40,7 +40,7 @@ returns-then-starts_code_indented g c = λ ls pending around kids h.
     let on = c.args.on.now in
     let r = rest_of c.args.rest in
     let e = c.args.beside in
-    let l = rest_line (outdented 4 r) e in
+    let l = rest_line (outdent 4 r) e in
     let all = ls ++ pending ++ l ∷ [] in
     let leaf = Indented all [] in
     let new_pool = piece_lines c.push-then-starts_code_indented.new.self.items in

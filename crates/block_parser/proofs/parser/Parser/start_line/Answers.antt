@@ -1,7 +1,7 @@
 use Rattle.std.proofs.Common.{◌≡◌, ◌∷◌, ◌==◌, sym, ap, ◌∙◌, subst, length, arith}
 use Rattle.std.proofs.lemmas.Result.{on_ok_weaker}
 use Rattle.definition_text.specs.declared.beside.Kind.{Kind}
-use Rattle.definition_block.specs.Started.{started}
+use Rattle.definition_block.specs.ContainerStart.{container_start}
 use Rattle.definition_block.specs.Tree.{Nil, Tree, tree, nothing, join, Inside, close, beside_in}
 use Rattle.block_starts.specs.View.{rest_of, container_view, started_if}
 use Rattle.block_parser.specs.Spine.{level, spine_after}
@@ -28,7 +28,7 @@ returns g c =
     let r = rest_of c.args.rest in
     let e = c.args.beside in
     let all = c.args.depth == vec_len c.args.self.now.open in
-    let s = started (container_view c.in-Some.container) (rest_of c.in-Some.after) in
+    let s = container_start (container_view c.in-Some.container) (rest_of c.in-Some.after) in
     let some = ap (λ b. starts on b r) (sym (c.interrupts.ensures around kids away deep h)) ∙ sym c.starts.ensures ∙ ap started_if c.in-Some.is in
     let kids2 = join kids (close on away) in
     let inner = beside_in s.container r e in

@@ -1,6 +1,6 @@
 use Rattle.std.proofs.Common.{◌≡◌, ◌+◌, ◌-◌, ◌<◌, List, length, map, ap, ◌∙◌, arith, vec_len}
 use Rattle.std.proofs.lemmas.List.{length-map}
-use Rattle.definition_page.specs.Layout.{Called, once_more}
+use Rattle.definition_page.specs.Layout.{NoteCalls, once_more}
 use Rattle.html_footnotes.specs.Calls.{called_view, number_of, AreNumbers}
 use Rattle.html_footnotes.proofs.Numbers.{Counted, counted_again, counted_first, found, number_read}
 use Rattle.html_footnotes.proofs.calls.Calls.count.Given.{Over}
@@ -8,7 +8,7 @@ use Rattle.html_footnotes.proofs.calls.Calls.count.Goals as goal
 
 pub raise-requires : goal.raise-requires
 raise-requires g c =
-    let called : List Called = map called_view c.self.inside.called.items in
+    let called : List NoteCalls = map called_view c.self.inside.called.items in
     let number = c.index-number.result.now in
     let numbers = c.make_room.new.numbers.items in
     let are : AreNumbers numbers called = λ k. c.make_room.ensures.same k ∙ c.self.invariant k in
@@ -21,7 +21,7 @@ raise-requires g c =
 again : (g : Over) (c : goal.In_ok-raise g)
     → Counted c.make_room.new.numbers.items (map called_view c.raise.new.called.items) c.args.place c.args.label.now (map called_view c.self.inside.called.items)
 again g c =
-    let called : List Called = map called_view c.self.inside.called.items in
+    let called : List NoteCalls = map called_view c.self.inside.called.items in
     let number = c.index-number.result.now in
     let numbers = c.make_room.new.numbers.items in
     let are : AreNumbers numbers called = λ k. c.make_room.ensures.same k ∙ c.self.invariant k in
@@ -41,7 +41,7 @@ returns-then-number-gt0-clause-number g c = (again g c).some
 first : (g : Over) (c : goal.In_ok-add g)
     → Counted c.add.new.numbers.items (map called_view c.add.new.called.items) c.args.place c.args.label.now (map called_view c.self.inside.called.items)
 first g c =
-    let called : List Called = map called_view c.self.inside.called.items in
+    let called : List NoteCalls = map called_view c.self.inside.called.items in
     let number = c.index-number.result.now in
     let numbers = c.make_room.new.numbers.items in
     let are : AreNumbers numbers called = λ k. c.make_room.ensures.same k ∙ c.self.invariant k in

@@ -1,6 +1,6 @@
 use Rattle.std.proofs.Common.{◌≡◌, ◌+◌, ◌-◌, ◌<◌, List, length, map, ap, ◌∙◌, arith}
 use Rattle.std.proofs.lemmas.List.{length-map}
-use Rattle.definition_page.specs.Layout.{Called, latest_call}
+use Rattle.definition_page.specs.Layout.{NoteCalls, latest_call}
 use Rattle.html_footnotes.specs.Calls.{called_view, number_of}
 use Rattle.html_footnotes.proofs.Numbers.{found, number_read, within_table}
 use Rattle.html_footnotes.proofs.Rows.{row_latest}
@@ -8,7 +8,7 @@ use Rattle.html_footnotes.proofs.calls.Calls.latest.Goals as goal
 
 pub index-called-requires : goal.index-called-requires
 index-called-requires g c =
-    let called : List Called = map called_view c.self.inside.called.items in
+    let called : List NoteCalls = map called_view c.self.inside.called.items in
     let number = c.index-number.result.now in
     let numbers = c.self.inside.numbers.items in
     let same : number_of c.args.place called ≡ number_of c.args.place c.args.self.now = ap (number_of c.args.place) c.self.view_is in
@@ -20,7 +20,7 @@ index-called-requires g c =
 
 pub returns : goal.returns
 returns g c =
-    let called : List Called = map called_view c.self.inside.called.items in
+    let called : List NoteCalls = map called_view c.self.inside.called.items in
     let number = c.index-number.result.now in
     let numbers = c.self.inside.numbers.items in
     let same : number_of c.args.place called ≡ number_of c.args.place c.args.self.now = ap (number_of c.args.place) c.self.view_is in

@@ -11,7 +11,7 @@ use Rattle.block_rows.specs.Rows.{piece_line, piece_lines}
 use Rattle.block_rows.proofs.RowSteps.{no_piece}
 use Rattle.block_rows.proofs.OwnLines.{last_ending_more, lines_more, with_last_ending}
 use Rattle.inline_content.specs.Lines.{mark_of, marks_of}
-use Rattle.inline_content.specs.View.{marked}
+use Rattle.inline_content.specs.View.{codes_with_marks}
 use Rattle.inline_content.proofs.Lined.{content_is, content_lines_apart, lines_agree, marks_more}
 use Rattle.inline_content.proofs.buffer.ContentBuffer.join.Goals as goal
 
@@ -51,7 +51,7 @@ returns g c = λ p end h.
     let k = c.loop-line.invariant in
     let all : take i lines ≡ lines = take_all i lines (omega (arith, c.loop-line-test.false)) in
     let apart = content_lines_apart ls h in
-    ap (λ ms. marked p end ms (string_bytes c.loop-line.self.text)) k.marks
-    ∙ ap (marked p end (marks_of 0 (piece_lines (take i lines)))) k.so_far
-    ∙ ap (λ xs. marked p end (marks_of 0 (piece_lines xs)) (content_text (piece_lines xs))) all
+    ap (λ ms. codes_with_marks p end ms (string_bytes c.loop-line.self.text)) k.marks
+    ∙ ap (codes_with_marks p end (marks_of 0 (piece_lines (take i lines)))) k.so_far
+    ∙ ap (λ xs. codes_with_marks p end (marks_of 0 (piece_lines xs)) (content_text (piece_lines xs))) all
     ∙ content_is p end (marks_of 0 ls) ls apart (lines_agree p ls apart)

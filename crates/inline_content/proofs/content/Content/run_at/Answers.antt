@@ -5,7 +5,7 @@ use Rattle.std.proofs.lemmas.Bool.{eqb-true, true≢false}
 use Rattle.definition_text.specs.Content.{content_codes}
 use Rattle.definition_text.specs.InlineCode.{first_kind}
 use Rattle.definition_inline.specs.Attention.{Run, is_marker, run_between}
-use Rattle.inline_content.specs.View.{line_left}
+use Rattle.inline_content.specs.View.{line_rest}
 use Rattle.inline_content.proofs.Runs.{no_run, a_run, run_boundary}
 use Rattle.inline_content.proofs.content.Content.run_at.Goals.{then-is_empty-via-then-is_empty, then-is_empty-via-else-is_empty+then-not-is_marker}
 use Rattle.inline_content.proofs.content.Content.run_at.Goals as goal
@@ -42,8 +42,8 @@ returns g c =
     let some : 0 < length rest = is_some rest (ap (λ l. length l == 0) (sym value) ∙ sym c.is_empty.ensures ∙ c.if-is_empty.false) in
     let marker : is_marker c.args.options.now (get_or rest 0 0) ≡ true = ap (λ l. is_marker c.args.options.now (get_or l 0 0)) (sym value) ∙ sym c.if-not-is_marker.ensures in
     let size : c.run-size.result ≡ prefix_len (λ x. x == get_or rest 0 0) rest = c.run-size.ensures.size ∙ ap (λ l. prefix_len (λ x. x == get_or l 0 0) l) value in
-    let after : c.first_kind-after.result ≡ first_kind p c.args.self.after (line_left (content_codes (drop c.run-size.result rest))) =
-    c.first_kind-after.ensures ∙ ap (λ l. first_kind p c.args.self.after (line_left (content_codes l))) c.range_from.ensures.value in
+    let after : c.first_kind-after.result ≡ first_kind p c.args.self.after (line_rest (content_codes (drop c.run-size.result rest))) =
+    c.first_kind-after.ensures ∙ ap (λ l. first_kind p c.args.self.after (line_rest (content_codes l))) c.range_from.ensures.value in
     let first : get_or rest 0 0 ≡ c.run_between.result.marker =
     sym (ap (λ (r : Run). r.marker) c.run_between.ensures ∙ ap (λ l. get_or l 0 0) value) in
     let count : c.run_between.result.size ≡ c.run-size.result = ap (λ (r : Run). r.left) c.run_between.ensures in

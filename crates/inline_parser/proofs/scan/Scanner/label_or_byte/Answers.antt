@@ -8,7 +8,7 @@ use Rattle.definition_page.specs.InlinePieces.{leads_to}
 use Rattle.definition_page.specs.Targets.{linked_at, linked_by}
 use Rattle.inline_content.specs.View.{view_at}
 use Rattle.inline_parser.specs.Scanned.{context_by}
-use Rattle.inline_parser.specs.Shows.{start_view, opened}
+use Rattle.inline_parser.specs.Shows.{start_view, with_open_label}
 use Rattle.inline_parser.proofs.Follow as follow
 use Rattle.inline_parser.proofs.Follow.{on_ok}
 use Rattle.inline_parser.proofs.scan.Scanner.label_or_byte.Goals as goal
@@ -31,10 +31,10 @@ returns-in-Some-clause-read g c ds final has f =
     on_ok c.start.result c.start.ensures.rest (c.start.ensures.read leads at f.now f.shows)
     (λ left shows.
     record {
-      now = opened s (drop n rest) f.now;
+      now = with_open_label s (drop n rest) f.now;
       shows = shows;
       same =
-          ap (λ r. scan.scan (context_by options names ds) 0 (opened s (drop n rest) f.now) (view_at p source.content r)) left
+          ap (λ r. scan.scan (context_by options names ds) 0 (with_open_label s (drop n rest) f.now) (view_at p source.content r)) left
           ∙ follow.start_follows options names p ds source.content rest s f.now final place c.requires.no_leaf c.requires.no_run c.in-Some.ensures.read c.in-Some.ensures.front c.requires.some f.same;
     })
 

@@ -1,5 +1,5 @@
 use Rattle.std.proofs.Common.{◌≡◌, ℕ, List, ◌-◌, ◌≤◌, ◌<◌, sym, ap, ◌∙◌, arith, true, subst, slice_index_or}
-use Rattle.definition_inline.specs.Pairing.{Placed as PlacedOf, is_eligible, taken_by, up_to_nearest}
+use Rattle.definition_inline.specs.Pairing.{OpenRun as PlacedOf, is_eligible, taken_by, up_to_nearest}
 use Rattle.definition_inline.proofs.NearestOpener.{nearest_eligible}
 use Rattle.definition_inline.proofs.ClosingRuns.{takes_some, takes_left, takes_opener}
 use Rattle.inline_runs.specs.View.{bytes_by}

@@ -1,6 +1,6 @@
 use Rattle.std.proofs.Common.{◌≡◌, ◌<◌, ◌++◌, List, sym, ap, ap₂, ◌∙◌, arith, subst}
 use Rattle.std.proofs.lemmas.Result.{on_ok_weaker}
-use Rattle.definition_inline.specs.Pairing.{Placed as PlacedOf, Pairing as PairingOf, Pair as PairOf, pairing, next_run, paired, nearest, taken_by, up_to_nearest, without, openers_of}
+use Rattle.definition_inline.specs.Pairing.{OpenRun as PlacedOf, Pairing as PairingOf, Pair as PairOf, pairing, next_run, with_pair, nearest, taken_by, up_to_nearest, without, openers_of}
 use Rattle.definition_inline.proofs.ClosingRuns.{next_run_pairs, next_run_opens}
 use Rattle.inline_runs.specs.View.{pairs_view}
 use Rattle.inline_runs.specs.Floors.{placed_view, openers_view}
@@ -10,7 +10,7 @@ use Rattle.inline_runs.proofs.pairing.Pairing.next_run.Goals as goal
 -- one pair of a run
 one_pair : (start after : PairingOf) (openers same : List PlacedOf) (ps : List PairOf) (run closer rest : PlacedOf)
     → next_run start run ≡ next_run (pairing openers ps) closer → same ≡ openers → 0 < up_to_nearest openers closer
-    → after ≡ paired (pairing same ps) (nearest same closer) closer → rest ≡ without (taken_by (nearest same closer) closer) closer
+    → after ≡ with_pair (pairing same ps) (nearest same closer) closer → rest ≡ without (taken_by (nearest same closer) closer) closer
     → next_run start run ≡ next_run after rest
 one_pair start after openers same ps run closer rest before is some pairs_one is_rest =
     let found : 0 < up_to_nearest same closer = subst (λ os. 0 < up_to_nearest os closer) (sym is) some in

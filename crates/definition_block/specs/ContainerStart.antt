@@ -3,9 +3,9 @@ use Rattle.definition_block.specs.Container.{Container}
 use Rattle.definition_text.specs.Columns.{Rest}
 
 -- a container, and the rest of the line after what starts it
-pub record Started : Type 0 where
+pub record ContainerStart : Type 0 where
   pub container : Container
   pub rest : Rest
 
-abbrev pub started : Container → Rest → Started
-started container rest = record { container = container; rest = rest }
+abbrev pub container_start : Container → Rest → ContainerStart
+container_start container rest = record { container = container; rest = rest }
