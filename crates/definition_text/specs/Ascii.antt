@@ -16,6 +16,9 @@ carriage_return = 13
 abbrev pub space : ℕ
 space = 32
 
+abbrev pub exclamation_mark : ℕ
+exclamation_mark = 33
+
 abbrev pub double_quote : ℕ
 double_quote = 34
 

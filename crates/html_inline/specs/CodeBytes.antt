@@ -1,5 +1,6 @@
 -- The text of a code span, and math, in bytes.
 use Rattle.std.specs.Prelude.{ℕ, Bool, not, ◌==◌, ◌&&◌, List, ◌++◌, codes, map}
+use Rattle.definition_text.specs.Ascii.{line_feed, carriage_return}
 use Rattle.definition_inline.specs.CodeText.{code_space, code_text}
 use Rattle.definition_text.specs.Content.{content_codes}
 use Rattle.html_inline.specs.GfmTable.{code_in_cell}
@@ -7,7 +8,7 @@ use Rattle.definition_text.specs.Encode.{encode}
 
 -- a byte that begins no line ending
 abbrev pub is_in_line : ℕ → Bool
-is_in_line b = not (b == 10) && not (b == 13)
+is_in_line b = not (b == line_feed) && not (b == carriage_return)
 
 -- with a space for each line ending
 abbrev pub with_spaces_for_endings : List ℕ → List ℕ

@@ -5,6 +5,7 @@ use Rattle.std.specs.Str.{bytes_eq}
 use Rattle.html_safe_page.specs.Table.{start_rows, void_rows}
 use Rattle.html_safe_page.specs.SafePage.{Kind, And, Quote, Less, Greater, Plain, kind, Tag, attribute_start, void_end}
 use Rattle.html_safe_page.specs.Reader.{and_then, strip, QuotedText, longer, before_quote, read_value, read_tag}
+use Rattle.definition_text.specs.Ascii.{slash, less_than, greater_than}
 
 abbrev pub begins_reference : List ℕ → Bool
 begins_reference after =
@@ -31,7 +32,7 @@ after_attribute name bytes =
 -- a tag before its `>`, and what follows that
 abbrev pub split_tag : List ℕ → Option QuotedText
 split_tag [] = None
-split_tag (b ∷ bs) = if b == 62 then Some (record { inside = []; rest = bs }) else (if b == 60 then None else option_map (longer b) (split_tag bs))
+split_tag (b ∷ bs) = if b == greater_than then Some (record { inside = []; rest = bs }) else (if b == less_than then None else option_map (longer b) (split_tag bs))
 
 -- the names of open tags, the innermost first, after an end tag
 abbrev pub close : List ℕ → List (List ℕ) → Option (List (List ℕ))
@@ -47,7 +48,7 @@ with_open_tag None None names = None
 -- after a tag
 abbrev pub follows : List ℕ → List (List ℕ) → Option (List (List ℕ))
 follows [] names = None
-follows (b ∷ bs) names = if b == 47 then close bs names else with_open_tag (read_tag start_rows [] (b ∷ bs)) (read_tag void_rows void_end (b ∷ bs)) names
+follows (b ∷ bs) names = if b == slash then close bs names else with_open_tag (read_tag start_rows [] (b ∷ bs)) (read_tag void_rows void_end (b ∷ bs)) names
 
 -- names, if the test goes on
 abbrev pub if_goes_on : Bool → List (List ℕ) → Option (List (List ℕ))

@@ -4,6 +4,7 @@ use Rattle.std.specs.Option.{option_map}
 use Rattle.std.specs.Str.{bytes_eq}
 use Rattle.html_safe_page.specs.Table.{Row, start_rows, void_rows}
 use Rattle.html_safe_page.specs.SafePage.{Kind, And, Quote, Less, Greater, Plain, kind, Attribute, Tag, Items, End, Letter, Void, Element, attribute_start, void_end, is_value}
+use Rattle.definition_text.specs.Ascii.{double_quote, slash}
 
 abbrev pub and_then : {A B : Type 0} → Option A → (A → Option B) → Option B
 and_then None f = None
@@ -57,7 +58,7 @@ longer b q = record { inside = b ∷ q.inside; rest = q.rest }
 
 abbrev pub before_quote : List ℕ → Option QuotedText
 before_quote [] = None
-before_quote (b ∷ bs) = if b == 34 then Some (record { inside = []; rest = bs }) else option_map (longer b) (before_quote bs)
+before_quote (b ∷ bs) = if b == double_quote then Some (record { inside = []; rest = bs }) else option_map (longer b) (before_quote bs)
 
 abbrev pub read_value : List ℕ → List ℕ → Option (List ℕ)
 read_value name bytes = and_then (read_text bytes) (λ v. if is_value name v then Some v else None)
@@ -143,7 +144,7 @@ read_opening bytes rest = open_or (read_tag start_rows [] bytes) (read_tag void_
 
 abbrev pub read_mark : List ℕ → Rest → Option Rest
 read_mark [] rest = None
-read_mark (b ∷ bs) rest = if b == 47 then Some (Then End bs rest) else read_opening (b ∷ bs) rest
+read_mark (b ∷ bs) rest = if b == slash then Some (Then End bs rest) else read_opening (b ∷ bs) rest
 
 abbrev pub step : Kind → ℕ → Reading → Reading
 step kind b Nowhere = Nowhere

@@ -3,6 +3,7 @@ use Rattle.std.specs.Prelude.{◌≡◌, ◌<◌, ◌-◌, ℕ, if◌then◌else
 use Rattle.std.specs.List.{flat_map}
 use Rattle.std.specs.Option.{option_map}
 use Rattle.std.specs.Str.{IsUtf8}
+use Rattle.definition_text.specs.Ascii.{line_feed, carriage_return}
 use Rattle.definition_text.specs.Columns.{code_byte}
 use Rattle.definition_text.specs.Content.{content_codes, part}
 use Rattle.definition_text.specs.Content as content
@@ -16,7 +17,7 @@ use Rattle.inline_links.specs.declared.text.TextResource.{TextResource}
 
 -- the bytes of a code
 abbrev pub code_text : ℕ → List ℕ
-code_text code = if code == 257 then 13 ∷ 10 ∷ [] else code_byte code ∷ []
+code_text code = if code == 257 then carriage_return ∷ line_feed ∷ [] else code_byte code ∷ []
 
 -- codes of a text
 abbrev pub IsText : List ℕ → Type 0

@@ -1,6 +1,7 @@
 -- What is found of literals, in bytes.
 use Rattle.std.specs.Prelude.{◌≡◌, ◌+◌, ◌-◌, ◌<◌, ◌≤◌, ℕ, zero, suc, Bool, true, false, not, ◌&&◌, ◌||◌, ◌==◌, if◌then◌else◌, List, [], ◌∷◌, Option, None, Some, codes, drop, length, slice_index, take}
 use Rattle.std.specs.Str.{IsCharBoundary}
+use Rattle.definition_text.specs.Ascii.{right_parenthesis, semicolon}
 use Rattle.definition_text.specs.declared.beside.Kind.TheVariants.{Whitespace}
 use Rattle.definition_text.specs.Bytes.{is_letter_or_digit}
 use Rattle.definition_text.specs.Content.{content_codes}
@@ -24,10 +25,10 @@ may_begin bytes = begins_caselessly (codes "ww") bytes || begins_caselessly (cod
 -- a byte that is never cut from a name's end, before these: it isn't cut alone, and ends no reference and stands in none
 abbrev pub is_in_reference : List ℕ → Bool
 is_in_reference [] = false
-is_in_reference (b ∷ bs) = is_letter_or_digit b || (b == 59)
+is_in_reference (b ∷ bs) = is_letter_or_digit b || (b == semicolon)
 
 abbrev pub is_kept : ℕ → List ℕ → Bool
-is_kept byte after = not (is_trailing byte) && (not (byte == 41) && not (is_in_reference after))
+is_kept byte after = not (is_trailing byte) && (not (byte == right_parenthesis) && not (is_in_reference after))
 
 -- a `_` at a place of a domain, for which it and each of its rests up to there is none
 pub record HasLowLineAt (domain : List ℕ) (at : ℕ) : Type 0 where

@@ -3,6 +3,7 @@ use Rattle.std.specs.Prelude.{◌≡◌, ◌<◌, ◌≤◌, ◌==◌, ◌&&◌,
 use Rattle.std.specs.List.{list_all}
 use Rattle.std.specs.Str.{IsCharBoundary}
 use Rattle.markdown_options.specs.declared.configuration.ParseOptions.{ParseOptions}
+use Rattle.definition_text.specs.Ascii.{carriage_return}
 use Rattle.definition_text.specs.Content.{content_codes}
 use Rattle.definition_page.specs.InlinePieces.{leads_to}
 use Rattle.definition_inline.specs.Attention.{run_at}
@@ -31,7 +32,7 @@ pub record HasTargets {A : Type 0} (labels footnotes : LabelTable A) (ds : Targe
 
 -- none of these bytes is CR, and none the code of a line ending of two
 abbrev pub has_no_return : List ℕ → Bool
-has_no_return bytes = list_all (λ b. not (b == 13) && not (b == 257)) bytes
+has_no_return bytes = list_all (λ b. not (b == carriage_return) && not (b == 257)) bytes
 
 -- the context of a document whose labels lead to these targets
 abbrev pub context_by : ParseOptions → (List ℕ → Option (List ℕ)) → Targets → InlineContext

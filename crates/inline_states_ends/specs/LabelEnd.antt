@@ -15,6 +15,7 @@ use Rattle.engine_events.specs.declared.label.LabelStart.{LabelStart}
 use Rattle.engine_events.specs.declared.state.Inline.{Inline as InlineName}
 use Rattle.inline_states_ends.specs.Defined.{has_kind, is_among, is_defined, label_text, last_start, plus}
 use denote.Enum.Bare.{sameb}
+use Rattle.definition_text.specs.Ascii.{tab, line_feed, space, double_quote, single_quote, left_parenthesis, right_parenthesis, left_bracket, right_bracket}
 
 -- ---- starts
 
@@ -58,8 +59,8 @@ module _ {M : Type 0} where
   -- what may follow a text, that is defined or not
   abbrev pub end_followed : InlineName → Body M
   end_followed other =
-      On (λ b. b == 40) (Tries false (next inline_states.LabelEndOk) (next other) (retry inline_states.LabelEndResourceStart))
-      (On (λ b. b == 91) (Tries false (next inline_states.LabelEndOk) (next inline_states.LabelEndReferenceNotFull) (retry inline_states.LabelEndReferenceFull))
+      On (λ b. b == left_parenthesis) (Tries false (next inline_states.LabelEndOk) (next other) (retry inline_states.LabelEndResourceStart))
+      (On (λ b. b == left_bracket) (Tries false (next inline_states.LabelEndOk) (next inline_states.LabelEndReferenceNotFull) (retry inline_states.LabelEndReferenceFull))
       (Answer (retry other)))
 
   abbrev pub end_after_link : List ℕ → List (List ℕ) → Body M
@@ -100,7 +101,7 @@ module _ {M : Type 0} where
   abbrev pub label_end_start : Bool → Body M
   label_end_start on =
       Byte (Answer states.Nok)
-      (On (λ b. b == 93)
+      (On (λ b. b == right_bracket)
       (Test (λ c. on)
       (Test has_start
       (Keep (λ c. record c.tokenize_state { end = length c.events }) (λ c i. refl)
@@ -145,7 +146,7 @@ module _ {M : Type 0} where
   abbrev pub label_end_resource_start : Body M
   label_end_resource_start =
       Byte (Answer states.Nok)
-      (On (λ b. b == 40)
+      (On (λ b. b == left_parenthesis)
       (Keep (λ c. record c.tokenize_state { connect = false }) (λ c i. refl)
       (Enter (Fixed names.Resource) (around (Fixed names.ResourceMarker) (Answer (next inline_states.LabelEndResourceBefore)))))
       (Answer states.Nok))
@@ -153,14 +154,14 @@ module _ {M : Type 0} where
   -- after the `(`
   abbrev pub label_end_resource_before : Body M
   label_end_resource_before =
-      On (λ b. (b == 9) || (b == 10) || (b == 32))
+      On (λ b. (b == tab) || (b == line_feed) || (b == space))
       (Tries false (next inline_states.LabelEndResourceOpen) (next inline_states.LabelEndResourceOpen) (retry inline_states.SpaceOrTabEolStart))
       (Answer (retry inline_states.LabelEndResourceOpen))
 
   -- before a destination, or at the `)`
   abbrev pub label_end_resource_open : Body M
   label_end_resource_open =
-      On (λ b. b == 41) (Answer (retry inline_states.LabelEndResourceEnd))
+      On (λ b. b == right_parenthesis) (Answer (retry inline_states.LabelEndResourceEnd))
       (Hold 1 names.ResourceDestination
       (Hold 2 names.ResourceDestinationLiteral
       (Hold 3 names.ResourceDestinationLiteralMarker
@@ -172,7 +173,7 @@ module _ {M : Type 0} where
   -- after the destination
   abbrev pub label_end_resource_destination_after : Body M
   label_end_resource_destination_after =
-      On (λ b. (b == 9) || (b == 10) || (b == 32))
+      On (λ b. (b == tab) || (b == line_feed) || (b == space))
       (Tries false (next inline_states.LabelEndResourceBetween) (next inline_states.LabelEndResourceEnd) (retry inline_states.SpaceOrTabEolStart))
       (Answer (retry inline_states.LabelEndResourceEnd))
 
@@ -184,7 +185,7 @@ module _ {M : Type 0} where
   -- after the destination and white space
   abbrev pub label_end_resource_between : Body M
   label_end_resource_between =
-      On (λ b. (b == 34) || (b == 39) || (b == 40))
+      On (λ b. (b == double_quote) || (b == single_quote) || (b == left_parenthesis))
       (Hold 1 names.ResourceTitle
       (Hold 2 names.ResourceTitleMarker
       (Hold 3 names.ResourceTitleString
@@ -194,7 +195,7 @@ module _ {M : Type 0} where
   -- after the title
   abbrev pub label_end_resource_title_after : Body M
   label_end_resource_title_after =
-      On (λ b. (b == 9) || (b == 10) || (b == 32))
+      On (λ b. (b == tab) || (b == line_feed) || (b == space))
       (Tries false (next inline_states.LabelEndResourceEnd) (next inline_states.LabelEndResourceEnd) (retry inline_states.SpaceOrTabEolStart))
       (Answer (retry inline_states.LabelEndResourceEnd))
 
@@ -202,13 +203,13 @@ module _ {M : Type 0} where
   abbrev pub label_end_resource_end : Body M
   label_end_resource_end =
       Byte (Answer states.Nok)
-      (On (λ b. b == 41) (around (Fixed names.ResourceMarker) (Exit (Fixed names.Resource) (Answer states.Ok))) (Answer states.Nok))
+      (On (λ b. b == right_parenthesis) (around (Fixed names.ResourceMarker) (Exit (Fixed names.Resource) (Answer states.Ok))) (Answer states.Nok))
 
   -- at a `[`
   abbrev pub label_end_reference_full : Body M
   label_end_reference_full =
       Byte (Answer states.Nok)
-      (On (λ b. b == 91)
+      (On (λ b. b == left_bracket)
       (Hold 1 names.Reference
       (Hold 2 names.ReferenceMarker
       (Hold 3 names.ReferenceString
@@ -230,7 +231,7 @@ module _ {M : Type 0} where
   abbrev pub label_end_reference_collapsed : Body M
   label_end_reference_collapsed =
       Byte (Answer states.Nok)
-      (On (λ b. b == 91)
+      (On (λ b. b == left_bracket)
       (Enter (Fixed names.Reference) (around (Fixed names.ReferenceMarker) (Answer (next inline_states.LabelEndReferenceCollapsedOpen))))
       (Answer states.Nok))
 
@@ -238,4 +239,4 @@ module _ {M : Type 0} where
   abbrev pub label_end_reference_collapsed_open : Body M
   label_end_reference_collapsed_open =
       Byte (Answer states.Nok)
-      (On (λ b. b == 93) (around (Fixed names.ReferenceMarker) (Exit (Fixed names.Reference) (Answer states.Ok))) (Answer states.Nok))
+      (On (λ b. b == right_bracket) (around (Fixed names.ReferenceMarker) (Exit (Fixed names.Reference) (Answer states.Ok))) (Answer states.Nok))

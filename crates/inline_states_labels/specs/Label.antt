@@ -7,6 +7,7 @@ use Rattle.engine_programs.specs.Bodies.{Fixed, Held, Body, Answer, Consume, Ent
 use Rattle.inline_states_table.specs.Words.{next, retry, more, is_space_or_tab}
 use Rattle.inline_states_labels.specs.Chunk.{part_link}
 use Rattle.engine_events.specs.declared.place.Point.{Point}
+use Rattle.definition_text.specs.Ascii.{line_feed, left_bracket, backslash, right_bracket}
 
 -- the limit of bytes counts no columns of a tab but the first
 abbrev pub counted : ℕ → Point → ℕ
@@ -17,7 +18,7 @@ counting b = Keep (λ c. record c.tokenize_state { size = counted c.tokenize_sta
 
 -- over a byte of the text
 abbrev pub label_byte : {M : Type 0} → Body M
-label_byte = On (λ b. b == 92) (counting (Consume (Answer (next inline_states.LabelEscape)))) (counting (Consume (Answer (next inline_states.LabelInside))))
+label_byte = On (λ b. b == backslash) (counting (Consume (Answer (next inline_states.LabelEscape)))) (counting (Consume (Answer (next inline_states.LabelInside))))
 
 -- over the end of the text
 abbrev pub label_close : {M : Type 0} → Body M
@@ -28,7 +29,7 @@ module _ {M : Type 0} where
   abbrev pub label_start : Body M
   label_start =
       Byte (Answer states.Nok)
-      (On (λ b. b == 91)
+      (On (λ b. b == left_bracket)
       (Keep (λ c. record c.tokenize_state { size = 0; seen = false; connect = true }) (λ c i. refl)
       (Enter (Held 1) (around (Held 2) (Enter (Held 3) (Answer (next inline_states.LabelAtBreak))))))
       (Answer states.Nok))
@@ -38,9 +39,9 @@ module _ {M : Type 0} where
   label_at_break =
       Byte (Answer (retry inline_states.LabelNok))
       (Test (λ c. nat_lt 999 c.tokenize_state.size) (Answer (retry inline_states.LabelNok))
-      (On (λ b. b == 91) (Answer (retry inline_states.LabelNok))
-      (On (λ b. b == 93) (Test (λ c. c.tokenize_state.seen) label_close (Answer (retry inline_states.LabelNok)))
-      (On (λ b. b == 10) (Tries false (next inline_states.LabelEolAfter) (next inline_states.LabelNok) (retry inline_states.SpaceOrTabEolStart))
+      (On (λ b. b == left_bracket) (Answer (retry inline_states.LabelNok))
+      (On (λ b. b == right_bracket) (Test (λ c. c.tokenize_state.seen) label_close (Answer (retry inline_states.LabelNok)))
+      (On (λ b. b == line_feed) (Tries false (next inline_states.LabelEolAfter) (next inline_states.LabelNok) (retry inline_states.SpaceOrTabEolStart))
       (EnterLink (Fixed names.Data) part_link label_byte)))))
 
   -- after a line ending
@@ -57,7 +58,7 @@ module _ {M : Type 0} where
   abbrev pub label_inside : Body M
   label_inside =
       Byte (Exit (Fixed names.Data) (Answer (retry inline_states.LabelAtBreak)))
-      (Test (λ c. has (λ b. (b == 10) || (b == 91) || (b == 93)) c.current || nat_lt 999 c.tokenize_state.size)
+      (Test (λ c. has (λ b. (b == line_feed) || (b == left_bracket) || (b == right_bracket)) c.current || nat_lt 999 c.tokenize_state.size)
       (Exit (Fixed names.Data) (Answer (retry inline_states.LabelAtBreak)))
       label_byte)
 
@@ -65,7 +66,7 @@ module _ {M : Type 0} where
   abbrev pub label_escape : Body M
   label_escape =
       Byte (Answer (retry inline_states.LabelInside))
-      (Test (λ c. has (λ b. (b == 91) || (b == 92) || (b == 93)) c.current)
+      (Test (λ c. has (λ b. (b == left_bracket) || (b == backslash) || (b == right_bracket)) c.current)
       (Keep (λ c. record c.tokenize_state { size = counted c.tokenize_state.size c.point }) (λ c i. refl)
       (Consume (Answer (next inline_states.LabelInside))))
       (Answer (retry inline_states.LabelInside)))

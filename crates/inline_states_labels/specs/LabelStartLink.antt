@@ -5,13 +5,14 @@ use Rattle.engine_events.specs.declared.state.State.TheVariants as states
 use Rattle.engine_programs.specs.Bodies.{Fixed, Body, Answer, Enter, Exit, Byte, On, Test, around}
 use Rattle.engine_events.specs.declared.label.LabelKind.TheVariants as kinds
 use Rattle.inline_states_labels.specs.Start.{label_begun}
+use Rattle.definition_text.specs.Ascii.{left_bracket}
 
 module _ {M : Type 0} where
   -- at a `[`
   abbrev pub label_start_link_start : Bool → Body M
   label_start_link_start on =
       Byte (Answer states.Nok)
-      (On (λ b. b == 91)
+      (On (λ b. b == left_bracket)
       (Test (λ c. on) (Enter (Fixed names.LabelLink) (around (Fixed names.LabelMarker) (Exit (Fixed names.LabelLink) (label_begun kinds.Link 4))))
       (Answer states.Nok))
       (Answer states.Nok))

@@ -6,6 +6,7 @@ use Rattle.engine_events.specs.declared.state.State.TheVariants as states
 use Rattle.engine_programs.specs.Bodies.{Fixed, Held, Body, Answer, Consume, Enter, EnterLink, Exit, Keep, Tries, Byte, On, Test, around, has}
 use Rattle.inline_states_table.specs.Words.{next, retry, at_marker}
 use Rattle.inline_states_labels.specs.Chunk.{part_link}
+use Rattle.definition_text.specs.Ascii.{line_feed, double_quote, single_quote, left_parenthesis, right_parenthesis, backslash}
 
 -- after a first marker
 abbrev pub title_open : {M : Type 0} → ℕ → Body M
@@ -17,16 +18,16 @@ title_fails = Keep (λ c. record c.tokenize_state { connect = false }) (λ c i. 
 
 -- over a byte of the text
 abbrev pub title_byte : {M : Type 0} → Body M
-title_byte = On (λ b. b == 92) (Consume (Answer (next inline_states.TitleEscape))) (Consume (Answer (next inline_states.TitleInside)))
+title_byte = On (λ b. b == backslash) (Consume (Answer (next inline_states.TitleEscape))) (Consume (Answer (next inline_states.TitleInside)))
 
 -- no title between parentheses has a parenthesis that isn't escaped
 abbrev pub is_nested : ℕ → ℕ → Bool
-is_nested marker b = (marker == 41) && (b == 40)
+is_nested marker b = (marker == right_parenthesis) && (b == left_parenthesis)
 
 -- a part of the text
 abbrev pub title_part : {M : Type 0} → Body M
 title_part =
-    On (λ b. b == 10) (Tries false (next inline_states.TitleAfterEol) (next inline_states.TitleNok) (retry inline_states.SpaceOrTabEolStart))
+    On (λ b. b == line_feed) (Tries false (next inline_states.TitleAfterEol) (next inline_states.TitleNok) (retry inline_states.SpaceOrTabEolStart))
     (Test (λ c. has (is_nested c.tokenize_state.marker) c.current) title_fails
     (EnterLink (Fixed names.Data) part_link title_byte))
 
@@ -35,7 +36,7 @@ module _ {M : Type 0} where
   abbrev pub title_start : Body M
   title_start =
       Byte (Answer states.Nok)
-      (On (λ b. b == 34) (title_open 34) (On (λ b. b == 39) (title_open 39) (On (λ b. b == 40) (title_open 41) (Answer states.Nok))))
+      (On (λ b. b == double_quote) (title_open 34) (On (λ b. b == single_quote) (title_open 39) (On (λ b. b == left_parenthesis) (title_open 41) (Answer states.Nok))))
 
   -- after the first marker, or at the last
   abbrev pub title_begin : Body M
@@ -63,7 +64,7 @@ module _ {M : Type 0} where
   abbrev pub title_inside : Body M
   title_inside =
       Byte (Exit (Fixed names.Data) (Answer (retry inline_states.TitleAtBreak)))
-      (Test (λ c. has (λ b. (b == 10) || (b == c.tokenize_state.marker) || is_nested c.tokenize_state.marker b) c.current)
+      (Test (λ c. has (λ b. (b == line_feed) || (b == c.tokenize_state.marker) || is_nested c.tokenize_state.marker b) c.current)
       (Exit (Fixed names.Data) (Answer (retry inline_states.TitleAtBreak)))
       title_byte)
 
@@ -71,5 +72,5 @@ module _ {M : Type 0} where
   abbrev pub title_escape : Body M
   title_escape =
       Byte (Answer (retry inline_states.TitleInside))
-      (Test (λ c. has (λ b. (b == c.tokenize_state.marker) || (b == 40) || (b == 92)) c.current) (Consume (Answer (next inline_states.TitleInside)))
+      (Test (λ c. has (λ b. (b == c.tokenize_state.marker) || (b == left_parenthesis) || (b == backslash)) c.current) (Consume (Answer (next inline_states.TitleInside)))
       (Answer (retry inline_states.TitleInside)))

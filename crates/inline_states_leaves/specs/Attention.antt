@@ -7,6 +7,7 @@ use Rattle.engine_events.specs.declared.state.Inline.TheVariants as inline_state
 use Rattle.engine_events.specs.declared.state.State.TheVariants as states
 use Rattle.engine_programs.specs.Bodies.{Fixed, Body, Answer, Consume, Enter, Exit, Keep, Register, Byte, On, Test}
 use Rattle.inline_states_table.specs.Words.{next, at_marker}
+use Rattle.definition_text.specs.Ascii.{asterisk, underscore, tilde}
 
 -- at the first byte of a run
 abbrev pub attention_open : {M : Type 0} → ℕ → Body M
@@ -17,9 +18,9 @@ module _ {M : Type 0} where
   abbrev pub attention_start : Constructs → Body M
   attention_start constructs =
       Byte (Answer states.Nok)
-      (On (λ b. b == 42) (Test (λ c. constructs.attention) (attention_open 42) (Answer states.Nok))
-      (On (λ b. b == 95) (Test (λ c. constructs.attention) (attention_open 95) (Answer states.Nok))
-      (On (λ b. b == 126) (Test (λ c. constructs.gfm_strikethrough) (attention_open 126) (Answer states.Nok)) (Answer states.Nok))))
+      (On (λ b. b == asterisk) (Test (λ c. constructs.attention) (attention_open 42) (Answer states.Nok))
+      (On (λ b. b == underscore) (Test (λ c. constructs.attention) (attention_open 95) (Answer states.Nok))
+      (On (λ b. b == tilde) (Test (λ c. constructs.gfm_strikethrough) (attention_open 126) (Answer states.Nok)) (Answer states.Nok))))
 
   -- in a run
   abbrev pub attention_inside : Body M

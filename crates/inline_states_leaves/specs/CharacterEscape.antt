@@ -6,13 +6,14 @@ use Rattle.engine_events.specs.declared.state.Inline.TheVariants as inline_state
 use Rattle.engine_events.specs.declared.state.State.TheVariants as states
 use Rattle.engine_programs.specs.Bodies.{Fixed, Body, Answer, Enter, Exit, Byte, On, Test, around}
 use Rattle.inline_states_table.specs.Words.{next}
+use Rattle.definition_text.specs.Ascii.{backslash}
 
 module _ {M : Type 0} where
   -- at a backslash
   abbrev pub character_escape_start : Bool → Body M
   character_escape_start on =
       Byte (Answer states.Nok)
-      (On (λ b. b == 92)
+      (On (λ b. b == backslash)
       (Test (λ c. on)
       (Enter (Fixed names.CharacterEscape) (around (Fixed names.CharacterEscapeMarker) (Answer (next inline_states.CharacterEscapeInside))))
       (Answer states.Nok))

@@ -10,6 +10,7 @@ use Rattle.engine_events.specs.contracts.event.Name.{the_type}
 use Rattle.engine_events.specs.declared.event.Event.{Event}
 use Rattle.engine_events.specs.declared.event.Name.{Name as EventName}
 use denote.Enum.Bare.{sameb}
+use Rattle.definition_text.specs.Ascii.{line_feed, dollar, backtick}
 
 abbrev pub is_escape : Option Event → Bool
 is_escape None = false
@@ -33,8 +34,8 @@ module _ {M : Type 0} where
   abbrev pub raw_text_start : Bool → Bool → Body M
   raw_text_start code math =
       Byte (Answer states.Nok)
-      (On (λ b. b == 96) (Test (λ c. code) (raw_text_open 96 names.CodeText names.CodeTextSequence names.CodeTextData) (Answer states.Nok))
-      (On (λ b. b == 36) (Test (λ c. math) (raw_text_open 36 names.MathText names.MathTextSequence names.MathTextData) (Answer states.Nok))
+      (On (λ b. b == backtick) (Test (λ c. code) (raw_text_open 96 names.CodeText names.CodeTextSequence names.CodeTextData) (Answer states.Nok))
+      (On (λ b. b == dollar) (Test (λ c. math) (raw_text_open 36 names.MathText names.MathTextSequence names.MathTextData) (Answer states.Nok))
       (Answer states.Nok)))
 
   -- in the opening run
@@ -44,14 +45,14 @@ module _ {M : Type 0} where
       (Test at_marker
       (Keep (λ c. record c.tokenize_state { size = more c.tokenize_state.size }) (λ c i. refl)
       (Consume (Answer (next inline_states.RawTextSequenceOpen))))
-      (Test (λ c. (c.tokenize_state.marker == 36) && (c.tokenize_state.size == 1) && not single) (Answer states.Nok)
+      (Test (λ c. (c.tokenize_state.marker == dollar) && (c.tokenize_state.size == 1) && not single) (Answer states.Nok)
       (Exit (Held 2) (Answer (retry inline_states.RawTextBetween)))))
 
   -- between the parts of the text
   abbrev pub raw_text_between : Body M
   raw_text_between =
       Byte (Answer states.Nok)
-      (On (λ b. b == 10) (around (Fixed names.LineEnding) (Answer (next inline_states.RawTextBetween)))
+      (On (λ b. b == line_feed) (around (Fixed names.LineEnding) (Answer (next inline_states.RawTextBetween)))
       (Byte (Answer states.Nok)
       (Test at_marker
       (Keep (λ c. record c.tokenize_state { size_b = 1 }) (λ c i. refl)
@@ -62,7 +63,7 @@ module _ {M : Type 0} where
   abbrev pub raw_text_data : Body M
   raw_text_data =
       Byte (Exit (Held 3) (Answer (retry inline_states.RawTextBetween)))
-      (Test (λ c. has (λ b. (b == 10) || (b == c.tokenize_state.marker)) c.current) (Exit (Held 3) (Answer (retry inline_states.RawTextBetween)))
+      (Test (λ c. has (λ b. (b == line_feed) || (b == c.tokenize_state.marker)) c.current) (Exit (Held 3) (Answer (retry inline_states.RawTextBetween)))
       (Consume (Answer (next inline_states.RawTextData))))
 
   -- in a run that may close the text

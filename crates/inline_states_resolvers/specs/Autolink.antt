@@ -16,6 +16,7 @@ use Rattle.engine_events.specs.Names.{same_name}
 use Rattle.engine_edits.specs.Edits.{Placed, with_edit}
 use Rattle.inline_states_resolvers.specs.Each.{place_at}
 use Rattle.inline_states_resolvers.specs.Whitespace.{around, data_part}
+use Rattle.definition_text.specs.Ascii.{colon}
 
 -- what an autolink leads to begins, or ends
 abbrev pub is_address : Kind → Option Event → Bool
@@ -27,7 +28,7 @@ abbrev pub is_address_at : List Event → ℕ → Bool
 is_address_at events i = is_address Enter (slice_get events i) && is_address Exit (slice_get events (i + 1))
 
 abbrev pub has_colon : List ℕ → Bool
-has_colon text = list_any (λ b. b == 58) text
+has_colon text = list_any (λ b. b == colon) text
 
 module _ (bytes : List ℕ) (events : List Event) where
   -- it is an email address

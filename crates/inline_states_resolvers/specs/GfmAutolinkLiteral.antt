@@ -2,6 +2,7 @@
 use Rattle.std.specs.Prelude.{ℕ, zero, suc, ◌+◌, ◌-◌, Bool, false, ◌==◌, ◌&&◌, ◌||◌, if◌then◌else◌, nat_lt, List, [], ◌∷◌, ◌++◌, codes, length, slice_get, Option, None, Some}
 use Rattle.std.specs.List.{fold, list_any}
 use denote.Enum.Bare.{sameb}
+use Rattle.definition_text.specs.Ascii.{at_sign}
 use Rattle.definition_text.specs.Bytes.{begins_with}
 use Rattle.definition_inline.specs.Inline.{Inline, Data, Email, Literal, LiteralKind}
 use Rattle.definition_inline.specs.GfmAutolinkLiteral.{with_addresses}
@@ -79,7 +80,7 @@ module _ (events : List Event) where
 module _ (bytes : List ℕ) (events : List Event) where
   -- data with an `@` stands at an index
   abbrev pub may_link : ℕ → Bool
-  may_link i = is_data_at events i && list_any (λ b. b == 64) (data_part bytes events i)
+  may_link i = is_data_at events i && list_any (λ b. b == at_sign) (data_part bytes events i)
 
   -- what an index adds to the edits, in so many links
   abbrev pub address_edit : ℕ → ℕ → List Placed → List Placed

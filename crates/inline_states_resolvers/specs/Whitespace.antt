@@ -12,16 +12,17 @@ use Rattle.engine_events.specs.declared.place.Point.{Point}
 use Rattle.engine_events.specs.Columns.{tab_size}
 use Rattle.engine_events.specs.Names.{same_name}
 use Rattle.engine_edits.specs.Edits.{Placed, with_edit}
+use Rattle.definition_text.specs.Ascii.{tab, space}
 use Rattle.definition_text.specs.Columns.{is_white}
 use Rattle.inline_states_resolvers.specs.Data.{is_data}
 use Rattle.inline_states_resolvers.specs.Each.{entered, exited, later, place_at}
 
 abbrev pub is_space : ℕ → Bool
-is_space b = b == 32
+is_space b = b == space
 
 -- the column after a byte
 abbrev pub column_over : ℕ → ℕ → ℕ
-column_over column b = if b == 9 then later (tab_size column) column else later 1 column
+column_over column b = if b == tab then later (tab_size column) column else later 1 column
 
 -- the place after some bytes of a line
 abbrev pub place_past : Point → List ℕ → Point

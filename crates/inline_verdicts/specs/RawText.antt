@@ -1,5 +1,6 @@
 -- What the states of code and math come to (CommonMark 6.1).
 use Rattle.std.specs.Prelude.{◌≡◌, ℕ, ◌+◌, ◌<◌, Bool, true, false, not, if◌then◌else◌, ◌==◌, ◌||◌, List, [], ◌∷◌, ◌++◌, drop, Option, None, Some}
+use Rattle.definition_text.specs.Ascii.{line_feed}
 use Rattle.definition_inline.specs.Inline.{Inline, Leaf, Data}
 use Rattle.engine_events.specs.Events.{event}
 use Rattle.engine_events.specs.declared.event.Event.{Event}
@@ -29,7 +30,7 @@ piece name p q events = event Enter name p None ∷ event Exit name q None ∷ e
 
 -- a byte that is neither a line ending nor this one
 abbrev pub is_other : ℕ → ℕ → Bool
-is_other marker b = not ((b == 10) || (b == marker))
+is_other marker b = not ((b == line_feed) || (b == marker))
 
 -- the events from a place up to the end of a run of exactly so many of a byte: each line ending, each run of another size, and each stretch between these
 pub data Pieces (text : Text) (given : SpanNames) (marker size : ℕ) : Point → List Event → Point → Type 0 where

@@ -1,6 +1,7 @@
 -- The laws of a text with `+ ` before its first line and two spaces before every other.
 use Rattle.std.specs.Prelude.{◌≡◌, ℕ, Bool, true, false, not, List, [], ◌∷◌, None, map}
 use Rattle.markdown_options.specs.declared.configuration.Constructs.{Constructs}
+use Rattle.definition_text.specs.Ascii.{space, plus}
 use Rattle.definition_text.specs.declared.beside.Kind.{Kind}
 use Rattle.definition_text.specs.declared.beside.Kind.TheVariants.{Whitespace}
 use Rattle.definition_block.specs.Container.{Container, Item}
@@ -13,12 +14,12 @@ use Rattle.laws_list.specs.Listed.{list_lines}
 
 -- a line with the same ending, and two spaces before its content
 abbrev pub indented_line : TextLine → TextLine
-indented_line line = text_line (32 ∷ 32 ∷ line.content) line.ending
+indented_line line = text_line (space ∷ space ∷ line.content) line.ending
 
 -- lines with `+ ` before the first one's content, and two spaces before every other's
 abbrev pub listed_lines : List TextLine → List TextLine
 listed_lines [] = []
-listed_lines (line ∷ others) = text_line (43 ∷ 32 ∷ line.content) line.ending ∷ map indented_line others
+listed_lines (line ∷ others) = text_line (plus ∷ space ∷ line.content) line.ending ∷ map indented_line others
 
 -- the lines of the listed text are the text's, with these before their contents
 abbrev pub ListedLinesLaw : Type 0

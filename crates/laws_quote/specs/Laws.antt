@@ -3,6 +3,7 @@ use Rattle.std.specs.Prelude.{◌≡◌, ◌≢◌, ℕ, true, false, List, [], 
 use Rattle.std.specs.List.{All}
 use Rattle.std.specs.Fn.{iterate}
 use Rattle.markdown_options.specs.declared.configuration.Constructs.{Constructs}
+use Rattle.definition_text.specs.Ascii.{space, greater_than}
 use Rattle.definition_text.specs.declared.beside.Kind.{Kind}
 use Rattle.definition_text.specs.declared.beside.Kind.TheVariants.{Whitespace}
 use Rattle.definition_block.specs.Container.{Quote}
@@ -13,7 +14,7 @@ use Rattle.laws_quote.specs.Quoted.{quote_lines}
 
 -- a line with the same ending, and `> ` before its content
 abbrev pub quoted_line : TextLine → TextLine
-quoted_line line = text_line (62 ∷ 32 ∷ line.content) line.ending
+quoted_line line = text_line (greater_than ∷ space ∷ line.content) line.ending
 
 -- the lines of the text with `> ` before every line are the text's, each with `> ` before its content
 abbrev pub QuotedLinesLaw : Type 0

@@ -1,14 +1,15 @@
 -- A text with two bytes before every line, as `> `.
 use Rattle.std.specs.Prelude.{ℕ, Bool, false, not, if◌then◌else◌, ◌==◌, ◌&&◌, ◌||◌, List, [], ◌∷◌}
+use Rattle.definition_text.specs.Ascii.{line_feed, carriage_return}
 
 -- whether an LF comes next
 abbrev pub begins_with_feed : List ℕ → Bool
 begins_with_feed [] = false
-begins_with_feed (b ∷ bs) = b == 10
+begins_with_feed (b ∷ bs) = b == line_feed
 
 -- whether a byte before these is the last of an ending: an LF, or a CR without LF after it
 abbrev pub is_last_of_ending : ℕ → List ℕ → Bool
-is_last_of_ending b bs = (b == 10) || ((b == 13) && not (begins_with_feed bs))
+is_last_of_ending b bs = (b == line_feed) || ((b == carriage_return) && not (begins_with_feed bs))
 
 -- two bytes before these, if there are any
 abbrev pub pair_before : ℕ → ℕ → List ℕ → List ℕ
