@@ -32,7 +32,8 @@ cut_one content (line ∷ others) end h =
     let n = h.some in
     let rest = length-drop end.lines ls in
     ap (λ o. cut_after o ls (cut_most (length others))) h.found
-    ∙ ap (λ count. cut_into (join (definition_lines h.read (take count ls)) (cut_most (length others) (drop count ls)).definitions) (cut_most (length others) (drop count ls)).left) (sym h.count)
+    ∙ ap (λ count. cut_into (join (definition_lines h.read (take count ls)) (cut_most (length others) (drop count ls)).definitions)
+    (cut_most (length others) (drop count ls)).left) (sym h.count)
     ∙ ap (λ (more : Cut). cut_into (join (definition_lines h.read (take end.lines ls)) more.definitions) more.left)
     (cut_enough (length others) (length left) left h.clean (omega (arith, rest, n)) (omega arith))
 
@@ -44,7 +45,8 @@ pub record LeftOver (content : List ℕ) (ls : List BlockLine) (at first : ℕ) 
   pub rest : drop at content ≡ content_text (drop first ls)
   pub same : (cut_all ls).left ≡ (cut_all (drop first ls)).left
 
-pub left_after : (content : List ℕ) (ls : List BlockLine) (at first : ℕ) (end : DefinitionEnd) → LeftOver content ls at first → EndsAt (drop at content) (drop first ls) end
+pub left_after : (content : List ℕ) (ls : List BlockLine) (at first : ℕ) (end : DefinitionEnd) → LeftOver content ls at first
+    → EndsAt (drop at content) (drop first ls) end
     → LeftOver content ls (at + end.bytes) (first + end.lines)
 left_after content ls at first end k h =
     let lines = drop-drop end.lines first ls in

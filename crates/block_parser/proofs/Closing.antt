@@ -68,7 +68,8 @@ snoc-parts (a ∷ more) (b ∷ bs) x y h =
     let k = snoc-parts more bs x y tails in
     (ap (λ z. z ∷ more) heads ∙ ap (λ zs. b ∷ zs) k.0, k.1)
 
-pub popped : (l : Level) (ls : List Level) (old new : List CodeContainer) (c : CodeContainer) → container_views old ≡ containers_of (l ∷ ls) → old ≡ new ++ c ∷ []
+pub popped : (l : Level) (ls : List Level) (old new : List CodeContainer) (c : CodeContainer) → container_views old ≡ containers_of (l ∷ ls)
+    → old ≡ new ++ c ∷ []
     → (container_views new ≡ containers_of ls) × (container_view c ≡ l.container)
 popped l ls old new c is pop =
     snoc-parts (container_views new) (containers_of ls) (container_view c) l.container
@@ -76,10 +77,12 @@ popped l ls old new c is pop =
 
 -- ---- those that the parser keeps
 
-pub view_at : (cs : List CodeContainer) (i : ℕ) (d : CodeContainer) → i < length cs → d ≡ get_or cs i d → container_view d ≡ get_or (container_views cs) i (container_view d)
+pub view_at : (cs : List CodeContainer) (i : ℕ) (d : CodeContainer) → i < length cs → d ≡ get_or cs i d
+    → container_view d ≡ get_or (container_views cs) i (container_view d)
 view_at cs i d lt is = ap container_view is ∙ sym (get_or-map container_view cs i d (container_view d) lt)
 
-pub view_at_or : (cs : List CodeContainer) (i : ℕ) (d : CodeContainer) → i < length cs → d ≡ get_or cs i d → get_or (container_views cs) i Quote ≡ container_view d
+pub view_at_or : (cs : List CodeContainer) (i : ℕ) (d : CodeContainer) → i < length cs → d ≡ get_or cs i d
+    → get_or (container_views cs) i Quote ≡ container_view d
 view_at_or cs i d lt is = get_or-map container_view cs i d Quote lt ∙ ap container_view (sym is)
 
 beside_ending : (cs : List Container) (depth : ℕ) (outer : Rest) (beside : Beside) → (beside_at cs depth outer beside).ending ≡ beside.ending

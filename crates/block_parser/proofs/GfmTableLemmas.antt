@@ -1,5 +1,6 @@
 -- A row of delimiters under the open paragraph, and the head above it.
-use Rattle.std.proofs.Common.{◌≡◌, ℕ, ◌<◌, ◌-◌, suc, Bool, true, false, if◌then◌else◌, ◌&&◌, ◌==◌, List, [], ◌∷◌, Option, None, Some, refl, sym, ap, ◌∙◌, get_or, length, arith}
+use Rattle.std.proofs.Common.{◌≡◌, ℕ, ◌<◌, ◌-◌, suc, Bool, true, false, if◌then◌else◌, ◌&&◌, ◌==◌, List, [], ◌∷◌, Option, None, Some, refl, sym, ap, ◌∙◌}
+use Rattle.std.proofs.Common.{get_or, length, arith}
 use Rattle.std.specs.Prelude.{unwrap_or}
 use Rattle.std.specs.List.{list_any}
 use Rattle.std.proofs.lemmas.Bool.{cond-false, cond_both}
@@ -77,7 +78,8 @@ module _ (on : Constructs) (row : BlockLine) where
 
   module _ (r : Rest) where
     -- a table, where the last line has a cell for each column and some line is left
-    pub row_fits : (ls : List BlockLine) → table_if on (delimiter_row on r) ls row ≡ table_where (fits (unwrap_or (delimiter_row on r) []) ls && is_some_line (cut on ls).left) ls
+    pub row_fits : (ls : List BlockLine) → table_if on (delimiter_row on r) ls row
+        ≡ table_where (fits (unwrap_or (delimiter_row on r) []) ls && is_some_line (cut on ls).left) ls
     row_fits ls = columns_fit (delimiter_row on r) ls (row_columns on r)
 
     pub fits_not : (columns : List AlignKind) (ls : List BlockLine) → columns ≡ unwrap_or (delimiter_row on r) [] → fits columns ls ≡ false
@@ -103,4 +105,5 @@ module _ (on : Constructs) (row : BlockLine) where
     -- tables are off
     pub tables_not : (ls : List BlockLine) → on.gfm_table ≡ false → table_if on (delimiter_row on r) ls row ≡ None
     tables_not ls off =
-        ap (λ o. table_if on o ls row) (cond-false (on.gfm_table && small_indent on r) (delimiters (bytes_of (bare r))) None (ap (λ b. b && small_indent on r) off))
+        ap (λ o. table_if on o ls row) (cond-false (on.gfm_table && small_indent on r) (delimiters (bytes_of (bare r))) None
+        (ap (λ b. b && small_indent on r) off))

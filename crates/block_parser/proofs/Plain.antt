@@ -8,9 +8,11 @@ use Rattle.definition_text.specs.declared.beside.Beside.{Beside}
 use Rattle.definition_text.specs.Columns.{Rest, indent, bare, bytes_of}
 use Rattle.definition_text.specs.BlockLines.{BlockLine}
 use Rattle.definition_block.specs.MathFlow.{math_start}
-use Rattle.definition_block.specs.Tree.{Blank, Blocks, join, one, OpenLeaf, Text, Indented, Fenced, OpenHtml, OpenTable, Opening, Leaf, Inside, Tree, tree, nothing, after, has_text, text_here, rest_line, leaf_line, text_line_of, table_if, new, grow}
+use Rattle.definition_block.specs.Tree.{Blank, Blocks, join, one, OpenLeaf, Text, Indented, Fenced, OpenHtml, OpenTable, Opening, Leaf, Inside, Tree, tree}
+use Rattle.definition_block.specs.Tree.{nothing, after, has_text, text_here, rest_line, leaf_line, text_line_of, table_if, new, grow}
 use Rattle.block_starts.specs.Plain.{begins_plain, is_plain}
-use Rattle.block_starts.proofs.PlainLemmas.{plain_starts, plain_not_blank, plain_not_code, plain_fence, plain_math, plain_html, plain_heading, plain_underline, plain_break, plain_delimiters}
+use Rattle.block_starts.proofs.PlainLemmas.{plain_starts, plain_not_blank, plain_not_code, plain_fence, plain_math, plain_html, plain_heading, plain_underline}
+use Rattle.block_starts.proofs.PlainLemmas.{plain_break, plain_delimiters}
 use Rattle.block_parser.specs.HeadingSetext.{IsText}
 use Rattle.block_parser.specs.Shows.{InText, InIndented, InFenced, InHtml, InTable, state_of}
 use Rattle.block_parser.specs.Spine.{Level, Spine, spine, spine_at, spine_after}
@@ -49,16 +51,19 @@ is_text around kids (Inside c inner_kids inner) none is = absurd (omega (arith, 
 
 module _ (on : Constructs) (P Q : Spine → Type 0) (e : Beside) where
   -- a line of text goes on the paragraph, or is its first
-  text_grows : (r : Rest) → ((around : List Level) (kids : Blocks) (ls : List BlockLine) → P (spine around kids (Text ls)) → Q (spine around kids (Text (ls ++ rest_line r e ∷ []))))
+  text_grows : (r : Rest) → ((around : List Level) (kids : Blocks) (ls : List BlockLine) → P (spine around kids (Text ls))
+      → Q (spine around kids (Text (ls ++ rest_line r e ∷ []))))
       → (kids : Blocks) (ls : List BlockLine) → P (spine [] kids (Text ls)) → Q (spine_after [] kids (text_line_of on (Leaf (Text ls)) r e))
   text_grows r more kids [] h =
       starts_text on Q r e [] kids (Leaf (Text [])) refl refl
-      (subst (λ (bs : Blocks). Q (spine [] bs (Text (rest_line r e ∷ [])))) (sym (ap (join kids) (closed-nothing on on.definition) ∙ join-nil kids)) (more [] kids [] h))
+      (subst (λ (bs : Blocks). Q (spine [] bs (Text (rest_line r e ∷ [])))) (sym (ap (join kids) (closed-nothing on on.definition) ∙ join-nil kids))
+      (more [] kids [] h))
   text_grows r more kids (l ∷ ls) h = goes_longer on P Q r e more [] kids (Leaf (Text (l ∷ ls))) refl h
 
   -- a plain line is one
   pub plain_grows : (r : Rest) → is_plain r ≡ true
-      → ((around : List Level) (kids : Blocks) (ls : List BlockLine) → P (spine around kids (Text ls)) → Q (spine around kids (Text (ls ++ rest_line r e ∷ []))))
+      → ((around : List Level) (kids : Blocks) (ls : List BlockLine) → P (spine around kids (Text ls))
+      → Q (spine around kids (Text (ls ++ rest_line r e ∷ []))))
       → (kids : Blocks) (now : Opening) → IsText now → P (spine_at [] kids now) → Q (spine_after [] kids (grow on e now r))
   plain_grows r plain more kids (Leaf (Text ls)) is h =
       subst (λ (t : Tree). Q (spine_after [] kids t)) (sym (plain_new on (Leaf (Text ls)) r e plain (length r) true)) (text_grows r more kids ls h)

@@ -1,5 +1,6 @@
 -- Blank lines in items and footnote definitions, which all go on.
-use Rattle.std.proofs.Common.{◌≡◌, ℕ, zero, suc, ◌+◌, ◌-◌, ◌<◌, Bool, true, false, not, List, [], ◌∷◌, ◌++◌, Some, inl, inr, refl, sym, ap, ◌∙◌, subst, length, get_or, arith}
+use Rattle.std.proofs.Common.{◌≡◌, ℕ, zero, suc, ◌+◌, ◌-◌, ◌<◌, Bool, true, false, not, List, [], ◌∷◌, ◌++◌, Some, inl, inr, refl, sym, ap, ◌∙◌, subst, length}
+use Rattle.std.proofs.Common.{get_or, arith}
 use Rattle.std.proofs.Math.Seq.{drop-nil}
 use Rattle.std.proofs.lemmas.Bool.{cases_lt, cond-true, and_parts}
 use Rattle.std.proofs.lemmas.List.{get_or_append_left, get_or_default, length-append, map-append}
@@ -40,12 +41,14 @@ no_quote_before n cs is h = λ k from to. elim (cases_lt n k) [
   | inr past ↦ let here : k ≡ n = omega (arith, from, past) in ap (λ i. is_quote (get_or cs i Quote)) here ∙ is
 ]
 
-pub popped : (n : ℕ) (old new : List CodeContainer) (c : CodeContainer) → old ≡ new ++ c ∷ [] → NoQuoteFrom n (container_views old) → NoQuoteFrom n (container_views new)
+pub popped : (n : ℕ) (old new : List CodeContainer) (c : CodeContainer) → old ≡ new ++ c ∷ [] → NoQuoteFrom n (container_views old)
+    → NoQuoteFrom n (container_views new)
 popped n old new c is h =
     no_quote_less n (container_views new) (container_view c)
     (subst (λ (cs : List Container). NoQuoteFrom n cs) (ap container_views is ∙ map-append container_view new (c ∷ [])) h)
 
-pub pushed : (n : ℕ) (old new : List CodeContainer) (c : CodeContainer) → new ≡ old ++ c ∷ [] → NoQuoteFrom n (container_views old ++ container_view c ∷ []) → NoQuoteFrom n (container_views new)
+pub pushed : (n : ℕ) (old new : List CodeContainer) (c : CodeContainer) → new ≡ old ++ c ∷ [] → NoQuoteFrom n (container_views old ++ container_view c ∷ [])
+    → NoQuoteFrom n (container_views new)
 pushed n old new c is h = subst (λ (cs : List Container). NoQuoteFrom n cs) (sym (ap container_views is ∙ map-append container_view old (c ∷ []))) h
 
 pub not_true : (b : Bool) → not b ≡ true → b ≡ false
@@ -55,7 +58,8 @@ not_true false h = refl
 -- ---- only the innermost container can have begun with a blank line
 
 pub none_began : (t : Tree) (containers : List Container) → containers ≡ containers_of (spine_of t).around
-    → ((around : List Level) (kids inner_kids : Blocks) (c : Container) (inner : Opening) → length containers ≡ length around + 1 → spine_at around kids (Inside c inner_kids inner) ≡ spine_of t → began_blank inner_kids inner ≡ false)
+    → ((around : List Level) (kids inner_kids : Blocks) (c : Container) (inner : Opening) → length containers ≡ length around + 1
+    → spine_at around kids (Inside c inner_kids inner) ≡ spine_of t → began_blank inner_kids inner ≡ false)
     → NoneBeganBlank t
 none_began t containers opened last around kids inner_kids c (Leaf leaf) same =
     last around kids inner_kids c (Leaf leaf)
@@ -64,14 +68,16 @@ none_began t containers opened last around kids inner_kids c (Inside inner_c oth
 
 -- ---- an empty rest in containers without quotes
 
-module _ (on : Constructs) (beside : Beside) (line : Rest) (t : Tree) (containers : List Container) (opened : containers ≡ containers_of (spine_of t).around) (none : NoneBeganBlank t) where
+module _ (on : Constructs) (beside : Beside) (line : Rest) (t : Tree) (containers : List Container) (opened : containers ≡ containers_of (spine_of t).around)
+    (none : NoneBeganBlank t) where
   goes-on : (c : Container) → is_quote c ≡ false → continues on c false [] ≡ Some []
   goes-on Quote h = let wrong : true ≡ false = h in cc
   goes-on (Item item) h = ap (λ r. Some r) (drop-nil item.size)
   goes-on (Footnote label) h = refl
 
   one-more : (depth : ℕ) (outer : Rest) → depth < length containers → NoQuoteFrom depth containers
-      → Descent on beside line t 0 depth [] (beside_at containers depth outer beside) → Descent on beside line t 0 (depth + 1) [] (beside_at containers (depth + 1) [] beside)
+      → Descent on beside line t 0 depth [] (beside_at containers depth outer beside)
+      → Descent on beside line t 0 (depth + 1) [] (beside_at containers (depth + 1) [] beside)
   one-more depth outer lt quotes d =
       let c = get_or containers depth Quote in
       subst (λ (b : Beside). Descent on beside line t 0 (depth + 1) [] b) (beside_more containers depth c outer [] beside refl)
@@ -80,7 +86,8 @@ module _ (on : Constructs) (beside : Beside) (line : Rest) (t : Tree) (container
       [] (goes-on c (quotes depth (omega arith) lt)) d)
 
   all-from : (n depth : ℕ) → depth + n ≡ length containers → NoQuoteFrom depth containers
-      → Descent on beside line t 0 depth [] (beside_at containers depth [] beside) → Descent on beside line t 0 (length containers) [] (beside_at containers (length containers) [] beside)
+      → Descent on beside line t 0 depth [] (beside_at containers depth [] beside)
+      → Descent on beside line t 0 (length containers) [] (beside_at containers (length containers) [] beside)
   all-from zero depth e quotes d =
       let same : depth ≡ length containers = omega (arith, e) in
       subst (λ m. Descent on beside line t 0 m [] (beside_at containers m [] beside)) same d
@@ -91,5 +98,14 @@ module _ (on : Constructs) (beside : Beside) (line : Rest) (t : Tree) (container
       → Descent on beside line t 0 depth [] (beside_at containers depth outer beside)
       → Descent on beside line t (length containers) (length containers) [] (beside_at containers (length containers) [] beside)
   all_go_on depth outer lt quotes d =
-      let all = all-from (length containers - (depth + 1)) (depth + 1) (omega (arith, lt)) (λ k from to. quotes k (omega (arith, from)) to) (one-more depth outer lt quotes d) in
-      record { around = all.around; kids = all.kids; now = all.now; deep = all.deep; same = all.same; grows = all.grows; stuck = λ wrong. absurd (omega (arith, wrong)) }
+      let all = all-from (length containers - (depth + 1)) (depth + 1) (omega (arith, lt)) (λ k from to. quotes k (omega (arith, from)) to)
+      (one-more depth outer lt quotes d) in
+      record {
+        around = all.around;
+        kids = all.kids;
+        now = all.now;
+        deep = all.deep;
+        same = all.same;
+        grows = all.grows;
+        stuck = λ wrong. absurd (omega (arith, wrong));
+      }

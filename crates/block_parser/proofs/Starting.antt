@@ -1,5 +1,6 @@
 -- Containers that start on a line.
-use Rattle.std.proofs.Common.{◌≡◌, ℕ, zero, suc, ◌+◌, ◌≤◌, ◌<◌, Bool, true, false, if◌then◌else◌, ◌&&◌, ◌||◌, ◌==◌, not, leb, List, [], ◌∷◌, Option, None, Some, refl, sym, ap, ◌∙◌, subst, length, drop, take, arith}
+use Rattle.std.proofs.Common.{◌≡◌, ℕ, zero, suc, ◌+◌, ◌≤◌, ◌<◌, Bool, true, false, if◌then◌else◌, ◌&&◌, ◌||◌, ◌==◌, not, leb, List, [], ◌∷◌, Option, None, Some}
+use Rattle.std.proofs.Common.{refl, sym, ap, ◌∙◌, subst, length, drop, take, arith}
 use Rattle.std.proofs.lemmas.List.{length-drop}
 use Rattle.std.specs.Prelude.{min}
 use Rattle.std.specs.List.{prefix_len}
@@ -11,12 +12,15 @@ use Rattle.definition_text.specs.Indents.{small_indent}
 use Rattle.definition_block.specs.ContainerStart.{ContainerStart}
 use Rattle.definition_block.specs.ThematicBreak.{is_break}
 use Rattle.definition_block.specs.BlockQuote.{after_byte, after_mark, quote_prefix}
-use Rattle.definition_block.specs.ListItem.{Marker, marker_of, is_digit, number_of, bullet, delimiter, ordered_marker, marker, gap, is_item, item, item_after, item_start}
+use Rattle.definition_block.specs.ListItem.{Marker, marker_of, is_digit, number_of, bullet, delimiter, ordered_marker, marker, gap, is_item, item, item_after}
+use Rattle.definition_block.specs.ListItem.{item_start}
 use Rattle.definition_text.specs.Content.{Part, may_escape, closed_by}
 use Rattle.definition_inline.specs.Label.{ends_label, label_end}
-use Rattle.definition_block.specs.GfmFootnoteDefinition.{is_footnote_label, label_before, with_colon, after_open, after_bracket, footnote_mark, footnote_of, footnote_start}
+use Rattle.definition_block.specs.GfmFootnoteDefinition.{is_footnote_label, label_before, with_colon, after_open, after_bracket, footnote_mark, footnote_of}
+use Rattle.definition_block.specs.GfmFootnoteDefinition.{footnote_start}
 use Rattle.definition_block.specs.Containers.{quote_or, footnote_or, starts}
-use Rattle.definition_block.specs.Tree.{Blocks, Nil, join, Opening, Inside, Tree, tree, nothing, after, has_text, leaf_line, beside_in, start, new, with_paragraph}
+use Rattle.definition_block.specs.Tree.{Blocks, Nil, join, Opening, Inside, Tree, tree, nothing, after, has_text, leaf_line, beside_in, start, new}
+use Rattle.definition_block.specs.Tree.{with_paragraph}
 use Rattle.definition_block.specs.Definitions.{cut_into, cut_most}
 use Rattle.block_parser.specs.Spine.{Level, level, spine_at, spine_after}
 use Rattle.block_parser.specs.View.{new_inside}
@@ -92,7 +96,8 @@ item-shorter n columns interrupts (Some m) h =
 
 item_start-shorter : (on : Constructs) (interrupts : Bool) (rest : Rest) → Shorter (length rest) (item_start on interrupts rest)
 item_start-shorter on interrupts rest =
-    choose_if (Shorter (length rest)) (on.list_item && small_indent on rest && not (is_break on rest)) (item_after (indent rest) interrupts (marker (bare rest))) None
+    choose_if (Shorter (length rest)) (on.list_item && small_indent on rest && not (is_break on rest))
+    (item_after (indent rest) interrupts (marker (bare rest))) None
     (λ h. item-shorter (length rest) (indent rest) interrupts (marker (bare rest)) (marker-shorter (length rest) (bare rest) (bare-shorter rest))) (λ h. tt)
 
 either-shorter : (n : ℕ) (other : Option ContainerStart) (o : Option Rest) → Shorter n other → RestShorter n o → Shorter n (quote_or other o)
@@ -123,7 +128,8 @@ colon-shorter n (Some label) h =
 open-shorter : (n : ℕ) (o : Option Rest) → RestShorter n o → PartShorter n (after_open o)
 open-shorter n None h = tt
 open-shorter n (Some rest) h = part-within n (length rest) (after_open (Some rest)) h
-    (colon-shorter (length rest) (closed_by rest (label_end false rest)) (closed-shorter (length rest) rest (label_end false rest) (end-shorter (length rest) false rest (omega arith))))
+    (colon-shorter (length rest) (closed_by rest (label_end false rest)) (closed-shorter (length rest) rest (label_end false rest)
+    (end-shorter (length rest) false rest (omega arith))))
 
 bracket-shorter : (n : ℕ) (o : Option Rest) → RestShorter n o → PartShorter n (after_bracket o)
 bracket-shorter n None h = tt
@@ -136,7 +142,8 @@ footnote_of-shorter n (Some mark) h = omega (arith, h, bare-shorter mark.rest)
 footnote-shorter : (on : Constructs) (rest : Rest) → Shorter (length rest) (footnote_start on rest)
 footnote-shorter on rest =
     choose_if (Shorter (length rest)) (on.gfm_footnote_definition && small_indent on rest) (footnote_of (footnote_mark (bare rest))) None
-    (λ h. footnote_of-shorter (length rest) (footnote_mark (bare rest)) (bracket-shorter (length rest) (after_byte 91 (bare rest)) (byte-shorter (length rest) 91 (bare rest) (bare-shorter rest))))
+    (λ h. footnote_of-shorter (length rest) (footnote_mark (bare rest)) (bracket-shorter (length rest) (after_byte 91 (bare rest))
+    (byte-shorter (length rest) 91 (bare rest) (bare-shorter rest))))
     (λ h. tt)
 
 footnote_or-shorter : (n : ℕ) (other o : Option ContainerStart) → Shorter n other → Shorter n o → Shorter n (footnote_or other o)
@@ -146,7 +153,8 @@ footnote_or-shorter n other (Some footnote) h k = k
 starts-shorter : (on : Constructs) (interrupts : Bool) (rest : Rest) → Shorter (length rest) (starts on interrupts rest)
 starts-shorter on interrupts rest =
     either-shorter (length rest) (footnote_or (item_start on interrupts rest) (footnote_start on rest)) (quote_prefix on rest)
-    (footnote_or-shorter (length rest) (item_start on interrupts rest) (footnote_start on rest) (item_start-shorter on interrupts rest) (footnote-shorter on rest))
+    (footnote_or-shorter (length rest) (item_start on interrupts rest) (footnote_start on rest) (item_start-shorter on interrupts rest)
+    (footnote-shorter on rest))
     (quote-shorter on rest)
 
 pub start-shorter : (on : Constructs) (interrupts : Bool) (rest : Rest) (s : ContainerStart) → starts on interrupts rest ≡ Some s → length s.rest < length rest
@@ -172,10 +180,12 @@ module _ (on : Constructs) where
       → new m on all away beside rest ≡ new n on all away beside rest
   new-same zero zero all away beside rest h k = refl
   new-same zero (suc n) all away beside [] h k =
-      sym (ap (λ o. start on o away (leaf_line on away [] beside) (inner_new n beside [])) (starts-none on (all && has_text away) _ (starts-shorter on (all && has_text away) [])))
+      sym (ap (λ o. start on o away (leaf_line on away [] beside) (inner_new n beside []))
+      (starts-none on (all && has_text away) _ (starts-shorter on (all && has_text away) [])))
   new-same zero (suc n) all away beside (code ∷ codes) h k = absurd (omega (arith, h))
   new-same (suc m) zero all away beside [] h k =
-      ap (λ o. start on o away (leaf_line on away [] beside) (inner_new m beside [])) (starts-none on (all && has_text away) _ (starts-shorter on (all && has_text away) []))
+      ap (λ o. start on o away (leaf_line on away [] beside) (inner_new m beside []))
+      (starts-none on (all && has_text away) _ (starts-shorter on (all && has_text away) []))
   new-same (suc m) zero all away beside (code ∷ codes) h k = absurd (omega (arith, k))
   new-same (suc m) (suc n) all away beside rest h k =
       start-same (length rest) (starts on (all && has_text away) rest) away (leaf_line on away rest beside) (inner_new m beside rest) (inner_new n beside rest)
@@ -184,25 +194,30 @@ module _ (on : Constructs) where
 
 module _ (on : Constructs) (beside : Beside) where
   -- no container starts
-  pub new_none : (n : ℕ) (all : Bool) (away : Opening) (rest : Rest) → starts on (all && has_text away) rest ≡ None → new n on all away beside rest ≡ leaf_line on away rest beside
+  pub new_none : (n : ℕ) (all : Bool) (away : Opening) (rest : Rest) → starts on (all && has_text away) rest ≡ None
+      → new n on all away beside rest ≡ leaf_line on away rest beside
   new_none zero all away rest h = refl
   new_none (suc n) all away rest h = ap (λ o. start on o away (leaf_line on away rest beside) (inner_new on n beside rest)) h
 
   -- a container starts
   new-some : (n : ℕ) (all : Bool) (away : Opening) (rest : Rest) (s : ContainerStart) → length rest ≤ n → starts on (all && has_text away) rest ≡ Some s
-      → let t = new_inside on (beside_in s.container rest beside) s.rest in new n on all away beside rest ≡ after on away (tree Nil (Inside s.container t.done t.now))
+      → let t = new_inside on (beside_in s.container rest beside) s.rest in
+      new n on all away beside rest ≡ after on away (tree Nil (Inside s.container t.done t.now))
   new-some zero all away rest s le h = absurd (omega (arith, le, start-shorter on (all && has_text away) rest s h))
   new-some (suc n) all away rest s le h =
       ap (λ o. start on o away (leaf_line on away rest beside) (inner_new on n beside rest)) h
       ∙ ap (λ (t : Tree). after on away (tree Nil (Inside s.container t.done t.now)))
-      (new-same on n (length s.rest) true nothing (beside_in s.container rest beside) s.rest (omega (arith, le, start-shorter on (all && has_text away) rest s h)) (omega arith))
+      (new-same on n (length s.rest) true nothing (beside_in s.container rest beside) s.rest
+      (omega (arith, le, start-shorter on (all && has_text away) rest s h)) (omega arith))
 
   pub new_some : (all : Bool) (away : Opening) (rest : Rest) (s : ContainerStart) → starts on (all && has_text away) rest ≡ Some s
-      → let t = new_inside on (beside_in s.container rest beside) s.rest in new (length rest) on all away beside rest ≡ after on away (tree Nil (Inside s.container t.done t.now))
+      → let t = new_inside on (beside_in s.container rest beside) s.rest in
+      new (length rest) on all away beside rest ≡ after on away (tree Nil (Inside s.container t.done t.now))
   new_some all away rest s h = new-some (length rest) all away rest s (omega arith) h
 
   -- what is new is in the container that started
-  pub grown-inside : (around : List Level) (kids : Blocks) (c : Container) (t : Tree) → spine_after around kids (tree Nil (Inside c t.done t.now)) ≡ spine_after (level c kids ∷ around) Nil t
+  pub grown-inside : (around : List Level) (kids : Blocks) (c : Container) (t : Tree)
+      → spine_after around kids (tree Nil (Inside c t.done t.now)) ≡ spine_after (level c kids ∷ around) Nil t
   grown-inside around kids c t = ap (λ (bs : Blocks). spine_at (level c bs ∷ around) t.done t.now) (join-nil kids)
 
   -- nothing is closed where nothing is open
@@ -215,7 +230,9 @@ module _ (on : Constructs) (beside : Beside) where
 
   -- one container more
   pub inside_more : (around : List Level) (kids : Blocks) (rest : Rest) (s : ContainerStart) → starts on false rest ≡ Some s
-      → spine_after around kids (new_inside on beside rest) ≡ spine_after (level s.container kids ∷ around) Nil (new_inside on (beside_in s.container rest beside) s.rest)
+      → spine_after around kids (new_inside on beside rest) ≡ spine_after (level s.container kids ∷ around) Nil
+      (new_inside on (beside_in s.container rest beside) s.rest)
   inside_more around kids rest s is =
       let t = new_inside on (beside_in s.container rest beside) s.rest in
-      ap (spine_after around kids) (new_some true nothing rest s is ∙ after-nothing (tree Nil (Inside s.container t.done t.now))) ∙ grown-inside around kids s.container t
+      ap (spine_after around kids) (new_some true nothing rest s is ∙ after-nothing (tree Nil (Inside s.container t.done t.now)))
+      ∙ grown-inside around kids s.container t

@@ -1,5 +1,6 @@
 -- The steps of the definition, case by case.
-use Rattle.std.proofs.Common.{◌≡◌, ℕ, List, [], ◌∷◌, ◌++◌, Option, None, Some, Bool, if◌then◌else◌, true, false, not, ◌&&◌, ◌||◌, ◌==◌, refl, sym, ap, ◌∙◌, subst, length, arith}
+use Rattle.std.proofs.Common.{◌≡◌, ℕ, List, [], ◌∷◌, ◌++◌, Option, None, Some, Bool, if◌then◌else◌, true, false, not, ◌&&◌, ◌||◌, ◌==◌, refl, sym, ap, ◌∙◌}
+use Rattle.std.proofs.Common.{subst, length, arith}
 use Rattle.std.proofs.lemmas.Bool.{cond-true, cond-false, or_left, or_from}
 use Rattle.markdown_options.specs.declared.line_ending.LineEnding.{LineEnding}
 use Rattle.markdown_options.specs.declared.configuration.Constructs.{Constructs}
@@ -18,7 +19,10 @@ use Rattle.definition_block.specs.ThematicBreak.{is_break}
 use Rattle.definition_block.specs.Definitions.{cut, cut_into, cut_most}
 use Rattle.block_rows.specs.ParagraphLines.{AreLines}
 use Rattle.definition_text.specs.BlockLines.{BlockLine, spaced_line, own_lines}
-use Rattle.definition_block.specs.Tree.{Heading, Break, FencedCode, Blank, Blocks, Nil, join, one, block_and_ending, OpenLeaf, Text, Indented, Fenced, OpenHtml, OpenTable, Opening, Leaf, Inside, Tree, tree, nothing, close, after, leaf_text, open_text, text_here, is_some_line, has_text, is_table_leaf, has_table, makes_table, with_line, rest_line, leaf_line, begun, or_fence, or_html, or_heading, html_with, break_or_text, text_line_of, tree_or, turns, heading_if, heading_of, new}
+use Rattle.definition_block.specs.Tree.{Heading, Break, FencedCode, Blank, Blocks, Nil, join, one, block_and_ending, OpenLeaf, Text, Indented, Fenced, OpenHtml}
+use Rattle.definition_block.specs.Tree.{OpenTable, Opening, Leaf, Inside, Tree, tree, nothing, close, after, leaf_text, open_text, text_here, is_some_line}
+use Rattle.definition_block.specs.Tree.{has_text, is_table_leaf, has_table, makes_table, with_line, rest_line, leaf_line, begun, or_fence, or_html, or_heading}
+use Rattle.definition_block.specs.Tree.{html_with, break_or_text, text_line_of, tree_or, turns, heading_if, heading_of, new}
 use Rattle.block_parser.specs.Spine.{Level, level, Spine, spine, spine_at, spine_after}
 use Rattle.block_parser.specs.HeadingSetext.{IsText, heading_blocks, heading_tree}
 use Rattle.block_parser.specs.GfmTable.{table_from_cut}
@@ -60,13 +64,15 @@ module _ (on : Constructs) (e : Beside) (r : Rest) (kind : ℕ) (ls : List Block
   pub html_goes_on : (ends_before_blank kind && is_blank r) ≡ false → leaf_grown on e r (Leaf (OpenHtml kind ls)) ≡ html_with kind ls r e
   html_goes_on h = ap (λ o. tree_or o (new (length r) on true (Leaf (OpenHtml kind ls)) e r)) (cond-false (ends_before_blank kind && is_blank r) _ _ h)
 
-  pub html_stops : (ends_before_blank kind && is_blank r) ≡ true → leaf_grown on e r (Leaf (OpenHtml kind ls)) ≡ new (length r) on true (Leaf (OpenHtml kind ls)) e r
+  pub html_stops : (ends_before_blank kind && is_blank r) ≡ true → leaf_grown on e r (Leaf (OpenHtml kind ls))
+      ≡ new (length r) on true (Leaf (OpenHtml kind ls)) e r
   html_stops h = ap (λ o. tree_or o (new (length r) on true (Leaf (OpenHtml kind ls)) e r)) (cond-true (ends_before_blank kind && is_blank r) _ _ h)
 
 -- ---- a line that the open leaf doesn't take
 
 -- a fence, or else another
-either_fence : (ending : Option LineEnding) (o p : Option Fence) (other : Option Tree) → or_fence ending o (or_fence ending p other) ≡ or_fence ending (option_or o p) other
+either_fence : (ending : Option LineEnding) (o p : Option Fence) (other : Option Tree)
+    → or_fence ending o (or_fence ending p other) ≡ or_fence ending (option_or o p) other
 either_fence ending None p other = refl
 either_fence ending (Some f) p other = refl
 
@@ -90,7 +96,8 @@ module _ (on : Constructs) (away : Opening) (r : Rest) (e : Beside) where
       other_leaf : leaf_line on away r e ≡ rest_of_leaves (or_fence e.ending (opening_fence on r) (html_or_heading (html_start on (has_text away) r)))
       other_leaf =
           cond-false (is_blank r) _ _ h
-          ∙ ap rest_of_leaves (cond-false (starts_code_indented on r && not (has_text away)) _ _ k ∙ either_fence e.ending (fence_start on r) (math_start on r) _)
+          ∙ ap rest_of_leaves (cond-false (starts_code_indented on r && not (has_text away)) _ _ k
+          ∙ either_fence e.ending (fence_start on r) (math_start on r) _)
 
       pub fenced_leaf : (f : Fence) → opening_fence on r ≡ Some f → leaf_line on away r e ≡ after on away (tree Nil (Leaf (Fenced f e.ending [])))
       fenced_leaf f fence = other_leaf ∙ ap (λ o. rest_of_leaves (or_fence e.ending o (html_or_heading (html_start on (has_text away) r)))) fence
@@ -171,7 +178,8 @@ module _ (on : Constructs) (r : Rest) (e : Option LineEnding) where
   turns_some ls rank is some = ap (λ o. heading_if on o ls e) is ∙ is_headed rank (cut on ls).definitions (cut on ls).left some
 
 -- whether a paragraph is open where all containers are
-pub here_or_not : (depth count : ℕ) (away : Opening) → (opening_depth away ≡ 0 → (depth == count) ≡ true) → ((depth == count) && has_text away) ≡ false → text_here away ≡ []
+pub here_or_not : (depth count : ℕ) (away : Opening) → (opening_depth away ≡ 0 → (depth == count) ≡ true) → ((depth == count) && has_text away) ≡ false
+    → text_here away ≡ []
 here_or_not depth count (Leaf leaf) last h = no_text (leaf_text leaf) (sym (ap (λ b. b && has_text (Leaf leaf)) (last refl)) ∙ h)
   where
     no_text : (ls : List BlockLine) → is_some_line ls ≡ false → ls ≡ []
@@ -179,7 +187,8 @@ here_or_not depth count (Leaf leaf) last h = no_text (leaf_text leaf) (sym (ap (
     no_text (l ∷ ls) k = let wrong : true ≡ false = k in cc
 here_or_not depth count (Inside c kids inner) last h = refl
 
-pub text_leaf_here : (P : Opening → Type 0) (away : Opening) → opening_depth away ≡ 0 → has_text away ≡ true → ((l : BlockLine) (ls : List BlockLine) → P (Leaf (Text (l ∷ ls)))) → P away
+pub text_leaf_here : (P : Opening → Type 0) (away : Opening) → opening_depth away ≡ 0 → has_text away ≡ true
+    → ((l : BlockLine) (ls : List BlockLine) → P (Leaf (Text (l ∷ ls)))) → P away
 text_leaf_here P (Leaf (Text [])) none some k = let wrong : false ≡ true = some in cc
 text_leaf_here P (Leaf (Text (l ∷ ls))) none some k = k l ls
 text_leaf_here P (Leaf (Indented ls pending)) none some k = let wrong : false ≡ true = some in cc
@@ -198,8 +207,10 @@ pub has_text_at : (around : List Level) (kids : Blocks) (away : Opening) → is_
 has_text_at around kids away = ap is_some_line (text_at around kids away)
 
 -- it goes on the paragraph that is open, in whatever containers
-module _ (P Q : Spine → Type 0) (l : BlockLine) (more : (around : List Level) (kids : Blocks) (ls : List BlockLine) → P (spine around kids (Text ls)) → Q (spine around kids (Text (ls ++ l ∷ [])))) where
-  longer_at : (around : List Level) (kids : Blocks) (away : Opening) → has_text away ≡ true → P (spine_at around kids away) → Q (spine_at around kids (with_line l away))
+module _ (P Q : Spine → Type 0) (l : BlockLine) (more : (around : List Level) (kids : Blocks) (ls : List BlockLine) → P (spine around kids (Text ls))
+    → Q (spine around kids (Text (ls ++ l ∷ [])))) where
+  longer_at : (around : List Level) (kids : Blocks) (away : Opening) → has_text away ≡ true → P (spine_at around kids away)
+      → Q (spine_at around kids (with_line l away))
   longer_at around kids (Leaf (Text ls)) some h = more around kids ls h
   longer_at around kids (Leaf (Indented ls pending)) some h = let wrong : false ≡ true = some in cc
   longer_at around kids (Leaf (Fenced f opening ls)) some h = let wrong : false ≡ true = some in cc
@@ -209,18 +220,23 @@ module _ (P Q : Spine → Type 0) (l : BlockLine) (more : (around : List Level) 
 
 pub goes_longer : (on : Constructs) (P Q : Spine → Type 0) (r : Rest) (e : Beside)
     → ((around : List Level) (kids : Blocks) (ls : List BlockLine) → P (spine around kids (Text ls)) → Q (spine around kids (Text (ls ++ rest_line r e ∷ []))))
-    → (around : List Level) (kids : Blocks) (away : Opening) → has_text away ≡ true → P (spine_at around kids away) → Q (spine_after around kids (text_line_of on away r e))
+    → (around : List Level) (kids : Blocks) (away : Opening) → has_text away ≡ true → P (spine_at around kids away)
+    → Q (spine_after around kids (text_line_of on away r e))
 goes_longer on P Q r e more around kids away some h =
     subst (λ (t : Tree). Q (spine_after around kids t)) (sym (cond-true (has_text away || has_table away) _ _ (or_left (has_text away) (has_table away) some)))
-    (subst (λ (bs : Blocks). Q (spine_at around bs (with_line (rest_line r e) away))) (sym (join-nil kids)) (longer_at P Q (rest_line r e) more around kids away some h))
+    (subst (λ (bs : Blocks). Q (spine_at around bs (with_line (rest_line r e) away))) (sym (join-nil kids))
+    (longer_at P Q (rest_line r e) more around kids away some h))
 
 -- or it is the first of one
-pub starts_text : (on : Constructs) (Q : Spine → Type 0) (r : Rest) (e : Beside) (around : List Level) (kids : Blocks) (away : Opening) → has_text away ≡ false → has_table away ≡ false
+pub starts_text : (on : Constructs) (Q : Spine → Type 0) (r : Rest) (e : Beside) (around : List Level) (kids : Blocks) (away : Opening) → has_text away ≡ false
+    → has_table away ≡ false
     → Q (spine around (join kids (close on away)) (Text (rest_line r e ∷ []))) → Q (spine_after around kids (text_line_of on away r e))
 starts_text on Q r e around kids away none no_table h =
     let t = tree Nil (Leaf (Text (rest_line r e ∷ []))) in
-    subst (λ (more : Tree). Q (spine_after around kids more)) (sym (cond-false (has_text away || has_table away) _ _ (or_from (has_text away) (has_table away) none no_table)))
-    (after_added on Q around kids away t (subst (λ (bs : Blocks). Q (spine around bs (Text (rest_line r e ∷ [])))) (sym (join-nil (join kids (close on away)))) h))
+    subst (λ (more : Tree). Q (spine_after around kids more))
+    (sym (cond-false (has_text away || has_table away) _ _ (or_from (has_text away) (has_table away) none no_table)))
+    (after_added on Q around kids away t (subst (λ (bs : Blocks). Q (spine around bs (Text (rest_line r e ∷ []))))
+    (sym (join-nil (join kids (close on away)))) h))
 
 -- whether a table is open where all containers are
 pub table_at : (around : List Level) (kids : Blocks) (away : Opening) → opening_depth away ≡ 0 → is_table_leaf (spine_at around kids away).leaf ≡ has_table away
@@ -233,8 +249,10 @@ no_table_at (Inside c kids inner) deeper = refl
 
 -- or a row of a table
 pub goes_row : (on : Constructs) (P Q : Spine → Type 0) (r : Rest) (e : Beside)
-    → ((around : List Level) (kids : Blocks) (ls : List BlockLine) → P (spine around kids (OpenTable ls)) → Q (spine_after around kids (tree Nil (Leaf (OpenTable (ls ++ rest_line r e ∷ []))))))
-    → (around : List Level) (kids : Blocks) (away : Opening) → has_table away ≡ true → P (spine_at around kids away) → Q (spine_after around kids (text_line_of on away r e))
+    → ((around : List Level) (kids : Blocks) (ls : List BlockLine) → P (spine around kids (OpenTable ls))
+    → Q (spine_after around kids (tree Nil (Leaf (OpenTable (ls ++ rest_line r e ∷ []))))))
+    → (around : List Level) (kids : Blocks) (away : Opening) → has_table away ≡ true → P (spine_at around kids away)
+    → Q (spine_after around kids (text_line_of on away r e))
 goes_row on P Q r e more around kids (Leaf (Text ls)) some h = let wrong : false ≡ true = some in cc
 goes_row on P Q r e more around kids (Leaf (Indented ls pending)) some h = let wrong : false ≡ true = some in cc
 goes_row on P Q r e more around kids (Leaf (Fenced f opening ls)) some h = let wrong : false ≡ true = some in cc
@@ -244,8 +262,10 @@ goes_row on P Q r e more around kids (Inside c inner_kids inner) some h = let wr
 
 -- a paragraph becomes a table
 pub tabled_here : (on : Constructs) (P Q : Spine → Type 0) (row : BlockLine)
-    → ((around : List Level) (kids : Blocks) (ls : List BlockLine) → AreLines ls → P (spine around kids (Text ls)) → Q (spine_after around kids (table_from_cut (cut on ls) row)))
-    → (around : List Level) (kids : Blocks) (away : Opening) → IsText away → AreLines (open_text away) → P (spine_at around kids away) → Q (spine_after around kids (table_from_cut (cut on (text_here away)) row))
+    → ((around : List Level) (kids : Blocks) (ls : List BlockLine) → AreLines ls → P (spine around kids (Text ls))
+    → Q (spine_after around kids (table_from_cut (cut on ls) row)))
+    → (around : List Level) (kids : Blocks) (away : Opening) → IsText away → AreLines (open_text away) → P (spine_at around kids away)
+    → Q (spine_after around kids (table_from_cut (cut on (text_here away)) row))
 tabled_here on P Q row reads around kids (Leaf (Text ls)) is clean h = reads around kids ls clean h
 tabled_here on P Q row reads around kids (Leaf (Indented ls pending)) is clean h = absurd is
 tabled_here on P Q row reads around kids (Leaf (Fenced f opening ls)) is clean h = absurd is
@@ -255,8 +275,10 @@ tabled_here on P Q row reads around kids (Inside c inner_kids inner) is clean h 
 
 -- a paragraph becomes a heading
 pub turned_here : (on : Constructs) (P Q : Spine → Type 0) (rank : ℕ) (e : Option LineEnding)
-    → ((around : List Level) (kids : Blocks) (ls : List BlockLine) → AreLines ls → P (spine around kids (Text ls)) → Q (spine around (join kids (heading_blocks on rank ls e)) (Text [])))
-    → (around : List Level) (kids : Blocks) (away : Opening) → IsText away → AreLines (open_text away) → P (spine_at around kids away) → Q (spine_after around kids (tree (heading_blocks on rank (text_here away) e) nothing))
+    → ((around : List Level) (kids : Blocks) (ls : List BlockLine) → AreLines ls → P (spine around kids (Text ls))
+    → Q (spine around (join kids (heading_blocks on rank ls e)) (Text [])))
+    → (around : List Level) (kids : Blocks) (away : Opening) → IsText away → AreLines (open_text away) → P (spine_at around kids away)
+    → Q (spine_after around kids (tree (heading_blocks on rank (text_here away) e) nothing))
 turned_here on P Q rank e reads around kids (Leaf (Text ls)) is clean h = reads around kids ls clean h
 turned_here on P Q rank e reads around kids (Leaf (Indented ls pending)) is clean h = absurd is
 turned_here on P Q rank e reads around kids (Leaf (Fenced f opening ls)) is clean h = absurd is

@@ -4,7 +4,8 @@ use Rattle.markdown_options.specs.declared.configuration.Constructs.{Constructs}
 use Rattle.markdown_options.specs.declared.line_ending.LineEnding.{LineEnding}
 use Rattle.definition_block.specs.Definitions.{cut}
 use Rattle.definition_text.specs.BlockLines.{BlockLine, own_lines}
-use Rattle.definition_block.specs.Tree.{Blocks, Heading, join, block_and_ending, Text, Indented, Fenced, OpenHtml, OpenTable, Opening, Leaf, Inside, Tree, tree, nothing, text_here}
+use Rattle.definition_block.specs.Tree.{Blocks, Heading, join, block_and_ending, Text, Indented, Fenced, OpenHtml, OpenTable, Opening, Leaf, Inside, Tree, tree}
+use Rattle.definition_block.specs.Tree.{nothing, text_here}
 
 -- the definitions at the front of a paragraph, and a heading of what is left of it
 abbrev pub heading_blocks : Constructs → ℕ → List BlockLine → Option LineEnding → Blocks

@@ -1,5 +1,6 @@
 -- The open paragraph has the lines of a paragraph, after any lines of a text.
-use Rattle.std.proofs.Common.{◌≡◌, ℕ, ◌+◌, ◌<◌, suc, zero, Bool, true, false, not, ◌&&◌, ◌||◌, leb, min, List, [], ◌∷◌, ◌++◌, Option, None, Some, length, take, drop, replicate, get_or, eqb, refl, sym, subst, inl, inr, arith}
+use Rattle.std.proofs.Common.{◌≡◌, ℕ, ◌+◌, ◌<◌, suc, zero, Bool, true, false, not, ◌&&◌, ◌||◌, leb, min, List, [], ◌∷◌, ◌++◌, Option, None, Some, length, take}
+use Rattle.std.proofs.Common.{drop, replicate, get_or, eqb, refl, sym, subst, inl, inr, arith}
 use Rattle.std.specs.List.{filter, prefix_len}
 use Rattle.std.proofs.lemmas.Bool.{true≢false, both_ways, cond_both, and_cases, or_from, or_right, ne_eqb, not-false}
 use Rattle.std.proofs.lemmas.List.{length-append}
@@ -11,12 +12,14 @@ use Rattle.definition_block.specs.Container.{Container, Quote, Item, Footnote}
 use Rattle.definition_text.specs.declared.beside.Kind.{Kind}
 use Rattle.definition_text.specs.declared.beside.Kind.TheVariants.{Whitespace}
 use Rattle.definition_text.specs.Lines.{TextLine, text_line, in_first_line, after_return, lines}
-use Rattle.definition_text.specs.Columns.{Rest, tab_column, columns_after_tab, codes_from, whole, is_white, is_blank, indent, bare, is_tab_column, is_byte, bytes_of, block_codes}
+use Rattle.definition_text.specs.Columns.{Rest, tab_column, columns_after_tab, codes_from, whole, is_white, is_blank, indent, bare, is_tab_column, is_byte}
+use Rattle.definition_text.specs.Columns.{bytes_of, block_codes}
 use Rattle.definition_text.specs.Indents.{small_indent}
 use Rattle.definition_block.specs.ContainerStart.{ContainerStart}
 use Rattle.definition_block.specs.BlockQuote.{after_byte, after_mark, quote_prefix}
 use Rattle.definition_block.specs.ListItem.{Marker, is_digit, number_of, bullet, delimiter, marker, gap, is_item, item_after, item_start, is_inside}
-use Rattle.definition_block.specs.GfmFootnoteDefinition.{is_footnote_label, label_before, with_colon, after_open, after_bracket, footnote_mark, footnote_of, footnote_start}
+use Rattle.definition_block.specs.GfmFootnoteDefinition.{is_footnote_label, label_before, with_colon, after_open, after_bracket, footnote_mark, footnote_of}
+use Rattle.definition_block.specs.GfmFootnoteDefinition.{footnote_start}
 use Rattle.definition_block.specs.Containers.{continues, quote_or, footnote_or, starts}
 use Rattle.definition_block.specs.CodeIndented.{starts_code_indented}
 use Rattle.definition_block.specs.CodeFenced.{Fence, fence_start, is_fence_end}
@@ -32,7 +35,10 @@ use Rattle.definition_block.specs.declared.align_kind.AlignKind.{AlignKind}
 use Rattle.definition_block.specs.GfmTable.{delimiter_row, is_head}
 use Rattle.block_rows.specs.ParagraphLines.{HaveNoEnding, AreLines}
 use Rattle.definition_text.specs.BlockLines.{BlockLine}
-use Rattle.definition_block.specs.Tree.{Blocks, OpenLeaf, Text, Indented, Fenced, OpenHtml, OpenTable, Opening, Leaf, Inside, Tree, nothing, empty_tree, open_text, has_text, has_table, is_some_line, table_if, makes_table, with_line, rest_line, takes, html_with, or_heading, or_fence, or_html, begins, text_line_of, break_or_text, text_here, heading_of, heading_if, turns, begun, tree_or, leaf_line, start, new, began_blank, goes_on, grow, beside_in, beside_line, step, steps}
+use Rattle.definition_block.specs.Tree.{Blocks, OpenLeaf, Text, Indented, Fenced, OpenHtml, OpenTable, Opening, Leaf, Inside, Tree, nothing, empty_tree}
+use Rattle.definition_block.specs.Tree.{open_text, has_text, has_table, is_some_line, table_if, makes_table, with_line, rest_line, takes, html_with, or_heading}
+use Rattle.definition_block.specs.Tree.{or_fence, or_html, begins, text_line_of, break_or_text, text_here, heading_of, heading_if, turns, begun, tree_or}
+use Rattle.definition_block.specs.Tree.{leaf_line, start, new, began_blank, goes_on, grow, beside_in, beside_line, step, steps}
 
 -- ---- codes without a line ending
 
@@ -355,7 +361,8 @@ module _ (on : Constructs) (e : LineEnding) (beside : Beside) where
   open_break_or_text : (away : Opening) (rest : Rest) → HaveNoEnding rest → is_blank rest ≡ false → AreLinesTo (Some e) (open_text away)
       → OpenTo (break_or_text on away rest beside)
   open_break_or_text away rest clear some h = cond_both (is_break on rest) _ _ OpenTo (λ _. tt)
-      (λ _. open_taken (makes_table on away rest beside) _ (open_table (delimiter_row on rest) (text_here away) (rest_line rest beside)) (open_text_line away rest clear some h))
+      (λ _. open_taken (makes_table on away rest beside) _ (open_table (delimiter_row on rest) (text_here away) (rest_line rest beside))
+      (open_text_line away rest clear some h))
 
   open_leaf_line : (away : Opening) (rest : Rest) → HaveNoEnding rest → AreLinesTo (Some e) (open_text away) → OpenTo (leaf_line on away rest beside)
   open_leaf_line away rest clear h =
@@ -366,7 +373,8 @@ module _ (on : Constructs) (e : LineEnding) (beside : Beside) where
 
 -- what is open after containers that start, and after those that go on
 module _ (on : Constructs) (e : LineEnding) where
-  open_start : (beside : Beside) (o : Option ContainerStart) (away : Opening) (other : Tree) (more : ContainerStart → Tree) → StartedClear o → OpenTo on e beside other
+  open_start : (beside : Beside) (o : Option ContainerStart) (away : Opening) (other : Tree) (more : ContainerStart → Tree) → StartedClear o
+      → OpenTo on e beside other
       → ((s : ContainerStart) → HaveNoEnding s.rest → OpenTo on e beside (more s)) → OpenTo on e beside (start on o away other more)
   open_start beside None away other more p q m = q
   open_start beside (Some s) away other more p q m = m s p
@@ -385,7 +393,8 @@ module _ (on : Constructs) (e : LineEnding) where
   open_goes_on beside None c kids inner rest more p clear h m = open_new beside (length rest) false (Inside c kids inner) rest clear h
   open_goes_on beside (Some others) c kids inner rest more p clear h m = m others p
 
-  open_grow : (beside : Beside) (now : Opening) (rest : Rest) → HaveNoEnding rest → AreLinesTo (Some e) (open_text now) → OpenTo on e beside (grow on beside now rest)
+  open_grow : (beside : Beside) (now : Opening) (rest : Rest) → HaveNoEnding rest → AreLinesTo (Some e) (open_text now)
+      → OpenTo on e beside (grow on beside now rest)
   open_grow beside (Leaf leaf) rest clear h =
       open_taken on e beside (takes on leaf rest beside) _ (open_takes on e beside leaf rest) (open_new beside (length rest) true (Leaf leaf) rest clear h)
   open_grow beside (Inside c kids inner) rest clear h =

@@ -1,5 +1,6 @@
 -- Rests without a marker, and lines of items.
-use Rattle.std.proofs.Common.{◌≡◌, ℕ, ◌<◌, ◌≤◌, ◌^◌, ◌+◌, [], ◌∷◌, Bool, true, false, ◌&&◌, ◌||◌, not, Option, None, Some, inl, inr, eqb, leb, refl, sym, ap, ◌∙◌, length, drop, min, arith}
+use Rattle.std.proofs.Common.{◌≡◌, ℕ, ◌<◌, ◌≤◌, ◌^◌, ◌+◌, [], ◌∷◌, Bool, true, false, ◌&&◌, ◌||◌, not, Option, None, Some, inl, inr, eqb, leb, refl, sym, ap}
+use Rattle.std.proofs.Common.{◌∙◌, length, drop, min, arith}
 use Rattle.std.specs.List.{list_all, prefix_len}
 use Rattle.std.proofs.Math.Nat.{pow-le-pow_right}
 use Rattle.std.proofs.lemmas.Bool.{cases_Bool, cond-true, cond-false, cond_both, eq-eqb, ne_eqb, and_parts, or_parts, or_from, leb-true}
@@ -36,7 +37,8 @@ bullet_none [] never = refl
 bullet_none (b ∷ bs) never =
     let none = never b bs refl in
     cond-false (eqb b 45 || eqb b 43 || eqb b 42) _ _
-    (or_from (eqb b 45 || eqb b 43) (eqb b 42) (or_from (eqb b 45) (eqb b 43) (other_byte b 45 none refl) (other_byte b 43 none refl)) (other_byte b 42 none refl))
+    (or_from (eqb b 45 || eqb b 43) (eqb b 42) (or_from (eqb b 45) (eqb b 43) (other_byte b 45 none refl) (other_byte b 43 none refl))
+    (other_byte b 42 none refl))
 
 pub delimiter_none : (number digits : ℕ) (rest : Rest) → NoMark rest → delimiter number digits rest ≡ None
 delimiter_none number digits [] never = refl

@@ -1,5 +1,6 @@
 -- Nothing begins with a plain rest but text: a lemma for each construct.
-use Rattle.std.proofs.Common.{inl, inr, ◌≡◌, ℕ, ◌+◌, ◌-◌, Bool, true, false, cond, not, ◌&&◌, ◌||◌, List, [], ◌∷◌, Option, None, refl, sym, ap, ◌∙◌, subst, length, drop, take, zero, suc, arith}
+use Rattle.std.proofs.Common.{inl, inr, ◌≡◌, ℕ, ◌+◌, ◌-◌, Bool, true, false, cond, not, ◌&&◌, ◌||◌, List, [], ◌∷◌, Option, None, refl, sym, ap, ◌∙◌, subst}
+use Rattle.std.proofs.Common.{length, drop, take, zero, suc, arith}
 use Rattle.std.specs.Prelude.{◌==◌, leb, codes}
 use Rattle.std.specs.List.{list_any, prefix_len, suffix_len}
 use Rattle.std.proofs.lemmas.Bool.{cases_Bool, cond-true, cond-false, cond_both, and_parts, or_parts, or_from, ne_eqb, eqb-true, leb-true}
@@ -24,7 +25,8 @@ use Rattle.definition_block.specs.HtmlFlow.{starts_raw, starts_declaration, star
 use Rattle.definition_block.specs.HeadingAtx.{atx_of, heading_atx}
 use Rattle.definition_block.specs.HeadingSetext.{underline_of, underline}
 use Rattle.definition_block.specs.ThematicBreak.{is_break_text, is_break}
-use Rattle.definition_block.specs.GfmTable.{Cell, cell, in_first_cell, is_bar, parts, without_blank_first, without_blank_last, cells, after_dashes, delimiter, and_alignment, alignments_of, is_bar_or_colon, some_alignments, delimiters, delimiter_row}
+use Rattle.definition_block.specs.GfmTable.{Cell, cell, in_first_cell, is_bar, parts, without_blank_first, without_blank_last, cells, after_dashes, delimiter}
+use Rattle.definition_block.specs.GfmTable.{and_alignment, alignments_of, is_bar_or_colon, some_alignments, delimiters, delimiter_row}
 use Rattle.block_starts.specs.Marks.{may_start}
 use Rattle.block_starts.specs.Plain.{begins_block, is_plain_byte, begins_plain}
 use Rattle.block_starts.proofs.MarkLemmas.{only_footnote, indent_blank}
@@ -72,7 +74,8 @@ first_code P [] plain k = let wrong : false ≡ true = plain in cc
 first_code P (c ∷ cs) plain k =
     elim (cases_Bool (is_white c)) [
       | inl white ↦
-          let more : prefix_len is_white (c ∷ cs) ≡ suc (prefix_len is_white cs) = let one = cond-true (is_white c) (1 + prefix_len is_white cs) 0 white in omega arith in
+          let more : prefix_len is_white (c ∷ cs) ≡ suc (prefix_len is_white cs) = let one = cond-true (is_white c) (1 + prefix_len is_white cs) 0 white in
+          omega arith in
           let same : bare (c ∷ cs) ≡ bare cs = ap (λ n. drop n (c ∷ cs)) more in
           subst P (sym same) (first_code P cs (ap (λ bs. begins_plain (bytes_of bs)) (sym same) ∙ plain) k)
       | inr dark ↦
@@ -91,7 +94,8 @@ no_container on interrupts r none =
 no_first : (c : ℕ) (cs : Rest) → is_plain_byte c ≡ true → (may_start (c ∷ cs) ≡ false) × (footnote_mark (c ∷ cs) ≡ None)
 no_first c cs plain = (
   or_from ((c == 62) || (c == 45) || (c == 43) || (c == 42)) _
-      (or_from ((c == 62) || (c == 45) || (c == 43)) _ (or_from ((c == 62) || (c == 45)) _ (or_from (c == 62) _ (other c 62 plain refl) (other c 45 plain refl)) (other c 43 plain refl)) (other c 42 plain refl))
+      (or_from ((c == 62) || (c == 45) || (c == 43)) _ (or_from ((c == 62) || (c == 45)) _ (or_from (c == 62) _ (other c 62 plain refl) (other c 45 plain refl))
+      (other c 43 plain refl)) (other c 42 plain refl))
       (no_digit c plain),
   ap after_bracket (cond-false (c == 91) _ _ (other c 91 plain refl)),
 )
@@ -192,16 +196,19 @@ no_delimiter b bs plain =
         ∙ cond-true (run 45 (b ∷ take n bs) == 0) _ _ (ap (λ k. k == 0) (no_run 45 b (take n bs) plain refl))
 
 -- nor is the first of some cells
-no_alignment : (b : ℕ) (bs : List ℕ) (after : Kind) (others : List Cell) → is_plain_byte b ≡ true → some_alignments (alignments_of (cell (b ∷ bs) Whitespace after ∷ others)) ≡ None
+no_alignment : (b : ℕ) (bs : List ℕ) (after : Kind) (others : List Cell) → is_plain_byte b ≡ true
+    → some_alignments (alignments_of (cell (b ∷ bs) Whitespace after ∷ others)) ≡ None
 no_alignment b bs after others plain = ap (λ o. some_alignments (and_alignment o (alignments_of others))) (no_delimiter b bs plain)
 
 without_last : (b : ℕ) (bs : List ℕ) (after : Kind) (others : List Cell) → is_plain_byte b ≡ true
     → some_alignments (alignments_of (without_blank_last (cell (b ∷ bs) Whitespace after ∷ others))) ≡ None
 without_last b bs after [] plain =
-    ap (λ cs. some_alignments (alignments_of cs)) (cond-false (is_blank (b ∷ bs)) _ _ (no_and (is_white b) _ (no_white b plain))) ∙ no_alignment b bs after [] plain
+    ap (λ cs. some_alignments (alignments_of cs)) (cond-false (is_blank (b ∷ bs)) _ _ (no_and (is_white b) _ (no_white b plain)))
+    ∙ no_alignment b bs after [] plain
 without_last b bs after (c ∷ cs) plain = no_alignment b bs after (without_blank_last (c ∷ cs)) plain
 
-in_first : (b : ℕ) (others : List Cell) → is_plain_byte b ≡ true → some_alignments (alignments_of (without_blank_last (without_blank_first (in_first_cell b Whitespace others)))) ≡ None
+in_first : (b : ℕ) (others : List Cell) → is_plain_byte b ≡ true
+    → some_alignments (alignments_of (without_blank_last (without_blank_first (in_first_cell b Whitespace others)))) ≡ None
 in_first b [] plain = refl
 in_first b (c ∷ cs) plain =
     ap (λ all. some_alignments (alignments_of (without_blank_last all))) (cond-false (is_blank (b ∷ c.codes)) _ _ (no_and (is_white b) _ (no_white b plain)))

@@ -6,7 +6,8 @@ use Rattle.definition_text.specs.Columns.{Rest}
 
 -- a byte of a container's marker, and no digit: `>`, `-`, `+`, `*`, `.`, `)`, `[`, `^` or `:`
 abbrev pub is_mark : ℕ → Bool
-is_mark code = (code == greater_than) || (code == hyphen) || (code == plus) || (code == asterisk) || (code == dot) || (code == right_parenthesis) || (code == left_bracket) || (code == caret) || (code == colon)
+is_mark code = (code == greater_than) || (code == hyphen) || (code == plus) || (code == asterisk) || (code == dot) || (code == right_parenthesis)
+    || (code == left_bracket) || (code == caret) || (code == colon)
 
 -- a rest doesn't begin with such a byte
 abbrev pub NoMark : Rest → Type 0

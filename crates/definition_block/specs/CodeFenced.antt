@@ -24,7 +24,8 @@ fence_by byte run columns after = record { byte = byte; run = run; indent = colu
 -- at least three backticks with none in what follows them, or at least three tildes
 abbrev pub fence_of : ℕ → List ℕ → Option Fence
 fence_of columns text =
-    if leb 3 (run backtick text) && list_all (λ b. not (b == backtick)) (after_run backtick text) then Some (fence_by backtick (run backtick text) columns (after_run backtick text))
+    if leb 3 (run backtick text) && list_all (λ b. not (b == backtick)) (after_run backtick text)
+    then Some (fence_by backtick (run backtick text) columns (after_run backtick text))
     else (if leb 3 (run tilde text) then Some (fence_by tilde (run tilde text) columns (after_run tilde text)) else None)
 
 -- the fence that opens here (CommonMark 4.5)

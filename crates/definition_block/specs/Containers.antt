@@ -23,6 +23,7 @@ abbrev pub footnote_or : Option ContainerStart → Option ContainerStart → Opt
 footnote_or other None = other
 footnote_or other (Some footnote) = Some footnote
 
--- the container that starts here: a quote, an item or a footnote definition, which begin with different bytes; `interrupts` where it would interrupt a paragraph (CommonMark 5.1 and 5.2)
+-- the container that starts here: a quote, an item or a footnote definition, which begin with different bytes; `interrupts` where it would interrupt a
+-- paragraph (CommonMark 5.1 and 5.2)
 abbrev pub starts : Constructs → Bool → Rest → Option ContainerStart
 starts on interrupts rest = quote_or (footnote_or (item_start on interrupts rest) (footnote_start on rest)) (quote_prefix on rest)

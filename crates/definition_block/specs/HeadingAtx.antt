@@ -34,7 +34,8 @@ without_closing text = if ends_apart (without_run text) then trim (without_run t
 abbrev pub atx_of : List ℕ → Option Atx
 atx_of text =
     let rank = run number_sign text in
-    if leb 1 rank && leb rank 6 && begins_apart (after_run number_sign text) then Some (atx rank (without_closing (trim (after_run number_sign text)))) else None
+    if leb 1 rank && leb rank 6 && begins_apart (after_run number_sign text) then Some (atx rank (without_closing (trim (after_run number_sign text))))
+    else None
 
 -- the heading that the line is: 1 to 6 `#`, and white space or the line's end (CommonMark 4.2)
 abbrev pub heading_atx : Constructs → Rest → Option Atx

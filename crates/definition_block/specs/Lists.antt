@@ -1,7 +1,8 @@
 -- Lists: neighbouring items are put together after the lines are read (CommonMark 5.3).
 use Rattle.std.specs.Prelude.{ℕ, suc, Bool, false, if◌then◌else◌, ◌==◌, ◌&&◌, ◌||◌, not, leb}
 use Rattle.definition_block.specs.Container.{Container, Quote, Item, Footnote}
-use Rattle.definition_block.specs.Tree.{Block, Paragraph, Heading, Break, IndentedCode, FencedCode, Html, Table, Definition, Holds, Items, Ending, Blank, Blocks, Nil, Cons, join, one, is_ending}
+use Rattle.definition_block.specs.Tree.{Block, Paragraph, Heading, Break, IndentedCode, FencedCode, Html, Table, Definition, Holds, Items, Ending, Blank}
+use Rattle.definition_block.specs.Tree.{Blocks, Nil, Cons, join, one, is_ending}
 
 -- ---- neighbours
 
@@ -23,7 +24,8 @@ abbrev pub is_some_block : Blocks → Bool
 is_some_block Nil = false
 is_some_block (Cons b bs) = not (is_ending b) || is_some_block bs
 
--- whether some two neighbouring children have a line between them: two endings or more stand between, that of the first one's last line and those of the lines between
+-- whether some two neighbouring children have a line between them: two endings or more stand between, that of the first one's last line and those of the lines
+-- between
 abbrev pub has_gap : Blocks → Bool
 has_gap Nil = false
 has_gap (Cons b bs) = (not (is_ending b) && leb 2 (endings_at_front bs) && is_some_block bs) || has_gap bs

@@ -9,7 +9,27 @@ use Rattle.definition_text.specs.declared.beside.Kind.TheVariants.{Whitespace, P
 use Rattle.definition_block.specs.Container.{Container, Quote, Item, Footnote}
 use Rattle.definition_text.specs.Lines.{TextLine, lines}
 pub use Rattle.definition_text.specs.BlockLines.{BlockLine, block_line, spaced_line, last_ending_or, last_ending, own_lines}
-pub use Rattle.definition_block.specs.Blocks.{Block, Paragraph, Heading, Break, IndentedCode, FencedCode, Html, Table, Definition, Holds, Items, Ending, Blank, Blocks, Nil, Cons, join, one, block_and_ending}
+pub use Rattle.definition_block.specs.Blocks.{
+  Block,
+  Paragraph,
+  Heading,
+  Break,
+  IndentedCode,
+  FencedCode,
+  Html,
+  Table,
+  Definition,
+  Holds,
+  Items,
+  Ending,
+  Blank,
+  Blocks,
+  Nil,
+  Cons,
+  join,
+  one,
+  block_and_ending,
+}
 use Rattle.definition_text.specs.Content.{Part}
 use Rattle.definition_text.specs.Columns.{Rest, whole, is_white, is_blank, bare, block_codes}
 use Rattle.definition_text.specs.Indents.{outdent}
@@ -31,7 +51,9 @@ use Rattle.definition_block.specs.GfmTable.{delimiter_row, is_head}
 
 -- ---- what is open
 
--- A leaf block that is open: a paragraph with its lines, none where no leaf is open; indented code with its lines, and the blank lines after them, which may turn out to be no part of it; fenced code with its fence, the ending of the fence's line, and its lines; an HTML block with its kind and its lines; a table with its lines.
+-- A leaf block that is open: a paragraph with its lines, none where no leaf is open; indented code with its lines, and the blank lines after them, which may
+-- turn out to be no part of it; fenced code with its fence, the ending of the fence's line, and its lines; an HTML block with its kind and its lines; a table
+-- with its lines.
 pub data OpenLeaf : Type 0 where
   Text : List BlockLine → OpenLeaf
   Indented : List BlockLine → List BlockLine → OpenLeaf
@@ -111,7 +133,8 @@ last_of Nil = Nil
 last_of (Cons b Nil) = if is_ending b then one b else Nil
 last_of (Cons b (Cons c bs)) = last_of (Cons c bs)
 
--- A container ends right before the ending of its last line. Each line of a quote has its marker; blank lines at the end of an item or a footnote definition are not its own.
+-- A container ends right before the ending of its last line. Each line of a quote has its marker; blank lines at the end of an item or a footnote definition
+-- are not its own.
 abbrev pub holds : Container → Blocks → Blocks
 holds Quote kids = Cons (Holds Quote (without_last kids)) (last_of kids)
 holds (Item item) kids = Cons (Holds (Item item) (front kids)) (trailing kids)
@@ -213,7 +236,8 @@ abbrev pub or_html : Rest → Beside → Option ℕ → Option Tree → Option T
 or_html rest beside None other = other
 or_html rest beside (Some kind) other = Some (html_with kind [] rest beside)
 
--- the leaf that a rest begins, other than a paragraph or a break: indented code, which can't interrupt a paragraph, fenced code, math, an HTML block, or an ATX heading, in this order
+-- the leaf that a rest begins, other than a paragraph or a break: indented code, which can't interrupt a paragraph, fenced code, math, an HTML block, or an ATX
+-- heading, in this order
 abbrev pub begins : Constructs → Bool → Rest → Beside → Option Tree
 begins on paragraph rest beside =
     if starts_code_indented on rest && not paragraph then Some (tree Nil (Leaf (Indented (rest_line (outdent 4 rest) beside ∷ []) [])))
@@ -226,7 +250,8 @@ begins on paragraph rest beside =
 abbrev pub after : Constructs → Opening → Tree → Tree
 after on away t = tree (join (close on away) t.done) t.now
 
--- a line of text goes on the open paragraph, also where it isn't in all of its containers, or is a row of the open table, or starts a paragraph (CommonMark 4.8 and GFM 4.10)
+-- a line of text goes on the open paragraph, also where it isn't in all of its containers, or is a row of the open table, or starts a paragraph (CommonMark 4.8
+-- and GFM 4.10)
 abbrev pub text_line_of : Constructs → Opening → Rest → Beside → Tree
 text_line_of on away rest beside =
     if has_text away || has_table away then tree Nil (with_line (rest_line rest beside) away)
@@ -258,7 +283,8 @@ table_of definitions ls row =
     let head = length ls - 1 in
     tree (join definitions (paragraph_of (take head ls))) (Leaf (OpenTable (drop head ls ++ row ∷ [])))
 
--- what a row of delimiters makes of a paragraph's lines, where there is one, and something is left of them after their definitions, of which the last has as many cells
+-- what a row of delimiters makes of a paragraph's lines, where there is one, and something is left of them after their definitions, of which the last has as
+-- many cells
 abbrev pub table_if : Constructs → Option (List AlignKind) → List BlockLine → BlockLine → Option Tree
 table_if on None ls row = None
 table_if on (Some columns) ls row =

@@ -3,7 +3,8 @@ use Rattle.std.proofs.Common.{inl, inr, ◌≡◌, ℕ, zero, suc, ◌-◌, ◌<
 use Rattle.std.specs.Prelude.{◌==◌}
 use Rattle.std.proofs.lemmas.Grind.{common_steps}
 use Rattle.std.proofs.lemmas.Bool.{cases_lt, eq-eqb, ne_eqb}
-use Rattle.definition_inline.specs.Pairing.{OpenRun, Pairing, is_eligible, taken_by, without, with_opener, with_pair, up_to_nearest, nearest, pair_or_open, close, next_run}
+use Rattle.definition_inline.specs.Pairing.{OpenRun, Pairing, is_eligible, taken_by, without, with_opener, with_pair, up_to_nearest, nearest, pair_or_open}
+use Rattle.definition_inline.specs.Pairing.{close, next_run}
 use Rattle.definition_inline.proofs.NearestOpener.{nearest_eligible}
 
 -- an eligible pair takes something, and no more than is left
@@ -73,7 +74,8 @@ step_on (suc n) s c left some =
     let yes = nearest_eligible s.openers c some in
     let some_taken = takes_some o c yes in
     let within = takes_left o c yes in
-    ap (λ k. close k s c) left ∙ goes_on n s c some ∙ close_enough n (c.run.left - taken_by o c) (with_pair s o c) (without (taken_by o c) c) (omega arith) (omega arith)
+    ap (λ k. close k s c) left ∙ goes_on n s c some ∙ close_enough n (c.run.left - taken_by o c) (with_pair s o c) (without (taken_by o c) c) (omega arith)
+    (omega arith)
 
 -- a run that closes something, pair by pair
 pub next_run_pairs : (s : Pairing) (c : OpenRun) → 0 < up_to_nearest s.openers c

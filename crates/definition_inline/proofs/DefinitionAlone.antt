@@ -1,5 +1,6 @@
 -- A definition at the front of a content is the same without what follows it.
-use Rattle.std.proofs.Common.{◌≡◌, ℕ, Bool, true, false, cond, ◌||◌, eqb, List, [], ◌∷◌, ◌++◌, Option, None, Some, refl, sym, ap, ◌∙◌, ◌⊎◌, inl, inr, append_assoc}
+use Rattle.std.proofs.Common.{◌≡◌, ℕ, Bool, true, false, cond, ◌||◌, eqb, List, [], ◌∷◌, ◌++◌, Option, None, Some, refl, sym, ap, ◌∙◌, ◌⊎◌, inl, inr}
+use Rattle.std.proofs.Common.{append_assoc}
 use Rattle.std.proofs.lemmas.Bool.{cases_Bool, cond-true}
 use Rattle.std.proofs.lemmas.Option.{none-some, cond_some}
 use Rattle.definition_text.specs.Columns.{is_white}
@@ -8,8 +9,10 @@ use Rattle.definition_inline.specs.Space.{after_spaces, after_ending, after_whit
 use Rattle.definition_inline.specs.Label.{label_at}
 use Rattle.definition_inline.specs.Destination.{destination_at}
 use Rattle.definition_inline.specs.Title.{title_at}
-use Rattle.definition_inline.specs.Definition.{Definition, definition, next_line_after, next_line, definition_before, with_title, definition_with_title, definition_without_title, or_definition_without_title, with_destination, with_colon, with_label, definition_at}
-use Rattle.definition_inline.proofs.DefinitionParts.{the_same, EndsHere, Whatever, label_reads, title_reads, destination_reads, cons_nil, spaces_pass, spaces_stop, spaces_leave, white_leaves}
+use Rattle.definition_inline.specs.Definition.{Definition, definition, next_line_after, next_line, definition_before, with_title, definition_with_title}
+use Rattle.definition_inline.specs.Definition.{definition_without_title, or_definition_without_title, with_destination, with_colon, with_label, definition_at}
+use Rattle.definition_inline.proofs.DefinitionParts.{the_same, EndsHere, Whatever, label_reads, title_reads, destination_reads, cons_nil, spaces_pass}
+use Rattle.definition_inline.proofs.DefinitionParts.{spaces_stop, spaces_leave, white_leaves}
 
 -- these codes, and then nothing, or a line ending and the rest
 abbrev pub EndsLine : List ℕ → List ℕ → List ℕ → Type 0
@@ -103,7 +106,8 @@ title_found : (label text : List ℕ) (o : Option Part) (d : Definition) → wit
 title_found label text None d h = absurd (none-some d h)
 title_found label text (Some title) d h = (title, refl, h)
 
-with_its_title : (label text cs : List ℕ) (d : Definition) → definition_with_title label (part text cs) ≡ Some d → Again (λ own. definition_with_title label (part text own)) EndsHere cs d
+with_its_title : (label text cs : List ℕ) (d : Definition) → definition_with_title label (part text cs) ≡ Some d
+    → Again (λ own. definition_with_title label (part text own)) EndsHere cs d
 with_its_title label text cs d h =
     let both = if_there (begins_with_space cs) (with_title label text (title_at (after_white cs))) d h in
     let there = title_found label text (title_at (after_white cs)) d both.1 in
@@ -130,11 +134,13 @@ with_its_title label text cs d h =
           (ends_after (reads.first ∷ reads.more) title.rest over.own d.rest over.ends));
     }
 
-after_destination : (label text cs : List ℕ) (d : Definition) → or_definition_without_title label (part text cs) (definition_with_title label (part text cs)) ≡ Some d
+after_destination : (label text cs : List ℕ) (d : Definition) → or_definition_without_title label (part text cs) (definition_with_title label (part text cs))
+    ≡ Some d
     → Again (λ own. or_definition_without_title label (part text own) (definition_with_title label (part text own))) EndsHere cs d
 after_destination label text cs d h = go (definition_with_title label (part text cs)) refl
   where
-    go : (o : Option Definition) → definition_with_title label (part text cs) ≡ o → Again (λ own. or_definition_without_title label (part text own) (definition_with_title label (part text own))) EndsHere cs d
+    go : (o : Option Definition) → definition_with_title label (part text cs) ≡ o
+        → Again (λ own. or_definition_without_title label (part text own) (definition_with_title label (part text own))) EndsHere cs d
     go None e = without_title label text cs d (sym (ap (or_definition_without_title label (part text cs)) e) ∙ h)
     go (Some x) e =
         let more = with_its_title label text cs d (e ∙ sym (ap (or_definition_without_title label (part text cs)) e) ∙ h) in

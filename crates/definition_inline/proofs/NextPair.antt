@@ -1,5 +1,6 @@
 -- The pairs that the definition computes: each is the next one.
-use Rattle.std.proofs.Common.{inl, inr, ◌≡◌, ℕ, zero, suc, ◌+◌, ◌-◌, ◌<◌, ◌≤◌, List, [], ◌∷◌, ◌++◌, Bool, true, false, not, ◌&&◌, ◌||◌, refl, sym, ap, ◌∙◌, length, get_or, take, arith, subst, append_assoc}
+use Rattle.std.proofs.Common.{inl, inr, ◌≡◌, ℕ, zero, suc, ◌+◌, ◌-◌, ◌<◌, ◌≤◌, List, [], ◌∷◌, ◌++◌, Bool, true, false, not, ◌&&◌, ◌||◌, refl, sym, ap, ◌∙◌}
+use Rattle.std.proofs.Common.{length, get_or, take, arith, subst, append_assoc}
 use Rattle.std.specs.List.{fold}
 use Rattle.std.specs.Prelude.{nat_lt, ◌==◌}
 use Rattle.std.proofs.lemmas.Bool.{cases_lt, cases_Bool, cond-true, cond-false, both_ways, or_from, ne_eqb, lt-ltb, le-ltb}
@@ -7,8 +8,10 @@ use Rattle.std.proofs.lemmas.Grind.{common_steps}
 use Rattle.std.proofs.Math.Seq.{get_or-append_seam}
 use Rattle.std.proofs.lemmas.List.{append-nil, get_or-take, get_or_append_left, get_or-append-add, length-take, length-append, get_or_default, get_or_past}
 use Rattle.definition_inline.specs.Attention.{Run}
-use Rattle.definition_inline.specs.Pairing.{Pair, OpenRun, open_run, Pairing, pairing, is_eligible, taken_by, without, openers_of, pair_of, with_opener, with_pair, up_to_nearest, nearest, close, next_run, placed_from, pairs}
-use Rattle.definition_inline.specs.NextPair.{no_run, run_of, taken_at, used, left_at, is_inside, last_closer, IsEligiblePair, IsNextPair, AreNext, NoMore, NextIs}
+use Rattle.definition_inline.specs.Pairing.{Pair, OpenRun, open_run, Pairing, pairing, is_eligible, taken_by, without, openers_of, pair_of, with_opener}
+use Rattle.definition_inline.specs.Pairing.{with_pair, up_to_nearest, nearest, close, next_run, placed_from, pairs}
+use Rattle.definition_inline.specs.NextPair.{no_run, run_of, taken_at, used, left_at, is_inside, last_closer, IsEligiblePair, IsNextPair, AreNext, NoMore}
+use Rattle.definition_inline.specs.NextPair.{NextIs}
 use Rattle.definition_inline.proofs.NearestOpener.{nearest_eligible, none_after}
 use Rattle.definition_inline.proofs.ClosingRuns.{takes_some, takes_left, stops, goes_on}
 
@@ -469,7 +472,11 @@ rest done [] runs place ps s e size h fresh =
     record {
       added = [];
       same = sym (append-nil s.pairs);
-      next = NoMore ps (λ i j after pair. elim (cases_lt j place) [ inl below ↦ h.none i j after below pair | inr past ↦ none_past runs ps i j (omega arith) pair ]);
+      next = NoMore ps (λ i j after pair. elim (cases_lt j place) [
+        | inl below ↦ h.none i j after below pair
+        | inr past ↦ none_past runs ps i j
+            (omega arith) pair
+      ]);
     }
 rest done (r ∷ others) runs place ps s e size h fresh =
     let there : run_of runs place ≡ r =

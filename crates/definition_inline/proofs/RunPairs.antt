@@ -6,7 +6,8 @@ use Rattle.std.proofs.lemmas.Bool.{cases_lt}
 use Rattle.std.proofs.lemmas.List.{append-nil}
 use Rattle.std.proofs.lemmas.List.Sums.{suffix_len-le-length}
 use Rattle.definition_inline.specs.Attention.{Run}
-use Rattle.definition_inline.specs.Pairing.{Pair, OpenRun, Pairing, pairing, is_eligible, taken_by, without, pair_of, with_pair, up_to_nearest, nearest, close, next_run, placed_from, pairs}
+use Rattle.definition_inline.specs.Pairing.{Pair, OpenRun, Pairing, pairing, is_eligible, taken_by, without, pair_of, with_pair, up_to_nearest, nearest, close}
+use Rattle.definition_inline.specs.Pairing.{next_run, placed_from, pairs}
 use Rattle.definition_inline.specs.RunPairs.{ArePairs, NoRuns, Opens, Closes}
 use Rattle.definition_inline.proofs.NearestOpener.{nearest_eligible, none_after}
 use Rattle.definition_inline.proofs.ClosingRuns.{takes_some, takes_left, stops, goes_on}

@@ -1,5 +1,6 @@
 -- Autolinks (CommonMark 6.5): an absolute URI or an email address between `<` and `>`.
-use Rattle.std.specs.Prelude.{ℕ, ◌+◌, ◌-◌, Bool, true, false, if◌then◌else◌, not, ◌==◌, ◌&&◌, ◌||◌, nat_le, nat_lt, List, [], ◌∷◌, Option, None, Some, codes, drop, length, slice_index}
+use Rattle.std.specs.Prelude.{ℕ, ◌+◌, ◌-◌, Bool, true, false, if◌then◌else◌, not, ◌==◌, ◌&&◌, ◌||◌, nat_le, nat_lt, List, [], ◌∷◌, Option, None, Some, codes}
+use Rattle.std.specs.Prelude.{drop, length, slice_index}
 use Rattle.std.specs.List.{prefix_len, take_while, list_all, list_any}
 use Rattle.markdown_options.specs.declared.configuration.Constructs.{Constructs}
 use Rattle.definition_text.specs.Ascii.{plus, hyphen, dot, less_than, greater_than, delete}

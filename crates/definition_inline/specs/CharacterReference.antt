@@ -64,7 +64,8 @@ abbrev pub reference_form : List ℕ → Option CharacterReference
 reference_form [] = None
 reference_form (c ∷ cs) = if c == ampersand then reference_after cs else None
 
--- a number that stands for no character of a text: NUL, the control characters but tab, line feed, form feed and return, surrogates, noncharacters, and all above U+10FFFF
+-- a number that stands for no character of a text: NUL, the control characters but tab, line feed, form feed and return, surrogates, noncharacters, and all
+-- above U+10FFFF
 abbrev pub is_replaced : ℕ → Bool
 is_replaced number =
     nat_le number 8 || (number == 11) || is_in_range 14 31 number || is_in_range 127 159 number

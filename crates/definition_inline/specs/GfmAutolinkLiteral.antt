@@ -1,16 +1,19 @@
 -- Links with no brackets (GFM 6.9): addresses after `www.`, `http://` and `https://`, and email addresses.
-use Rattle.std.specs.Prelude.{ℕ, zero, suc, ◌+◌, ◌-◌, Bool, true, false, if◌then◌else◌, not, ◌==◌, ◌&&◌, ◌||◌, nat_le, nat_lt, List, [], ◌∷◌, ◌++◌, Option, None, Some, codes, map, take, drop, length, reverse, slice_index, slice_index_or}
+use Rattle.std.specs.Prelude.{ℕ, zero, suc, ◌+◌, ◌-◌, Bool, true, false, if◌then◌else◌, not, ◌==◌, ◌&&◌, ◌||◌, nat_le, nat_lt, List, [], ◌∷◌, ◌++◌, Option}
+use Rattle.std.specs.Prelude.{None, Some, codes, map, take, drop, length, reverse, slice_index, slice_index_or}
 use Rattle.std.specs.List.{prefix_len, suffix_len, filter, list_any}
 use Rattle.std.specs.Str.{bytes_eq}
 use Rattle.markdown_options.specs.declared.configuration.Constructs.{Constructs}
-use Rattle.definition_text.specs.Ascii.{left_parenthesis, right_parenthesis, dot, slash, semicolon, less_than, at_sign, left_bracket, right_bracket, underscore, delete}
+use Rattle.definition_text.specs.Ascii.{left_parenthesis, right_parenthesis, dot, slash, semicolon, less_than, at_sign, left_bracket, right_bracket, underscore}
+use Rattle.definition_text.specs.Ascii.{delete}
 use Rattle.definition_text.specs.declared.beside.Kind.{Kind}
 use Rattle.definition_text.specs.Bytes.{is_letter, is_letter_or_digit, same_caselessly, begins_with}
 use Rattle.definition_text.specs.Columns.{is_white}
 use Rattle.definition_text.specs.Content.{is_eol, is_space}
 use Rattle.definition_text.specs.InlineCode.{InlineCode, codes_of, is_continuation}
 use Rattle.definition_inline.specs.Attention.{is_other}
-use Rattle.definition_inline.specs.Inline.{LiteralKind, Www, Protocol, Email, Inline, Data, Literal, Emphasis, Strong, Strikethrough, Link, Image, Inlines, Nil, Cons, Leaf, leaf}
+use Rattle.definition_inline.specs.Inline.{LiteralKind, Www, Protocol, Email, Inline, Data, Literal, Emphasis, Strong, Strikethrough, Link, Image, Inlines, Nil}
+use Rattle.definition_inline.specs.Inline.{Cons, Leaf, leaf}
 
 -- ---- where a literal begins
 

@@ -45,7 +45,8 @@ is_attribute_byte b = is_letter_or_digit b || (b == underscore) || (b == dot) ||
 
 -- a byte of an unquoted attribute value: no white space, `"`, `'`, `=`, `<`, `>` or backtick
 abbrev pub is_unquoted : ℕ → Bool
-is_unquoted b = not (is_tag_space b || (b == double_quote) || (b == single_quote) || (b == equals) || (b == less_than) || (b == greater_than) || (b == backtick))
+is_unquoted b =
+    not (is_tag_space b || (b == double_quote) || (b == single_quote) || (b == equals) || (b == less_than) || (b == greater_than) || (b == backtick))
 
 -- the rest of a quoted value, up to the quote that closes it
 abbrev pub quoted_value : ℕ → List ℕ → Option (List ℕ)
@@ -60,7 +61,8 @@ unquoted_value (b ∷ bs) = if is_unquoted b then Some (after_all is_unquoted bs
 -- an attribute value
 abbrev pub value : List ℕ → Option (List ℕ)
 value [] = None
-value (b ∷ bs) = if b == double_quote then quoted_value double_quote bs else (if b == single_quote then quoted_value single_quote bs else unquoted_value (b ∷ bs))
+value (b ∷ bs) = if b == double_quote then quoted_value double_quote bs else (if b == single_quote then quoted_value single_quote bs
+    else unquoted_value (b ∷ bs))
 
 -- `=`, optional white space and a value; without a `=` what follows is given
 abbrev pub value_or : List ℕ → List ℕ → Option (List ℕ)

@@ -6,7 +6,8 @@ use Rattle.definition_inline.specs.Inline.{Data, Leaf}
 use Rattle.definition_inline.specs.Attention.{Run, run_at}
 use Rattle.definition_inline.specs.Spans.{Token, Item, Delimiters}
 use Rattle.definition_inline.specs.LabelEnd.{LinkOrCall, formed_size}
-use Rattle.definition_inline.specs.Scan.{InlineContext, leaf_here, LabelStart, label_start_at, start_more, OpenLabel, Text, text, with_tokens, with_plain_start, with_link_or_call, ended_by}
+use Rattle.definition_inline.specs.Scan.{InlineContext, leaf_here, LabelStart, label_start_at, start_more, OpenLabel, Text, text, with_tokens, with_plain_start}
+use Rattle.definition_inline.specs.Scan.{with_link_or_call, ended_by}
 
 -- A stretch of a content: tokens; a label start with the codes after it; a `]` with the codes from it on, and what it forms, if anything.
 pub data Stretch : Type 0 where
@@ -56,7 +57,8 @@ abbrev pub ended_text : OpenLabel → Text → Option LinkOrCall → Text
 ended_text label inner None = with_tokens (with_plain_start label inner) (Item (Data right_bracket) ∷ [])
 ended_text label inner (Some found) = with_link_or_call label found inner
 
--- Stretches whose label starts are all taken, each by the `]` that matches it, and the text that they stand for. What a pair forms depends on the text between, on whether that holds a link, and on what follows. At the top a `]` may be left over, which forms nothing.
+-- Stretches whose label starts are all taken, each by the `]` that matches it, and the text that they stand for. What a pair forms depends on the text between,
+-- on whether that holds a link, and on what follows. At the top a `]` may be left over, which forms nothing.
 pub data IsText (context : InlineContext) : Bool → List Stretch → Text → Type 0 where
   Nothing : (top : Bool) → IsText context top [] (text [] false)
   More : (top : Bool) (ss : List Stretch) (t : Text) (tokens : List Token) → IsText context top ss t

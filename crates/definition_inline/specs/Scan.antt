@@ -1,5 +1,6 @@
 -- The inline structure of a content, from left to right (CommonMark 6 and appendix, phase 2).
-use Rattle.std.specs.Prelude.{ℕ, zero, suc, ◌+◌, ◌-◌, Bool, true, false, not, if◌then◌else◌, ◌==◌, ◌&&◌, ◌||◌, List, [], ◌∷◌, ◌++◌, Option, None, Some, codes, map, drop}
+use Rattle.std.specs.Prelude.{ℕ, zero, suc, ◌+◌, ◌-◌, Bool, true, false, not, if◌then◌else◌, ◌==◌, ◌&&◌, ◌||◌, List, [], ◌∷◌, ◌++◌, Option, None, Some, codes}
+use Rattle.std.specs.Prelude.{map, drop}
 use Rattle.std.specs.List.{fold, prefix_len}
 use Rattle.markdown_options.specs.declared.configuration.Constructs.{Constructs}
 use Rattle.markdown_options.specs.declared.configuration.ParseOptions.{ParseOptions}
@@ -22,7 +23,8 @@ use Rattle.definition_inline.specs.GfmLabelStartFootnote.{starts_call, starts_ma
 use Rattle.definition_inline.specs.Attention.{Run, run_at}
 use Rattle.definition_inline.specs.Spans.{Token, Item, Delimiters, with_spans}
 
--- what a content is read by: the options, the texts of named characters, and whether a label is that of a link reference definition, and of a footnote definition, of the document
+-- what a content is read by: the options, the texts of named characters, and whether a label is that of a link reference definition, and of a footnote
+-- definition, of the document
 pub record InlineContext : Type 0 where
   pub options : ParseOptions
   pub names : Names
@@ -31,7 +33,8 @@ pub record InlineContext : Type 0 where
 
 -- ---- constructs that hold no other
 
--- the construct that a content begins with, if it holds no other; two of them begin with one byte only where the first of them goes first: an escape and a break, an autolink and HTML
+-- the construct that a content begins with, if it holds no other; two of them begin with one byte only where the first of them goes first: an escape and a
+-- break, an autolink and HTML
 abbrev pub leaf_at : InlineContext → List ℕ → Option Leaf
 leaf_at context content =
     or_else (escape_at context.options.constructs content)

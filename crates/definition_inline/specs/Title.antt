@@ -11,7 +11,8 @@ ends_title close escaped code = ((code == close) || ((close == right_parenthesis
 abbrev pub ends_blank_line : Bool → ℕ → Bool
 ends_blank_line start code = start && is_eol code
 
--- the rest from the code on that closes a title, after its text without a blank line; whether only spaces and tabs stand since the last line ending is given (CommonMark 6.3)
+-- the rest from the code on that closes a title, after its text without a blank line; whether only spaces and tabs stand since the last line ending is given
+-- (CommonMark 6.3)
 abbrev pub title_end : ℕ → Bool → Bool → List ℕ → Option (List ℕ)
 title_end close escaped start [] = None
 title_end close escaped start (c ∷ cs) =

@@ -10,7 +10,8 @@ use Rattle.definition_page.specs.Tags.{Said, Words, Number, Attribute, attribute
 use Rattle.definition_page.specs.Pieces.{Piece, Void, Says, Eol, Fresh, NoteStart, NoteEnd}
 use Rattle.definition_page.specs.InlinePieces.{Meaning, raw_html, element, inline_pieces}
 use Rattle.definition_page.specs.GfmTable.{table_pieces}
-use Rattle.definition_page.specs.Page.{Page, Block, Paragraph, Heading, Break, IndentedCode, FencedCode, Html, Table, Definition, Quote, ItemList, Item, Footnote, Ending, Blank, Blocks, Nil, Cons}
+use Rattle.definition_page.specs.Page.{Page, Block, Paragraph, Heading, Break, IndentedCode, FencedCode, Html, Table, Definition, Quote, ItemList, Item}
+use Rattle.definition_page.specs.Page.{Footnote, Ending, Blank, Blocks, Nil, Cons}
 
 -- where a block stands: at the top of the document or in a container, and whether in an item of a tight list, whose paragraphs have no tags (CommonMark 5.3)
 pub record Place : Type 0 where

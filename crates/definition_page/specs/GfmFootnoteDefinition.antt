@@ -1,5 +1,6 @@
 -- The footnotes at a page's end, and what they print (in no standard; as GitHub prints them).
-use Rattle.std.specs.Prelude.{ℕ, zero, suc, ◌-◌, Bool, if◌then◌else◌, ◌==◌, ◌||◌, nat_le, List, [], ◌∷◌, ◌++◌, Option, None, Some, String, string_bytes, codes, take, drop, length}
+use Rattle.std.specs.Prelude.{ℕ, zero, suc, ◌-◌, Bool, if◌then◌else◌, ◌==◌, ◌||◌, nat_le, List, [], ◌∷◌, ◌++◌, Option, None, Some, String, string_bytes, codes}
+use Rattle.std.specs.Prelude.{take, drop, length}
 use Rattle.std.specs.List.{flat_map, suffix_len}
 use Rattle.markdown_options.specs.declared.configuration.CompileOptions.{CompileOptions}
 use Rattle.definition_text.specs.Ascii.{line_feed, carriage_return}

@@ -15,7 +15,8 @@ filtered_names =
 -- a tab, a line or form feed, a return, a space, `/`, `>` or the end of the line
 abbrev pub ends_filtered_name : List ℕ → Bool
 ends_filtered_name [] = true
-ends_filtered_name (b ∷ bs) = (b == tab) || (b == line_feed) || (b == form_feed) || (b == carriage_return) || (b == space) || (b == slash) || (b == greater_than)
+ends_filtered_name (b ∷ bs) = (b == tab) || (b == line_feed) || (b == form_feed) || (b == carriage_return) || (b == space) || (b == slash)
+    || (b == greater_than)
 
 -- the letters of one of these names, and what ends it
 abbrev pub begins_with_filtered_name : List ℕ → Bool

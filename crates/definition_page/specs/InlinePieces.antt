@@ -6,7 +6,9 @@ use Rattle.markdown_options.specs.declared.configuration.CompileOptions.{Compile
 use Rattle.definition_text.specs.Columns.{bytes_of, bare}
 use Rattle.definition_text.specs.Content.{is_eol}
 use Rattle.definition_text.specs.Encode.{plain}
-use Rattle.definition_inline.specs.Inline.{Target, Resource, Reference, Linked, linked, LiteralKind, Www, Protocol, Email, Inline, Data, Escape, Character, Code, Math, Autolink, Literal, Html, EscapedBreak, TrailingBreak, LineEnd, Emphasis, Strong, Strikethrough, Link, Image, Call, Inlines, Nil, Cons}
+use Rattle.definition_inline.specs.Inline.{Target, Resource, Reference, Linked, linked, LiteralKind, Www, Protocol, Email, Inline, Data, Escape, Character}
+use Rattle.definition_inline.specs.Inline.{Code, Math, Autolink, Literal, Html, EscapedBreak, TrailingBreak, LineEnd, Emphasis, Strong, Strikethrough, Link}
+use Rattle.definition_inline.specs.Inline.{Image, Call, Inlines, Nil, Cons}
 use Rattle.definition_inline.specs.LabelMatch.{normal_label, first_match}
 use Rattle.definition_inline.specs.Strings.{string_text}
 use Rattle.definition_page.specs.GfmTagfilter.{filter_if}
@@ -14,7 +16,8 @@ use Rattle.definition_page.specs.Urls.{percent, sanitize, permitted, href_protoc
 use Rattle.definition_page.specs.Tags.{Said, Words, AsItIs, EndOfLine, Attribute, attribute, Tag, tag, bare_tag}
 use Rattle.definition_page.specs.Pieces.{Piece, Open, Close, Void, Says, CallOf, CountOf}
 
--- what is printed by: the constructs that are on, the options, the texts of named characters, what the definition of a label leads to, and the labels of the footnote definitions, in the order in which these end
+-- what is printed by: the constructs that are on, the options, the texts of named characters, what the definition of a label leads to, and the labels of the
+-- footnote definitions, in the order in which these end
 pub record Meaning : Type 0 where
   pub on : Constructs
   pub compile : CompileOptions

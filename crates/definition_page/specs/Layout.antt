@@ -6,7 +6,8 @@ use Rattle.definition_page.specs.Pieces.{Piece, CallOf, CountOf, NoteStart, Note
 use Rattle.definition_page.specs.GfmLabelStartFootnote.{Call, call_pieces}
 use Rattle.definition_page.specs.GfmFootnoteDefinition.{Footnote, section_pieces}
 
--- a footnote that is called: its place among the footnotes of the document, in the order in which these end, its label as labels are matched, and how many calls it has so far
+-- a footnote that is called: its place among the footnotes of the document, in the order in which these end, its label as labels are matched, and how many
+-- calls it has so far
 pub record NoteCalls : Type 0 where
   pub place : ℕ
   pub label : List ℕ
@@ -24,7 +25,8 @@ latest_call place number [] = record { label = []; number = number; count = 0 }
 latest_call place number (c ∷ cs) =
     if c.place == place then record { label = c.label; number = number; count = c.count } else latest_call place (suc number) cs
 
--- what was laid out: the innermost text that is open, which is the page or the content of a footnote, those around it, the contents of the footnotes that have ended, and the footnotes that are called
+-- what was laid out: the innermost text that is open, which is the page or the content of a footnote, those around it, the contents of the footnotes that have
+-- ended, and the footnotes that are called
 pub record Laid : Type 0 where
   pub text : List ℕ
   pub outer : List (List ℕ)

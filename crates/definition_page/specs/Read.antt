@@ -97,7 +97,8 @@ abbrev pub info_text : Reading → List ℕ → Option (List ℕ)
 info_text r [] = None
 info_text r (b ∷ bs) = Some (string_text r.options.constructs r.tables.names (b ∷ bs))
 
--- Fenced code that isn't closed ends with its container or the text. In a container the ending of its last line stands outside; at the top it is one of its content, and is said there alone (CommonMark 4.5).
+-- Fenced code that isn't closed ends with its container or the text. In a container the ending of its last line stands outside; at the top it is one of its
+-- content, and is said there alone (CommonMark 4.5).
 abbrev pub code_lines : Bool → Bool → List BlockLine → List BlockLine
 code_lines top is_closed ls = if top || is_closed then ls else own_lines ls
 
@@ -155,7 +156,12 @@ ends_blank before (tree.Cons b bs) = ends_blank (is_blank_ending b) bs
 -- the page of these children of a document, whose labels lead to these targets
 abbrev pub page_with : TextTables → ParseOptions → Targets → tree.Blocks → Page
 page_with tables options t bs =
-    record { blocks = read_blocks (reading tables options t) on_page (group_items bs); definitions = t.definitions; footnotes = t.footnotes; ends_blank = ends_blank false bs }
+    record {
+      blocks = read_blocks (reading tables options t) on_page (group_items bs);
+      definitions = t.definitions;
+      footnotes = t.footnotes;
+      ends_blank = ends_blank false bs;
+    }
 
 -- the page of the children of a document: items are grouped to lists, and contents read by all of its definitions
 abbrev pub page_of : TextTables → ParseOptions → tree.Blocks → Page

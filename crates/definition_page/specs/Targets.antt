@@ -35,7 +35,8 @@ linked_by ds label = option_map (linked_at ds) (first_match label (labels_of ds)
 abbrev pub is_label_of : List Definition → List ℕ → Bool
 is_label_of ds label = is_some (first_match label (labels_of ds))
 
--- what the labels of a document lead to: its link reference definitions, in the order of the text, and the labels of its footnote definitions, in the order in which these end; repeats kept
+-- what the labels of a document lead to: its link reference definitions, in the order of the text, and the labels of its footnote definitions, in the order in
+-- which these end; repeats kept
 pub record Targets : Type 0 where
   pub definitions : List Definition
   pub footnotes : List (List ℕ)

@@ -3,7 +3,8 @@ use Rattle.std.specs.Prelude.{ℕ, ◌+◌, ◌-◌, ◌%◌, Bool, not, if◌th
 use Rattle.std.specs.List.{prefix_len, suffix_len, list_all, filter}
 use Rattle.definition_text.specs.Ascii.{tab, space}
 
--- A rest of a line is a list of codes, one for each column: a byte, or 256 for each column of a tab after its first. Where a prefix ends inside a tab, the rest begins with the columns that are left of it.
+-- A rest of a line is a list of codes, one for each column: a byte, or 256 for each column of a tab after its first. Where a prefix ends inside a tab, the rest
+-- begins with the columns that are left of it.
 abbrev pub Rest : Type 0
 Rest = List ℕ
 

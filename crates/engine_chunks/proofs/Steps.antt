@@ -17,8 +17,10 @@ module _ (events children : List Event) where
     pub places : found ++ places_of events ks children from removed added ≡ all
     pub counts : counts events ks children from removed added ≡ counted
 
-  pub placing : (found found' : Places) (ks rest : List ℕ) (k size from removed added : ℕ) (all : Places) (counted : ℕ × ℕ) → ks ≡ k ∷ rest → size ≡ part_size events k (drop from children)
-      → found' ≡ found ++ rising ((k - removed) + added) size → Placing found ks from removed added all counted → Placing found' rest (from + size) (removed + 2) (added + size) all counted
+  pub placing : (found found' : Places) (ks rest : List ℕ) (k size from removed added : ℕ) (all : Places) (counted : ℕ × ℕ) → ks ≡ k ∷ rest
+      → size ≡ part_size events k (drop from children)
+      → found' ≡ found ++ rising ((k - removed) + added) size → Placing found ks from removed added all counted
+      → Placing found' rest (from + size) (removed + 2) (added + size) all counted
   placing found found' ks rest k size from removed added all counted eks es ef h =
       let n = part_size events k (drop from children) in
       let g = subst (λ (z : List ℕ). Placing found z from removed added all counted) eks h in
@@ -30,13 +32,17 @@ module _ (events children : List Event) where
       } in
       subst (λ (z : ℕ). Placing found' rest (from + z) (removed + 2) (added + z) all counted) (sym es) made
 
-  pub parting : (ps : Places) (edits edits' : List Placed) (part : List Event) (ks rest : List ℕ) (k size from : ℕ) (all : List Placed) → ks ≡ k ∷ rest → size ≡ part_size events k (drop from children)
+  pub parting : (ps : Places) (edits edits' : List Placed) (part : List Event) (ks rest : List ℕ) (k size from : ℕ) (all : List Placed) → ks ≡ k ∷ rest
+      → size ≡ part_size events k (drop from children)
       → part ≡ map (with_new_links ps) (take ((from + size) - from) (drop from children)) → edits' ≡ with_edit false k 2 part edits
       → divided_at events ks children ps from edits ≡ all → divided_at events rest children ps (from + size) edits' ≡ all
   parting ps edits edits' part ks rest k size from all eks es ep ee h =
       let n = part_size events k (drop from children) in
       let g = subst (λ (z : List ℕ). divided_at events z children ps from edits ≡ all) eks h in
       let e : (from + size) - from ≡ size = omega arith in
-      let p : part ≡ map (with_new_links ps) (take n (drop from children)) = ep ∙ ap (λ (z : ℕ). map (with_new_links ps) (take z (drop from children))) (e ∙ es) in
-      let q : edits' ≡ with_edit false k 2 (map (with_new_links ps) (take n (drop from children))) edits = ee ∙ ap (λ (z : List Event). with_edit false k 2 z edits) p in
-      subst (λ (z : ℕ). divided_at events rest children ps (from + z) edits' ≡ all) (sym es) (ap (λ (z : List Placed). divided_at events rest children ps (from + n) z) q ∙ g)
+      let p : part ≡ map (with_new_links ps) (take n (drop from children)) =
+      ep ∙ ap (λ (z : ℕ). map (with_new_links ps) (take z (drop from children))) (e ∙ es) in
+      let q : edits' ≡ with_edit false k 2 (map (with_new_links ps) (take n (drop from children))) edits =
+      ee ∙ ap (λ (z : List Event). with_edit false k 2 z edits) p in
+      subst (λ (z : ℕ). divided_at events rest children ps (from + z) edits' ≡ all) (sym es)
+      (ap (λ (z : List Placed). divided_at events rest children ps (from + n) z) q ∙ g)

@@ -9,7 +9,8 @@ use Rattle.engine_chunks.specs.Chunks.{chunks, part_size}
 abbrev pub places_of : List Event → List ℕ → List Event → ℕ → ℕ → ℕ → Places
 places_of events [] children from removed added = []
 places_of events (k ∷ ks) children from removed added =
-    let size = part_size events k (drop from children) in rising ((k - removed) + added) size ++ places_of events ks children (from + size) (removed + 2) (added + size)
+    let size = part_size events k (drop from children) in
+    rising ((k - removed) + added) size ++ places_of events ks children (from + size) (removed + 2) (added + size)
 
 -- how many events go and come, with those of the chain: of each chunk its enter and its exit go
 abbrev pub counts : List Event → List ℕ → List Event → ℕ → ℕ → ℕ → ℕ × ℕ

@@ -16,10 +16,12 @@ pub data Token : Type 0 where
   Held : ℕ → Token
 
 abbrev pub held : Kept → ℕ → EventName
-held k i = if i == 1 then k.token_1 else if i == 2 then k.token_2 else if i == 3 then k.token_3 else if i == 4 then k.token_4 else if i == 5 then k.token_5 else k.token_6
+held k i = if i == 1 then k.token_1 else if i == 2 then k.token_2 else if i == 3 then k.token_3 else if i == 4 then k.token_4 else if i == 5 then k.token_5
+    else k.token_6
 
 abbrev pub with_held : ℕ → EventName → Kept → Kept
-with_held i name k = if i == 1 then record k { token_1 = name } else if i == 2 then record k { token_2 = name } else if i == 3 then record k { token_3 = name } else if i == 4 then record k { token_4 = name } else if i == 5 then record k { token_5 = name } else record k { token_6 = name }
+with_held i name k = if i == 1 then record k { token_1 = name } else if i == 2 then record k { token_2 = name } else if i == 3 then record k { token_3 = name }
+    else if i == 4 then record k { token_4 = name } else if i == 5 then record k { token_5 = name } else record k { token_6 = name }
 
 abbrev pub named : Kept → Token → EventName
 named k (Fixed name) = name
@@ -41,7 +43,9 @@ abbrev pub has : (ℕ → Bool) → Option ℕ → Bool
 has p None = false
 has p (Some b) = p b
 
--- What a state does. `Keep` changes what states keep but for the six names, of which `Hold` changes one. `EnterLink` may begin a chunk that is read later. `Byte` goes on at the text's end or at a byte, `On` at one of some bytes or elsewhere, `AfterFeed` right after a line ending or elsewhere. `Tries` makes an attempt, or looks ahead, and is the last call.
+-- What a state does. `Keep` changes what states keep but for the six names, of which `Hold` changes one. `EnterLink` may begin a chunk that is read later.
+-- `Byte` goes on at the text's end or at a byte, `On` at one of some bytes or elsewhere, `AfterFeed` right after a line ending or elsewhere. `Tries` makes an
+-- attempt, or looks ahead, and is the last call.
 pub data Body (M : Type 0) : Type 0 where
   Answer : State → Body M
   Consume : Body M → Body M

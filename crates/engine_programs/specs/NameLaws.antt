@@ -1,5 +1,6 @@
 -- Tests that hold, the names of events, and places of exits.
-use Rattle.std.proofs.Common.{◌≡◌, ℕ, ◌∙◌, Bool, true, false, not, ◌==◌, ◌&&◌, ◌||◌, if◌then◌else◌, List, [], ◌∷◌, ◌++◌, Option, None, Some, refl, sym, ap, append-nil, append_assoc}
+use Rattle.std.proofs.Common.{◌≡◌, ℕ, ◌∙◌, Bool, true, false, not, ◌==◌, ◌&&◌, ◌||◌, if◌then◌else◌, List, [], ◌∷◌, ◌++◌, Option, None, Some, refl, sym, ap}
+use Rattle.std.proofs.Common.{append-nil, append_assoc}
 use Rattle.std.proofs.lemmas.Bool.{and_parts, eqb-true}
 use denote.Enum.Bare.{same_true}
 use Rattle.engine_events.specs.contracts.event.Name.{the_type}
@@ -57,10 +58,12 @@ has_some p (Some b) h = (b, refl)
 no_feed : (f : Bool) (p : ℕ → Bool) (b : ℕ) (e : Bool) → (b == 10) ≡ e → p b ≡ true → (f ≡ false → (b == 10) ≡ false) → (f && p 10) ≡ false → (b == 10) ≡ false
 no_feed f p b false q h k r = q
 no_feed false p b true q h k r = k refl
-no_feed true p b true q h k r = absurd (let g : p 10 ≡ true = ap p (sym (eqb-true b 10 q)) ∙ h in let s : p 10 ≡ false = r in let f : true ≡ false = sym g ∙ s in cc)
+no_feed true p b true q h k r = absurd (let g : p 10 ≡ true = ap p (sym (eqb-true b 10 q)) ∙ h in let s : p 10 ≡ false = r in
+    let f : true ≡ false = sym g ∙ s in cc)
 
 -- a byte that is known to be one of some is no line feed unless that is one of them
-pub feed_among : (f : Bool) (p : ℕ → Bool) (v : Option ℕ) → ((b : ℕ) → v ≡ Some b → p b ≡ true) → (f ≡ false → is_feed v ≡ false) → (f && p 10) ≡ false → is_feed v ≡ false
+pub feed_among : (f : Bool) (p : ℕ → Bool) (v : Option ℕ) → ((b : ℕ) → v ≡ Some b → p b ≡ true) → (f ≡ false → is_feed v ≡ false) → (f && p 10) ≡ false
+    → is_feed v ≡ false
 feed_among f p None h k r = refl
 feed_among f p (Some b) h k r = no_feed f p b (b == 10) refl (h b refl) k r
 
@@ -127,7 +130,8 @@ pub exit_place : (b : Bool) (p line : Point) → (if b then (if b then p else li
 exit_place true p line = refl
 exit_place false p line = refl
 
-pub exit_on : (b : Bool) (line from to : Point) (es : List Event) → Reaches from to → (let p = if b then line else from in AreTidy es p × Reaches p from) → (let p = if b then line else to in AreTidy es p × Reaches p to)
+pub exit_on : (b : Bool) (line from to : Point) (es : List Event) → Reaches from to → (let p = if b then line else from in AreTidy es p × Reaches p from)
+    → (let p = if b then line else to in AreTidy es p × Reaches p to)
 exit_on true line from to es k h = (h.0, reaches_on line from to h.1 k)
 exit_on false line from to es k h = (tidy_on es from to h.0 k, stays to)
 

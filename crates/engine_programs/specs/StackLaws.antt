@@ -41,14 +41,17 @@ module _ (sorts : Name → Sort) (size : ℕ) where
   unfolding SameBelow
   below_same k k2 [] h = refl
   below_same k k2 (a ∷ st) h =
-      ap (λ (z : List EventName). z ++ below sorts size k2 st) h.0 ∙ ap (λ (z : List EventName). named_all k (around_of sorts size a) ++ z) (below_same k k2 st h.1)
+      ap (λ (z : List EventName). z ++ below sorts size k2 st) h.0 ∙ ap (λ (z : List EventName). named_all k (around_of sorts size a) ++ z)
+      (below_same k k2 st h.1)
 
   pub marks_same : (k k2 : Kept) (st : List Attempt) (es : List Event) → SameBelow k k2 st → Marks sorts size k es st → Marks sorts size k2 es st
   unfolding SameBelow
   marks_same k k2 [] es h m = tt
   marks_same k k2 (a ∷ st) es h m =
-      let x = m.0 in
-      (record { low = x.low; tidy = x.tidy; exits = x.exits; names = x.names ∙ sym (below_same k k2 (a ∷ st) h); ok = x.ok; nok = x.nok }, marks_same k k2 st (take a.events es) h.1 m.1)
+      let x = m.0 in (
+        record { low = x.low; tidy = x.tidy; exits = x.exits; names = x.names ∙ sym (below_same k k2 (a ∷ st) h); ok = x.ok; nok = x.nok },
+        marks_same k k2 st (take a.events es) h.1 m.1,
+      )
 
   pub all_same : (k k2 : Kept) → ((i : ℕ) → held k2 i ≡ held k i) → (st : List Attempt) → SameBelow k k2 st
   unfolding SameBelow
@@ -68,5 +71,11 @@ module _ (sorts : Name → Sort) (size : ℕ) where
       let x = m.0 in
       let low = x.low in
       let longer = length-append es more in
-      let same = subst (λ (z : List Event). AreTidy z a.point × (ends_back sorts size a st ≡ true → Ends sorts size a.previous a.line_start a.point z) × (open_after [] z ≡ below sorts size k (a ∷ st)) × Marks sorts size k z st) (sym (take-append-le a.events es more low)) (x.tidy, x.exits, x.names, m.1) in
+      let same = subst (λ (z : List Event). AreTidy z a.point × (ends_back sorts size a st ≡ true → Ends sorts size a.previous a.line_start a.point z)
+      × (open_after [] z ≡ below sorts size k (a ∷ st)) × Marks sorts size k z st) (sym (take-append-le a.events es more low)) (
+        x.tidy,
+        x.exits,
+        x.names,
+        m.1,
+      ) in
       (record { low = omega (arith, low, longer); tidy = same.0; exits = same.1; names = same.2; ok = x.ok; nok = x.nok }, same.3)

@@ -1,5 +1,6 @@
 -- What holds where a state is next, of the configuration and of the attempts that wait.
-use Rattle.std.specs.Prelude.{◌≡◌, ℕ, ◌+◌, ◌*◌, ◌<◌, ◌≤◌, Bool, true, false, not, ◌&&◌, ◌||◌, if◌then◌else◌, List, [], ◌∷◌, ◌++◌, length, take, reverse, Option, Some}
+use Rattle.std.specs.Prelude.{◌≡◌, ℕ, ◌+◌, ◌*◌, ◌<◌, ◌≤◌, Bool, true, false, not, ◌&&◌, ◌||◌, if◌then◌else◌, List, [], ◌∷◌, ◌++◌, length, take, reverse, Option}
+use Rattle.std.specs.Prelude.{Some}
 use Rattle.engine_events.specs.declared.event.Event.{Event}
 use Rattle.engine_events.specs.declared.event.Name.{Name as EventName}
 use Rattle.engine_events.specs.declared.place.Point.{Point}
@@ -122,7 +123,8 @@ module _ (sorts : Name → Sort) (size : ℕ) where
     Stands (states.Error m) st c = ⊥
     Stands (states.Next n) st c = At n st c × ((sorts n).byte ≡ false)
     Stands (states.Retry n) st c = At n st c × Ahead c × ((sorts n).byte ≡ true → HasByte c)
-    Stands states.Ok st c = (open_after [] c.events ≡ named_all c.tokenize_state (left_by st) ++ below c.tokenize_state st) × Far st (remaining size c.point) (needs_byte st) × (needs_end st ≡ true → MayExit c)
+    Stands states.Ok st c = (open_after [] c.events ≡ named_all c.tokenize_state (left_by st) ++ below c.tokenize_state st)
+        × Far st (remaining size c.point) (needs_byte st) × (needs_end st ≡ true → MayExit c)
     Stands states.Nok st c = must_go_well st ≡ false
 
     pub record IsValid (s : State) (st : List Attempt) (c : Config M) : Type 0 where

@@ -17,11 +17,13 @@ row_1 : decode builtin_names (codes "a&amp;b&x;") ≡ codes "a&b&x;"
 unfolding builtin_rows builtin_text encode_utf8
 row_1 = refl
 
-row_2 : decode builtin_names (codes "&nbsp; &amp; &copy; &AElig; &Dcaron;") ≡ encode_utf8 0xA0 ++ codes " & " ++ encode_utf8 0xA9 ++ codes " " ++ encode_utf8 0xC6 ++ codes " " ++ encode_utf8 0x10E
+row_2 : decode builtin_names (codes "&nbsp; &amp; &copy; &AElig; &Dcaron;")
+    ≡ encode_utf8 0xA0 ++ codes " & " ++ encode_utf8 0xA9 ++ codes " " ++ encode_utf8 0xC6 ++ codes " " ++ encode_utf8 0x10E
 unfolding builtin_rows builtin_text encode_utf8
 row_2 = refl
 
-row_3 : decode builtin_names (codes "&frac34; &HilbertSpace; &DifferentialD;") ≡ encode_utf8 0xBE ++ codes " " ++ encode_utf8 0x210B ++ codes " " ++ encode_utf8 0x2146
+row_3 : decode builtin_names (codes "&frac34; &HilbertSpace; &DifferentialD;")
+    ≡ encode_utf8 0xBE ++ codes " " ++ encode_utf8 0x210B ++ codes " " ++ encode_utf8 0x2146
 unfolding builtin_rows builtin_text encode_utf8
 row_3 = refl
 
@@ -29,7 +31,8 @@ row_4 : decode builtin_names (codes "&ClockwiseContourIntegral; &ngE;") ≡ enco
 unfolding builtin_rows builtin_text encode_utf8
 row_4 = refl
 
-row_5 : decode builtin_names (codes "&#35; &#1234; &#992; &#0;") ≡ codes "# " ++ encode_utf8 0x4D2 ++ codes " " ++ encode_utf8 0x3E0 ++ codes " " ++ encode_utf8 0xFFFD
+row_5 : decode builtin_names (codes "&#35; &#1234; &#992; &#0;") ≡ codes "# " ++ encode_utf8 0x4D2 ++ codes " " ++ encode_utf8 0x3E0 ++ codes " "
+    ++ encode_utf8 0xFFFD
 unfolding builtin_rows builtin_text encode_utf8
 row_5 = refl
 
@@ -77,7 +80,8 @@ row_16 : decode builtin_names (codes "&#xFDCF;&#xFDD0;&#xFDEF;&#xFDF0;") ≡ enc
 unfolding builtin_rows builtin_text encode_utf8
 row_16 = refl
 
-row_17 : decode builtin_names (codes "&#xFFFD;&#xFFFE;&#x1FFFF;&#x10FFFD;") ≡ encode_utf8 0xFFFD ++ encode_utf8 0xFFFD ++ encode_utf8 0xFFFD ++ encode_utf8 0x10FFFD
+row_17 : decode builtin_names (codes "&#xFFFD;&#xFFFE;&#x1FFFF;&#x10FFFD;")
+    ≡ encode_utf8 0xFFFD ++ encode_utf8 0xFFFD ++ encode_utf8 0xFFFD ++ encode_utf8 0x10FFFD
 unfolding builtin_rows builtin_text encode_utf8
 row_17 = refl
 

@@ -47,7 +47,8 @@ text_of d ls = inline_pieces (meaning_of d) (inlines (context_of d) (inline_cont
 -- the text of a paragraph of a content with this check
 abbrev pub checked_text : Document → List InlineCode → Option Bool → List Piece
 checked_text d content None = inline_pieces (meaning_of d) (inlines_from (context_of d) content)
-checked_text d content (Some done) = Bytes (check_html d.options.compile done) ∷ inline_pieces (meaning_of d) (inlines_from (context_of d) (drop check_size content))
+checked_text d content (Some done) =
+    Bytes (check_html d.options.compile done) ∷ inline_pieces (meaning_of d) (inlines_from (context_of d) (drop check_size content))
 
 -- the text of a paragraph, which may be the first block of an item (CommonMark 4.8 and GFM 5.3)
 abbrev pub paragraph_of : Document → Bool → List BlockLine → List Piece

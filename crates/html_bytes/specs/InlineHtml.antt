@@ -9,10 +9,12 @@ use Rattle.definition_page.specs.InlinePieces.{HtmlLine, html_lines, leads_to, a
 use Rattle.html_bytes.specs.RawHtml.{raw_html}
 use Rattle.html_bytes.specs.Pieces.{Piece, Bytes, CallOf, CountOf}
 use Rattle.definition_inline.specs.LabelMatch.{first_match, normal_label}
-use Rattle.definition_inline.specs.Inline.{Linked, Inline, Data, Escape, Character, Code, Math, Autolink, Literal, Html, EscapedBreak, TrailingBreak, LineEnd, Emphasis, Strong, Strikethrough, Link, Image, Call, Inlines, Nil, Cons}
+use Rattle.definition_inline.specs.Inline.{Linked, Inline, Data, Escape, Character, Code, Math, Autolink, Literal, Html, EscapedBreak, TrailingBreak, LineEnd}
+use Rattle.definition_inline.specs.Inline.{Emphasis, Strong, Strikethrough, Link, Image, Call, Inlines, Nil, Cons}
 use Rattle.definition_inline.specs.Strings.{string_text, eol_bytes}
 
--- what is printed is given by: the options, the texts of named characters, what the definition of a label leads to, the labels of footnotes in the order in which these end, and how the URL of a link and of an image is printed as a value of its attribute
+-- what is printed is given by: the options, the texts of named characters, what the definition of a label leads to, the labels of footnotes in the order in
+-- which these end, and how the URL of a link and of an image is printed as a value of its attribute
 pub record InlineMeaning : Type 0 where
   pub on : Constructs
   pub compile : CompileOptions

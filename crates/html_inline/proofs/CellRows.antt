@@ -3,7 +3,8 @@ use Rattle.std.proofs.Common.{◌≡◌, Bool, true, false, List, [], ◌∷◌,
 use Rattle.std.specs.Prelude.{map}
 use Rattle.std.specs.List.{fold}
 use Rattle.std.proofs.lemmas.List.{map-append}
-use Rattle.definition_inline.specs.Inline.{Target, Linked, Inline, Data, Escape, Character, Code, Math, Autolink, Literal, Html, EscapedBreak, TrailingBreak, LineEnd, Emphasis, Strong, Strikethrough, Link, Image, Call, Inlines, Nil, Cons}
+use Rattle.definition_inline.specs.Inline.{Target, Linked, Inline, Data, Escape, Character, Code, Math, Autolink, Literal, Html, EscapedBreak, TrailingBreak}
+use Rattle.definition_inline.specs.Inline.{LineEnd, Emphasis, Strong, Strikethrough, Link, Image, Call, Inlines, Nil, Cons}
 use Rattle.definition_page.specs.GfmTable.{part_in_cell, in_cell}
 use Rattle.html_bytes.specs.InlineHtml.{InlineMeaning}
 use Rattle.inline_rows.specs.InlineRows.{InlineRow, Part, EnterSpan, EnterLink, EnterImage, Leave, part_rows, inline_rows}

@@ -1,5 +1,6 @@
 -- Raw HTML, line by line.
-use Rattle.std.proofs.Common.{◌≡◌, ◌||◌, ℕ, zero, suc, ◌+◌, ◌<◌, ◌≤◌, List, [], ◌∷◌, ◌++◌, Bool, true, false, cond, eqb, refl, sym, ap, ◌∙◌, get_or, length, drop, take, arith, inl, inr, append_assoc}
+use Rattle.std.proofs.Common.{◌≡◌, ◌||◌, ℕ, zero, suc, ◌+◌, ◌<◌, ◌≤◌, List, [], ◌∷◌, ◌++◌, Bool, true, false, cond, eqb, refl, sym, ap, ◌∙◌, get_or, length}
+use Rattle.std.proofs.Common.{drop, take, arith, inl, inr, append_assoc}
 use Rattle.std.specs.List.{flat_map, prefix_len}
 use Rattle.std.proofs.lemmas.Bool.{cases_Bool, cond-false, cond-true, eqb-true, ne_eqb, not_from_false, or_cases, true≢false}
 use Rattle.std.proofs.lemmas.List.{append-nil, length-drop}
@@ -190,10 +191,12 @@ later_printed options (c ∷ cs) = elim (cases_Bool (is_white c)) [
       elim (cases_Bool (is_eol c)) [
         | inl e ↦
             ap (later options) (cond-true (is_eol c) _ _ e)
-            ∙ ap (λ ls. first_bytes options ls ++ later options (drop 1 ls)) (sym (cond-true (is_eol c) (html_text_line [] (c ∷ []) ∷ html_lines cs) (in_first_line c (html_lines cs)) e))
+            ∙ ap (λ ls. first_bytes options ls ++ later options (drop 1 ls)) (sym
+            (cond-true (is_eol c) (html_text_line [] (c ∷ []) ∷ html_lines cs) (in_first_line c (html_lines cs)) e))
         | inr e ↦
             ap (later options) (cond-false (is_eol c) _ _ e) ∙ other_later options c (html_lines cs) h
-            ∙ ap (λ ls. first_bytes options ls ++ later options (drop 1 ls)) (sym (cond-false (is_eol c) (html_text_line [] (c ∷ []) ∷ html_lines cs) (in_first_line c (html_lines cs)) e))
+            ∙ ap (λ ls. first_bytes options ls ++ later options (drop 1 ls)) (sym
+            (cond-false (is_eol c) (html_text_line [] (c ∷ []) ∷ html_lines cs) (in_first_line c (html_lines cs)) e))
       ]
       ∙ ap (λ s. first_bytes options (html_lines s) ++ later options (drop 1 (html_lines s))) (sym (other_bare c cs h))
 ]

@@ -11,8 +11,8 @@ abbrev pub is_in_line : ℕ → Bool
 is_in_line b = not (b == line_feed) && not (b == carriage_return)
 
 -- with a space for each line ending
-abbrev pub with_spaces_for_endings : List ℕ → List ℕ
-with_spaces_for_endings bytes = map code_space (content_codes bytes)
+abbrev pub spaces_for_endings : List ℕ → List ℕ
+spaces_for_endings bytes = map code_space (content_codes bytes)
 
 -- math in a text, as it is printed in a cell or elsewhere
 abbrev pub math_html : Bool → List ℕ → List ℕ

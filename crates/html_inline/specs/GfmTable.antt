@@ -1,6 +1,7 @@
 -- What stands in the cell of a table, or elsewhere.
 use Rattle.std.specs.Prelude.{ℕ, suc, Bool, true, false, if◌then◌else◌, List, [], ◌∷◌}
-use Rattle.definition_inline.specs.Inline.{Inline, Data, Escape, Character, Code, Math, Autolink, Literal, Html, EscapedBreak, TrailingBreak, LineEnd, Emphasis, Strong, Strikethrough, Link, Image, Call, Inlines}
+use Rattle.definition_inline.specs.Inline.{Inline, Data, Escape, Character, Code, Math, Autolink, Literal, Html, EscapedBreak, TrailingBreak, LineEnd, Emphasis}
+use Rattle.definition_inline.specs.Inline.{Strong, Strikethrough, Link, Image, Call, Inlines}
 use Rattle.definition_page.specs.GfmTable.{escapes_bar, cell_code, in_cell}
 use Rattle.html_bytes.specs.InlineHtml.{InlineMeaning}
 use Rattle.html_inline.specs.Printed.{Printed, with_row}

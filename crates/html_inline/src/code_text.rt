@@ -7,7 +7,7 @@ ghost use Rattle.std.specs.List.{list_any, prefix_len};
 ghost use Rattle.definition_inline.specs.CodeText.{code_text, is_padded, without_padding};
 ghost use Rattle.definition_text.specs.Content.{content_codes};
 ghost use Rattle.definition_text.specs.Encode.{encode};
-ghost use Rattle.html_inline.specs.CodeBytes.{is_in_line, with_spaces_for_endings};
+ghost use Rattle.html_inline.specs.CodeBytes.{is_in_line, spaces_for_endings};
 ghost use Rattle.html_inline.specs.GfmTable.{code_in_cell};
 ghost use Rattle.html_inline.specs.Prints.{Prints};
 
@@ -52,7 +52,7 @@ pub(crate) fn push_code<A: Allocator>(
 
 /// Prints a text with a space for each line ending.
 fn push_spaced<A: Allocator>(out: &mut String<A>, code: &str) -> Result<(), AllocError>
-    ensures { Prints result out.old out.new (with_spaces_for_endings code.now) }
+    ensures { Prints result out.old out.new (spaces_for_endings code.now) }
 {
     let mut rest = code;
     while !rest.is_empty() {
@@ -67,7 +67,7 @@ fn push_spaced_piece<'a, A: Allocator>(
     code: &'a str,
 ) -> Result<&'a str, AllocError>
     requires { 0 < length code.now }
-    ensures printed { IfOk result (λ rest. string_bytes out.new ++ with_spaces_for_endings rest.now ≡ string_bytes out.old ++ with_spaces_for_endings code.now) }
+    ensures printed { IfOk result (λ rest. string_bytes out.new ++ spaces_for_endings rest.now ≡ string_bytes out.old ++ spaces_for_endings code.now) }
     ensures shorter { IfOk result (λ rest. length rest.now < length code.now) }
 {
     if let Some(found) = ending_at(code.as_bytes()) {

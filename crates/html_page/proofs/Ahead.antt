@@ -7,7 +7,8 @@ use Rattle.markdown_options.specs.declared.line_ending.LineEnding.{LineEnding}
 use Rattle.definition_block.specs.declared.container.Item.{Item as ItemOf}
 use Rattle.definition_block.specs.Container.{Item}
 use Rattle.definition_block.specs.Tree.{Block, Holds, Items, Ending, Blank, Blocks, Nil, Cons, join, one}
-use Rattle.definition_block.specs.Lists.{endings_at_front, endings_of, after_endings, is_some_block, has_gap, has_gap_inside, is_loose, list_marker, list_items, rest_of, before, before_list}
+use Rattle.definition_block.specs.Lists.{endings_at_front, endings_of, after_endings, is_some_block, has_gap, has_gap_inside, is_loose, list_marker, list_items}
+use Rattle.definition_block.specs.Lists.{rest_of, before, before_list}
 use Rattle.html_page.specs.declared.loose.Ahead.{Ahead}
 use Rattle.html_page.specs.Loose.{before_ending, before_item, place_at}
 
@@ -59,8 +60,10 @@ no_marker h = omega (arith, h)
 
 pub list_first : (gs : Blocks) → 1 ≤ list_marker (after_endings gs) → ListFirst gs
 list_first Nil h = absurd (no_marker h)
-list_first (Cons (Ending e) gs) h = let f = list_first gs h in record { apart = ap suc f.apart; some = f.some; gap = f.gap; inside = f.inside; others = f.others }
-list_first (Cons (Blank e) gs) h = let f = list_first gs h in record { apart = ap suc f.apart; some = f.some; gap = f.gap; inside = f.inside; others = f.others }
+list_first (Cons (Ending e) gs) h = let f = list_first gs h in
+    record { apart = ap suc f.apart; some = f.some; gap = f.gap; inside = f.inside; others = f.others }
+list_first (Cons (Blank e) gs) h = let f = list_first gs h in
+    record { apart = ap suc f.apart; some = f.some; gap = f.gap; inside = f.inside; others = f.others }
 list_first (Cons (Items (Cons (Holds c kids) items)) gs) h = record { apart = refl; some = refl; gap = refl; inside = refl; others = refl }
 list_first (Cons (Items (Cons item items)) gs) h = absurd (no_marker h)
 list_first (Cons (Items Nil) gs) h = absurd (no_marker h)
@@ -117,11 +120,16 @@ item_ahead marker loose gap = record { some = true; ending_first = false; apart 
 
 ahead_of_listed : (goes_on : Bool) (item : ItemOf) (kids gs : Blocks) → 1 ≤ item.marker → (list_marker (after_endings gs) == item.marker) ≡ goes_on
     → ahead_of (listed goes_on (Holds (Item item) kids) gs)
-    ≡ before_item (ahead_of gs) item.marker record { loose = has_gap kids || (goes_on && (leb 2 (endings_at_front gs) || is_loose (list_items (after_endings gs)))); goes_on = goes_on }
+    ≡ before_item (ahead_of gs) item.marker record {
+      loose = has_gap kids ||
+          (goes_on && (leb 2 (endings_at_front gs) || is_loose (list_items (after_endings gs))));
+      goes_on = goes_on;
+    }
 ahead_of_listed false item kids gs some is = refl
 ahead_of_listed true item kids gs some is =
     let f = list_first gs (subst (λ n. 1 ≤ n) (sym (eqb-true (list_marker (after_endings gs)) item.marker is)) some) in
-    ap (λ x. item_ahead item.marker x ((leb 2 (endings_at_front (after_list gs)) && is_some_block (after_list gs)) || has_gap (after_list gs))) (list_looseness item kids gs f)
+    ap (λ x. item_ahead item.marker x ((leb 2 (endings_at_front (after_list gs)) && is_some_block (after_list gs)) || has_gap (after_list gs)))
+    (list_looseness item kids gs f)
     ∙ ap (λ x. item_ahead item.marker (has_gap kids || (leb 2 (endings_at_front gs) || is_loose (list_items (after_endings gs)))) x) (sym f.others)
 
 pub ahead_of_item : (item : ItemOf) (kids gs : Blocks) → 1 ≤ item.marker

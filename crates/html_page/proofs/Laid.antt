@@ -12,6 +12,7 @@ text_laid (Ok x) l now target h = ap (with_text l) h
 text_laid (Err error) l now target h = tt
 
 -- a text that is pushed last
-pub pushed : {T E : Type 0} (r : Result T E) (l : Laid) (now out more : List ℕ) → now ≡ cond (is_ok r) (out ++ more) out → OnOk r (with_text l now ≡ with_text l (out ++ more))
+pub pushed : {T E : Type 0} (r : Result T E) (l : Laid) (now out more : List ℕ) → now ≡ cond (is_ok r) (out ++ more) out
+    → OnOk r (with_text l now ≡ with_text l (out ++ more))
 pushed (Ok x) l now out more h = ap (with_text l) h
 pushed (Err error) l now out more h = tt

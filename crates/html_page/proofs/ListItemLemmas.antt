@@ -1,5 +1,6 @@
 -- Items that start have markers, and footnote definitions labels.
-use Rattle.std.proofs.Common.{◌≡◌, ℕ, ◌+◌, ◌≤◌, lit≤, inl, inr, List, [], ◌∷◌, Option, None, Some, Bool, true, false, not, ◌&&◌, ◌||◌, ◌==◌, leb, sym, subst, take, drop}
+use Rattle.std.proofs.Common.{◌≡◌, ℕ, ◌+◌, ◌≤◌, lit≤, inl, inr, List, [], ◌∷◌, Option, None, Some, Bool, true, false, not, ◌&&◌, ◌||◌, ◌==◌, leb, sym, subst}
+use Rattle.std.proofs.Common.{take, drop}
 use Rattle.std.specs.Option.{IfSome}
 use Rattle.std.specs.List.{prefix_len}
 use Rattle.std.proofs.lemmas.Bool.{or_cases, eqb-true}
@@ -12,7 +13,8 @@ use Rattle.definition_block.specs.BlockQuote.{after_byte, quote_prefix}
 use Rattle.definition_block.specs.ListItem.{Marker, marker_of, is_digit, number_of, bullet, delimiter, marker, is_item, item, item_after, item_start}
 use Rattle.definition_text.specs.Content.{Part, closed_by}
 use Rattle.definition_inline.specs.Label.{label_end}
-use Rattle.definition_block.specs.GfmFootnoteDefinition.{is_footnote_label, label_before, with_colon, after_open, after_bracket, footnote_mark, footnote_of, footnote_start}
+use Rattle.definition_block.specs.GfmFootnoteDefinition.{is_footnote_label, label_before, with_colon, after_open, after_bracket, footnote_mark, footnote_of}
+use Rattle.definition_block.specs.GfmFootnoteDefinition.{footnote_start}
 use Rattle.definition_block.specs.Containers.{quote_or, footnote_or, starts}
 use Rattle.html_page.specs.Printable.{IsPrintableContainer}
 use Rattle.html_page.proofs.Choose.{choose_if, choose}
@@ -107,5 +109,8 @@ footnote_or_fits other (Some footnote) h k = k
 pub starts_fits : (on : Constructs) (interrupts : Bool) (rest : Rest) → StartFits (starts on interrupts rest)
 starts_fits on interrupts rest =
     quote_or_fits (footnote_or (item_start on interrupts rest) (footnote_start on rest)) (quote_prefix on rest)
-    (footnote_or_fits (item_start on interrupts rest) (footnote_start on rest) (choose StartFits (on.list_item && small_indent on rest && not (is_break on rest)) _ _ (item_after_fits (indent rest) interrupts (marker (bare rest)) (marker_fits (bare rest))) none_starts)
-    (choose StartFits (on.gfm_footnote_definition && small_indent on rest) _ _ (footnote_of_fits (footnote_mark (bare rest)) (mark_fits (after_byte 91 (bare rest)))) none_starts))
+    (footnote_or_fits (item_start on interrupts rest) (footnote_start on rest)
+    (choose StartFits (on.list_item && small_indent on rest && not (is_break on rest)) _ _
+    (item_after_fits (indent rest) interrupts (marker (bare rest)) (marker_fits (bare rest))) none_starts)
+    (choose StartFits (on.gfm_footnote_definition && small_indent on rest) _ _
+    (footnote_of_fits (footnote_mark (bare rest)) (mark_fits (after_byte 91 (bare rest)))) none_starts))

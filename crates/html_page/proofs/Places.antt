@@ -1,7 +1,8 @@
 -- What the pass over the rows of blocks finds.
 use Rattle.std.proofs.Common.{◌≡◌, List, [], ◌∷◌, ◌++◌, refl, sym, ap, ◌∙◌, append_assoc}
 use Rattle.definition_block.specs.Container.{Container, Quote, Item, Footnote}
-use Rattle.definition_block.specs.Tree.{Block, Paragraph, Heading, Break, IndentedCode, FencedCode, Html, Table, Definition, Holds, Items, Ending, Blank, Blocks, Nil, Cons}
+use Rattle.definition_block.specs.Tree.{Block, Paragraph, Heading, Break, IndentedCode, FencedCode, Html, Table, Definition, Holds, Items, Ending, Blank}
+use Rattle.definition_block.specs.Tree.{Blocks, Nil, Cons}
 use Rattle.definition_block.specs.Lists.{has_gap, before, group_items, grouped_block}
 use Rattle.block_rows.specs.Rows.{BlockRow, Exit, start_row, rows_of, block_rows}
 use Rattle.html_page.specs.declared.loose.Place.{Place}
@@ -56,10 +57,12 @@ holds_passed : (c : Container) (kids : Blocks) → IsPrintableContainer c → Ki
 holds_passed Quote kids some k gs outer places =
     ap (λ p. pass_row p (start_row Quote)) (pass_rows-append (pass_at (ahead_of gs) outer places) (rows_of kids) (Exit ∷ []) ∙ k (ahead_of gs ∷ outer) places)
 holds_passed (Footnote label) kids some k gs outer places =
-    ap (λ p. pass_row p (start_row (Footnote label))) (pass_rows-append (pass_at (ahead_of gs) outer places) (rows_of kids) (Exit ∷ []) ∙ k (ahead_of gs ∷ outer) places)
+    ap (λ p. pass_row p (start_row (Footnote label))) (pass_rows-append (pass_at (ahead_of gs) outer places) (rows_of kids) (Exit ∷ [])
+    ∙ k (ahead_of gs ∷ outer) places)
 holds_passed (Item item) kids some k gs outer places =
     let at = λ (a : Ahead). pass_at a outer (place_at (ahead_of gs) item.marker (has_gap (group_items kids)) ∷ (places_within kids ++ places)) in
-    ap (λ p. pass_row p (start_row (Item item))) (pass_rows-append (pass_at (ahead_of gs) outer places) (rows_of kids) (Exit ∷ []) ∙ k (ahead_of gs ∷ outer) places)
+    ap (λ p. pass_row p (start_row (Item item))) (pass_rows-append (pass_at (ahead_of gs) outer places) (rows_of kids) (Exit ∷ [])
+    ∙ k (ahead_of gs ∷ outer) places)
     ∙ ap at (sym (ahead_of_item item (group_items kids) gs some))
     ∙ ap (λ (bs : Blocks). at (ahead_of bs)) (sym (before_item_is item (group_items kids) gs some))
 

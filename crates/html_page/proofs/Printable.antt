@@ -1,5 +1,6 @@
 -- The blocks of a text can be printed: paragraphs have lines of the text, the ranks of headings are from 1 to 6, infos are bytes, and items have markers.
-use Rattle.std.proofs.Common.{◌≡◌, ℕ, zero, suc, ◌-◌, ◌<◌, ◌≤◌, get_or, lit≤, List, [], ◌∷◌, ◌++◌, Option, None, Some, Bool, true, false, ◌&&◌, ◌||◌, ◌==◌, not, leb, refl, sym, subst, ap, take, drop, length, arith}
+use Rattle.std.proofs.Common.{◌≡◌, ℕ, zero, suc, ◌-◌, ◌<◌, ◌≤◌, get_or, lit≤, List, [], ◌∷◌, ◌++◌, Option, None, Some, Bool, true, false, ◌&&◌, ◌||◌, ◌==◌, not}
+use Rattle.std.proofs.Common.{leb, refl, sym, subst, ap, take, drop, length, arith}
 use Rattle.std.specs.Prelude.{if◌then◌else◌}
 use Rattle.std.specs.Option.{IfSome}
 use Rattle.std.specs.List.{list_all, prefix_len, suffix_len, position_or_len}
@@ -31,11 +32,18 @@ use Rattle.definition_text.specs.Content.{content_of}
 use Rattle.definition_inline.specs.Definition.{Definition as LinkDefinition, definition_at}
 use Rattle.definition_block.specs.Definitions.{Cut, cut_into, cut_after, cut_most, cut, definition_lines, lines_before}
 use Rattle.block_rows.specs.ParagraphLines.{HaveNoEnding, AreLines}
-use Rattle.block_rows.proofs.OpenLines.{AreTextLines, AreLinesTo, SomeClear, StartedClear, clear-take, clear-drop, clear-filter, clear_codes, clear_block, clear_bare, clear_start, clear_continue, lines_of_text, are_lines, open_step}
+use Rattle.block_rows.proofs.OpenLines.{AreTextLines, AreLinesTo, SomeClear, StartedClear, clear-take, clear-drop, clear-filter, clear_codes, clear_block}
+use Rattle.block_rows.proofs.OpenLines.{clear_bare, clear_start, clear_continue, lines_of_text, are_lines, open_step}
 use Rattle.markdown_options.specs.declared.line_ending.LineEnding.{LineEnding}
 use Rattle.markdown_options.specs.declared.line_ending.LineEnding.TheVariants.{LineFeed}
 use Rattle.definition_text.specs.BlockLines.{BlockLine, spaced_line, own_lines}
-use Rattle.definition_block.specs.Tree.{leaf_text, open_text, beside_in, beside_line, in_container, Block, Paragraph, Heading, Break, IndentedCode, FencedCode, Html, Table, Definition, Holds, Items, Ending, Blank, Blocks, Nil, Cons, join, one, block_and_ending, OpenLeaf, Text, Indented, Fenced, OpenHtml, OpenTable, Opening, Leaf, Inside, Tree, tree, nothing, empty_tree, paragraph_of, close_leaf, close, blanks, is_ending, all_endings, front, trailing, without_last, last_of, holds, has_text, has_table, is_some_line, table_of, table_if, makes_table, with_line, rest_line, html_with, takes, tree_or, or_heading, or_fence, or_html, begins, text_here, heading_of, heading_if, turns, after, text_line_of, break_or_text, begun, leaf_line, start, new, began_blank, goes_on, grow, step, steps, blocks_at_end, children_after, blocks}
+use Rattle.definition_block.specs.Tree.{leaf_text, open_text, beside_in, beside_line, in_container, Block, Paragraph, Heading, Break, IndentedCode, FencedCode}
+use Rattle.definition_block.specs.Tree.{Html, Table, Definition, Holds, Items, Ending, Blank, Blocks, Nil, Cons, join, one, block_and_ending, OpenLeaf, Text}
+use Rattle.definition_block.specs.Tree.{Indented, Fenced, OpenHtml, OpenTable, Opening, Leaf, Inside, Tree, tree, nothing, empty_tree, paragraph_of, close_leaf}
+use Rattle.definition_block.specs.Tree.{close, blanks, is_ending, all_endings, front, trailing, without_last, last_of, holds, has_text, has_table, is_some_line}
+use Rattle.definition_block.specs.Tree.{table_of, table_if, makes_table, with_line, rest_line, html_with, takes, tree_or, or_heading, or_fence, or_html, begins}
+use Rattle.definition_block.specs.Tree.{text_here, heading_of, heading_if, turns, after, text_line_of, break_or_text, begun, leaf_line, start, new, began_blank}
+use Rattle.definition_block.specs.Tree.{goes_on, grow, step, steps, blocks_at_end, children_after, blocks}
 use Rattle.block_rows.specs.Rows.{RowsValue, rows_value, value_with, rows_of}
 use Rattle.block_rows.specs.declared.row.Row.{Row}
 use Rattle.html_page.specs.Printable.{IsPrintableContainer, AreClear, IsTable, IsPrintable, ArePrintable, CanBePrinted}
@@ -62,7 +70,8 @@ bytes_after (suc n) (b ∷ bs) h = bytes_after n bs (and_parts (is_byte b) (list
 bytes_are_bytes : (rest : Rest) → AreBytes (bytes_of rest)
 bytes_are_bytes [] = refl
 bytes_are_bytes (code ∷ codes) =
-    choose_if AreBytes (is_byte code) (code ∷ bytes_of codes) (bytes_of codes) (λ h. and_from (is_byte code) _ h (bytes_are_bytes codes)) (bytes_are_bytes codes)
+    choose_if AreBytes (is_byte code) (code ∷ bytes_of codes) (bytes_of codes) (λ h. and_from (is_byte code) _ h (bytes_are_bytes codes))
+    (bytes_are_bytes codes)
 
 trimmed_bytes : (text : List ℕ) → AreBytes text → AreBytes (trim text)
 trimmed_bytes text h =
@@ -100,7 +109,8 @@ fence_of_fits columns text h k =
 
 fence_start_fits : (on : Constructs) (rest : Rest) → HaveNoEnding rest → FenceFits (fence_start on rest)
 fence_start_fits on rest clear =
-    choose FenceFits (on.code_fenced && small_indent on rest) _ _ (fence_of_fits (indent rest) (bytes_of (bare rest)) (bytes_are_bytes (bare rest)) (bare_clear rest clear)) record { info = tt }
+    choose FenceFits (on.code_fenced && small_indent on rest) _ _ (fence_of_fits (indent rest) (bytes_of (bare rest)) (bytes_are_bytes (bare rest))
+    (bare_clear rest clear)) record { info = tt }
 
 -- the info of math
 clear_test : (b : Bool) → not b ≡ true → b ≡ false
@@ -115,7 +125,8 @@ math_start_fits : (on : Constructs) (rest : Rest) → FenceFits (math_start on r
 math_start_fits on rest =
     let text = bytes_of (bare rest) in
     choose FenceFits (on.math_flow && small_indent on rest) _ _
-    (choose FenceFits (leb 2 (run 36 text) && list_all (λ b. not (b == 36)) (after_run 36 text)) _ _ record { info = (refl, clear_text math_info refl) } record { info = tt })
+    (choose FenceFits (leb 2 (run 36 text) && list_all (λ b. not (b == 36)) (after_run 36 text)) _ _ record { info = (refl, clear_text math_info refl) } record
+    { info = tt })
     record { info = tt }
 
 -- ---- ranks are from 1 to 6
@@ -159,7 +170,8 @@ underline_of_fits text =
 
 underline_fits : (on : Constructs) (rest : Rest) → RankFits (underline on rest)
 underline_fits on rest =
-    choose RankFits (on.heading_setext && small_indent on rest) (underline_of (bytes_of (bare rest))) None (underline_of_fits (bytes_of (bare rest))) record { rank = tt }
+    choose RankFits (on.heading_setext && small_indent on rest) (underline_of (bytes_of (bare rest))) None (underline_of_fits (bytes_of (bare rest))) record
+    { rank = tt }
 
 -- ---- blocks
 
@@ -229,7 +241,8 @@ cut_most_printable zero ls = tt
 cut_most_printable (suc most) ls = cut_after_printable (definition_at (content_of (own_lines ls))) ls (cut_most most) (cut_most_printable most)
 
 cut_printable : (on : Constructs) (ls : List BlockLine) → CanBePrinted (cut on ls).definitions
-cut_printable on ls = choose (λ (c : Cut). CanBePrinted c.definitions) on.definition (cut_most (length ls) ls) (cut_into Nil ls) (cut_most_printable (length ls) ls) tt
+cut_printable on ls = choose (λ (c : Cut). CanBePrinted c.definitions) on.definition (cut_most (length ls) ls) (cut_into Nil ls)
+    (cut_most_printable (length ls) ls) tt
 
 -- the lines that are left of a paragraph
 lines_left : (n : ℕ) (ls : List BlockLine) → AreLines ls → AreLines (drop n ls)
@@ -364,7 +377,8 @@ module _ (on : Constructs) (e : Beside) (r : Rest) where
 
   takes_fits : (leaf : OpenLeaf) → LeafFits leaf → OptionFits (takes on leaf r e)
   takes_fits (Text ls) h = record { tree = tt }
-  takes_fits (Indented ls pending) h = choose OptionFits (is_blank r) _ _ (some_fits _ tt tt) (choose OptionFits (starts_code_indented on r) _ _ (some_fits _ tt tt) record { tree = tt })
+  takes_fits (Indented ls pending) h =
+      choose OptionFits (is_blank r) _ _ (some_fits _ tt tt) (choose OptionFits (starts_code_indented on r) _ _ (some_fits _ tt tt) record { tree = tt })
   takes_fits (Fenced fence opening ls) h = choose OptionFits (is_fence_end on fence r) _ _ (some_fits _ (h, (tt, tt)) tt) (some_fits _ tt h)
   takes_fits (OpenTable ls) h = record { tree = tt }
   takes_fits (OpenHtml kind ls) h =
@@ -372,7 +386,8 @@ module _ (on : Constructs) (e : Beside) (r : Rest) where
 
   or_heading_fits : (o : Option Atx) → AtxFits o → OptionFits (or_heading e.ending o)
   or_heading_fits None h = record { tree = tt }
-  or_heading_fits (Some atx) h = some_fits (tree (block_and_ending (Heading atx.rank (spaced_line atx.content None ∷ [])) e.ending) nothing) ((h.rank, h.content), (tt, tt)) tt
+  or_heading_fits (Some atx) h = some_fits (tree (block_and_ending (Heading atx.rank (spaced_line atx.content None ∷ [])) e.ending) nothing)
+      ((h.rank, h.content), (tt, tt)) tt
 
   or_fence_fits : (o : Option Fence) (other : Option Tree) → FenceFits o → OptionFits other → OptionFits (or_fence e.ending o other)
   or_fence_fits None other h k = k
@@ -389,7 +404,8 @@ module _ (on : Constructs) (e : Beside) (r : Rest) where
       (or_fence_fits (math_start on r) (or_html r e (html_start on paragraph r) (or_heading e.ending (heading_atx on r))) (math_start_fits on r)
       (or_html_fits (html_start on paragraph r) (or_heading e.ending (heading_atx on r)) (or_heading_fits (heading_atx on r) (heading_fits on r clear)))))
 
-  heading_of_fits : (rank : ℕ) (definitions : Blocks) (ls : List BlockLine) → (1 ≤ rank) × (rank ≤ 6) → CanBePrinted definitions → AreLines ls → OptionFits (heading_of rank definitions ls e.ending)
+  heading_of_fits : (rank : ℕ) (definitions : Blocks) (ls : List BlockLine) → (1 ≤ rank) × (rank ≤ 6) → CanBePrinted definitions → AreLines ls
+      → OptionFits (heading_of rank definitions ls e.ending)
   heading_of_fits rank definitions [] h k clean = record { tree = tt }
   heading_of_fits rank definitions (l ∷ ls) h k clean =
       let heading = block_and_ending (Heading rank (own_lines (l ∷ ls))) e.ending in
@@ -430,7 +446,8 @@ module _ (on : Constructs) (e : Beside) (r : Rest) where
   break_fits away clear h =
       let t = tree (block_and_ending Break e.ending) nothing in
       choose TreeFits (is_break on r) _ _ (after_fits on away t h (fits t (tt, (tt, tt)) tt))
-      (taken_fits (makes_table on away r e) (text_line_of on away r e) (table_if_fits (delimiter_row on r) (text_here away) clear (lines_here away h.lines)) (text_fits away clear h))
+      (taken_fits (makes_table on away r e) (text_line_of on away r e) (table_if_fits (delimiter_row on r) (text_here away) clear (lines_here away h.lines))
+      (text_fits away clear h))
 
   begun_fits : (o : Option Tree) (away : Opening) (other : Tree) → CanClose away → OptionFits o → TreeFits other → TreeFits (begun on o away other)
   begun_fits None away other h k l = l
@@ -443,7 +460,8 @@ module _ (on : Constructs) (e : Beside) (r : Rest) where
       (begun_fits (begins on (has_text away) r e) away (tree_or (turns on away r e.ending) (break_or_text on away r e)) h (begins_fits (has_text away) clear)
       (taken_fits (turns on away r e.ending) (break_or_text on away r e) (turns_fits away h.lines) (break_fits away clear h)))
 
-  start_fits : (o : Option ContainerStart) (away : Opening) (other : Tree) (more : ContainerStart → Tree) → StartFits o → StartedClear o → CanClose away → TreeFits other → ((s : ContainerStart) → HaveNoEnding s.rest → TreeFits (more s)) → TreeFits (start on o away other more)
+  start_fits : (o : Option ContainerStart) (away : Opening) (other : Tree) (more : ContainerStart → Tree) → StartFits o → StartedClear o → CanClose away
+      → TreeFits other → ((s : ContainerStart) → HaveNoEnding s.rest → TreeFits (more s)) → TreeFits (start on o away other more)
   start_fits None away other more s clear h k l = k
   start_fits (Some s) away other more c clear h k l =
       let t = tree Nil (Inside s.container (more s).done (more s).now) in
@@ -454,11 +472,13 @@ module _ (on : Constructs) (e : Beside) (r : Rest) where
   in_container_fits c kids t h k f = fits (in_container c kids t) tt (h, joined kids t.done k f.done, f.now)
 
 -- containers that start, and a leaf
-new_fits : (on : Constructs) (e : Beside) (most : ℕ) (all : Bool) (away : Opening) (r : Rest) → HaveNoEnding r → CanClose away → TreeFits (new most on all away e r)
+new_fits : (on : Constructs) (e : Beside) (most : ℕ) (all : Bool) (away : Opening) (r : Rest) → HaveNoEnding r → CanClose away
+    → TreeFits (new most on all away e r)
 new_fits on e zero all away r clear h = leaf_line_fits on e r away clear h
 new_fits on e (suc most) all away r clear h =
     let interrupts = all && has_text away in
-    start_fits on e r (starts on interrupts r) away (leaf_line on away r e) _ (starts_fits on interrupts r) (clear_start on interrupts r clear) h (leaf_line_fits on e r away clear h)
+    start_fits on e r (starts on interrupts r) away (leaf_line on away r e) _ (starts_fits on interrupts r) (clear_start on interrupts r clear) h
+    (leaf_line_fits on e r away clear h)
     (λ s k. new_fits on (beside_in s.container r e) most true nothing s.rest k record { fits = tt; lines = tt })
 
 goes_on_fits : (on : Constructs) (e : Beside) (r : Rest) (o : Option Rest) (c : Container) (kids : Blocks) (inner : Opening) (more : Rest → Tree)
@@ -469,7 +489,8 @@ goes_on_fits on e r (Some rest) c kids inner more clear some h k = in_container_
 
 grow_fits : (on : Constructs) (e : Beside) (now : Opening) (r : Rest) → HaveNoEnding r → CanClose now → TreeFits (grow on e now r)
 grow_fits on e (Leaf leaf) r clear h =
-    taken_fits (takes on leaf r e) (new (length r) on true (Leaf leaf) e r) (takes_fits on e r leaf h.fits) (new_fits on e (length r) true (Leaf leaf) r clear h)
+    taken_fits (takes on leaf r e) (new (length r) on true (Leaf leaf) e r) (takes_fits on e r leaf h.fits)
+    (new_fits on e (length r) true (Leaf leaf) r clear h)
 grow_fits on e (Inside c kids inner) r clear h =
     goes_on_fits on e r (continues on c (began_blank kids inner) r) c kids inner (grow on (beside_in c r e) inner) clear
     (clear_continue on c (began_blank kids inner) r clear) h

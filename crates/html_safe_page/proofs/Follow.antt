@@ -1,5 +1,6 @@
 -- The test goes on from tag to tag.
-use Rattle.std.proofs.Common.{◌≡◌, ℕ, ◌-◌, ◌<◌, List, [], ◌∷◌, ◌++◌, Bool, true, false, ◌&&◌, cond, eqb, Option, None, Some, Bor, length, take, drop, refl, sym, ap, ◌∙◌, subst, inl, inr, arith}
+use Rattle.std.proofs.Common.{◌≡◌, ℕ, ◌-◌, ◌<◌, List, [], ◌∷◌, ◌++◌, Bool, true, false, ◌&&◌, cond, eqb, Option, None, Some, Bor, length, take, drop, refl, sym}
+use Rattle.std.proofs.Common.{ap, ◌∙◌, subst, inl, inr, arith}
 use Rattle.std.specs.Prelude.{◌==◌}
 use Rattle.std.specs.List.{starts_with}
 use Rattle.std.specs.Option.{IfSome, is_some, option_map, option_copied}
@@ -47,7 +48,8 @@ no_void : read_tag void_rows void_end [] ≡ None
 unfolding void_rows
 no_void = refl
 
-no_slash : (tag : List ℕ) (ns : List (List ℕ)) → starts_with eqb tag (47 ∷ []) ≡ false → follows tag ns ≡ with_open_tag (read_tag start_rows [] tag) (read_tag void_rows void_end tag) ns
+no_slash : (tag : List ℕ) (ns : List (List ℕ)) → starts_with eqb tag (47 ∷ []) ≡ false
+    → follows tag ns ≡ with_open_tag (read_tag start_rows [] tag) (read_tag void_rows void_end tag) ns
 no_slash [] ns h = sym (ap (λ o. with_open_tag o (read_tag void_rows void_end []) ns) no_start ∙ ap (λ o. with_open_tag None o ns) no_void)
 no_slash (b ∷ bs) ns h =
     cond-false (eqb b 47) (close bs ns) _ (ne_eqb b 47 (λ e. true≢false (sym (ap (λ x. x && true) (eq-eqb 47 b (sym e))) ∙ h)))
@@ -55,7 +57,8 @@ no_slash (b ∷ bs) ns h =
 name_of : Tag → List ℕ
 name_of t = t.name
 
-opened_start : (start void : Option Tag) (n : List ℕ) (ns : List (List ℕ)) → Some n ≡ option_map (λ (t : Tag). t.name) start → with_open_tag start void ns ≡ Some (n ∷ ns)
+opened_start : (start void : Option Tag) (n : List ℕ) (ns : List (List ℕ)) → Some n ≡ option_map (λ (t : Tag). t.name) start
+    → with_open_tag start void ns ≡ Some (n ∷ ns)
 opened_start None void n ns h = absurd (true≢false (ap is_some h))
 opened_start (Some tag) void n ns h = ap (λ o. Some (get o ∷ ns)) (sym h)
   where
@@ -79,13 +82,15 @@ started tag name old new h e k =
     ∙ ap (λ x. Some x) (sym (ap open_names e ∙ open_push old name))
 
 pub stayed : (tag : List ℕ) (r : Option (Bor (List ℕ))) (t : Bool) (ns : List (List ℕ)) → starts_with eqb tag (47 ∷ []) ≡ false
-    → None ≡ option_map (λ (t : Tag). t.name) (read_tag start_rows [] tag) → option_copied r ≡ option_map (λ (t : Tag). t.name) (read_tag void_rows void_end tag) → t ≡ is_some r
+    → None ≡ option_map (λ (t : Tag). t.name) (read_tag start_rows [] tag) → option_copied r
+    ≡ option_map (λ (t : Tag). t.name) (read_tag void_rows void_end tag) → t ≡ is_some r
     → follows tag ns ≡ if_goes_on t ns
 stayed tag r t ns h k l e = no_slash tag ns h ∙ opened_void (read_tag start_rows [] tag) (read_tag void_rows void_end tag) r t ns k l e
 
 -- ---- pages
 
-pub at_less : (rest : List ℕ) (first : ℕ) (after : List ℕ) (ns : List (List ℕ)) → rest ≡ first ∷ after → first ≡ 60 → closes (read rest) ns ≡ closes (read (60 ∷ after)) ns
+pub at_less : (rest : List ℕ) (first : ℕ) (after : List ℕ) (ns : List (List ℕ)) → rest ≡ first ∷ after → first ≡ 60
+    → closes (read rest) ns ≡ closes (read (60 ∷ after)) ns
 at_less rest first after ns e k = ap (λ x. closes (read x) ns) e ∙ ap (λ b. closes (read (b ∷ after)) ns) k
 
 split_shorter : (bytes : List ℕ) → IfSome (split_tag bytes) (λ q. length q.rest < length bytes)

@@ -1,8 +1,10 @@
 -- A page stays safe where another safe one is put in before one of its tags.
-use Rattle.std.proofs.Common.{◌≡◌, ℕ, zero, suc, ◌≤◌, ◌<◌, List, [], ◌∷◌, ◌++◌, Bool, true, false, ◌||◌, cond, eqb, Option, None, Some, codes, length, refl, sym, ap, ◌∙◌, subst, inl, inr, append_assoc, arith}
+use Rattle.std.proofs.Common.{◌≡◌, ℕ, zero, suc, ◌≤◌, ◌<◌, List, [], ◌∷◌, ◌++◌, Bool, true, false, ◌||◌, cond, eqb, Option, None, Some, codes, length, refl}
+use Rattle.std.proofs.Common.{sym, ap, ◌∙◌, subst, inl, inr, append_assoc, arith}
 use Rattle.std.specs.Option.{IfSome, is_some, option_map}
 use Rattle.std.proofs.lemmas.Bool.{cases_Bool, cond_both, cond-true, cond-false, false≢true, and_parts, and_from, or_left, or_right, eqb-true}
-use Rattle.html_safe_page.specs.SafePage.{Kind, And, Quote, Less, Greater, Plain, kind, spell_letter, spell_tag, Items, End, Letter, Void, Element, void_end, spell_before, spell, join, is_safe, IsSafePage}
+use Rattle.html_safe_page.specs.SafePage.{Kind, And, Quote, Less, Greater, Plain, kind, spell_letter, spell_tag, Items, End, Letter, Void, Element, void_end}
+use Rattle.html_safe_page.specs.SafePage.{spell_before, spell, join, is_safe, IsSafePage}
 use Rattle.html_safe_page.specs.Reader.{strip, QuotedText, longer, Rest, Reading, Nowhere, Outside, Inside, read}
 use Rattle.html_safe_page.specs.Machine.{begins_reference, stands, may_stand, split_tag, follows}
 use Rattle.html_safe_page.proofs.Options.{map_if}

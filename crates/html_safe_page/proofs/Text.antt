@@ -127,7 +127,8 @@ quoted_sound [] = tt
 quoted_sound (b ∷ bs) =
     let P = λ (q : QuotedText). q.inside ++ (34 ∷ q.rest) ≡ b ∷ bs in
     elim (cases_Bool (eqb b 34)) [
-      | inl e ↦ subst (λ o. IfSome o P) (sym (cond-true (eqb b 34) (Some (split [] bs)) (option_map (longer b) (before_quote bs)) e)) (ap (λ x. x ∷ bs) (sym (eqb-true b 34 e)))
+      | inl e ↦ subst (λ o. IfSome o P) (sym (cond-true (eqb b 34) (Some (split [] bs)) (option_map (longer b) (before_quote bs)) e))
+          (ap (λ x. x ∷ bs) (sym (eqb-true b 34 e)))
       | inr e ↦
           subst (λ o. IfSome o P) (sym (cond-false (eqb b 34) (Some (split [] bs)) (option_map (longer b) (before_quote bs)) e))
           (map_if (before_quote bs) (longer b) (λ q. q.inside ++ (34 ∷ q.rest) ≡ bs) P (quoted_sound bs) (λ q h. ap (λ x. b ∷ x) h))

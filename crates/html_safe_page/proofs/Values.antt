@@ -1,5 +1,6 @@
 -- A value is tested as it is spelled.
-use Rattle.std.proofs.Common.{◌≡◌, ℕ, ◌+◌, suc, List, [], ◌∷◌, ◌++◌, Bool, true, false, ◌&&◌, ◌||◌, cond, eqb, Option, None, Some, codes, drop, refl, sym, ap, ◌∙◌, inl, inr, arith}
+use Rattle.std.proofs.Common.{◌≡◌, ℕ, ◌+◌, suc, List, [], ◌∷◌, ◌++◌, Bool, true, false, ◌&&◌, ◌||◌, cond, eqb, Option, None, Some, codes, drop, refl, sym, ap}
+use Rattle.std.proofs.Common.{◌∙◌, inl, inr, arith}
 use Rattle.std.specs.Char.{to_ascii_lowercase}
 use Rattle.std.specs.List.{list_any, list_all, prefix_len, take_while}
 use Rattle.std.specs.Option.{IfSome, is_some, option_map}
@@ -8,7 +9,8 @@ use Rattle.std.proofs.lemmas.Bool.{cases_Bool, cond-true, cond-false, true≢fal
 use Rattle.std.proofs.lemmas.List.Sums.{take_while-cons}
 use Rattle.definition_text.specs.Bytes.{lower, after_all}
 use Rattle.definition_page.specs.Urls.{in_protocol, protocol, begins_with_colon, is_permitted, permitted, href_protocols, src_protocols}
-use Rattle.html_safe_page.specs.SafePage.{Kind, And, Quote, Less, Greater, Plain, kind, spell_kind, spell_letter, spell_text, is_value, Attribute, attribute_start}
+use Rattle.html_safe_page.specs.SafePage.{Kind, And, Quote, Less, Greater, Plain, kind, spell_kind, spell_letter, spell_text, is_value, Attribute}
+use Rattle.html_safe_page.specs.SafePage.{attribute_start}
 use Rattle.html_safe_page.specs.Reader.{and_then, strip, read_text, before_quote, read_value, read_attributes, attribute}
 use Rattle.html_safe_page.specs.Machine.{after_attribute}
 use Rattle.html_safe_page.proofs.Text.{by_kind, is_plain, plain_other, text_sound}
@@ -122,7 +124,8 @@ names_same (p ∷ ps) n h =
     let parts = and_parts (all_plain p) (list_all all_plain ps) h in
     ap (λ x. x || list_any (λ p. bytes_eq p (lower (sp n))) ps) (name_same p n parts.0) ∙ ap (λ x. bytes_eq p (lower n) || x) (names_same ps n parts.1)
 
-permitted_option : (protocols : List (List ℕ)) (o : Option (List ℕ)) → list_all all_plain protocols ≡ true → is_permitted protocols (option_map sp o) ≡ is_permitted protocols o
+permitted_option : (protocols : List (List ℕ)) (o : Option (List ℕ)) → list_all all_plain protocols ≡ true
+    → is_permitted protocols (option_map sp o) ≡ is_permitted protocols o
 permitted_option protocols None h = refl
 permitted_option protocols (Some n) h = names_same protocols n h
 
@@ -174,7 +177,8 @@ pub attribute_more : (n : List ℕ) (ns : List (List ℕ)) (ending bytes : List 
     → is_some (read_attributes (n ∷ ns) ending bytes) ≡ is_some (and_then (after_attribute n bytes) (read_attributes ns ending))
 attribute_more n ns ending bytes =
     under (strip (attribute_start n) bytes)
-    (λ start. and_then (before_quote start) (λ q. and_then (read_value n q.inside) (λ v. option_map (λ others. attribute n v ∷ others) (read_attributes ns ending q.rest))))
+    (λ start. and_then (before_quote start) (λ q. and_then (read_value n q.inside)
+    (λ v. option_map (λ others. attribute n v ∷ others) (read_attributes ns ending q.rest))))
     (λ start. and_then (before_quote start) (λ q. cond (is_some (read_value n q.inside)) (Some q.rest) None))
     (read_attributes ns ending)
     (λ start.

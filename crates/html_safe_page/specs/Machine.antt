@@ -32,7 +32,8 @@ after_attribute name bytes =
 -- a tag before its `>`, and what follows that
 abbrev pub split_tag : List ℕ → Option QuotedText
 split_tag [] = None
-split_tag (b ∷ bs) = if b == greater_than then Some (record { inside = []; rest = bs }) else (if b == less_than then None else option_map (longer b) (split_tag bs))
+split_tag (b ∷ bs) = if b == greater_than then Some (record { inside = []; rest = bs })
+    else (if b == less_than then None else option_map (longer b) (split_tag bs))
 
 -- the names of open tags, the innermost first, after an end tag
 abbrev pub close : List ℕ → List (List ℕ) → Option (List (List ℕ))

@@ -17,7 +17,8 @@ pub data Kind : Type 0 where
   Plain : Kind
 
 abbrev pub kind : ℕ → Kind
-kind b = if b == ampersand then And else (if b == double_quote then Quote else (if b == less_than then Less else (if b == greater_than then Greater else Plain)))
+kind b = if b == ampersand then And else (if b == double_quote then Quote
+    else (if b == less_than then Less else (if b == greater_than then Greater else Plain)))
 
 abbrev pub spell_kind : Kind → ℕ → List ℕ
 spell_kind And b = codes "&amp;"

@@ -11,4 +11,5 @@ whole_text bytes = text_to (unskipped bytes) (length bytes, 0)
 
 -- from a place that isn't inside of a tab, a text gives the codes of its bytes from there on
 abbrev pub TextCodesLaw : Type 0
-TextCodesLaw = (bytes : List ℕ) → ((i : ℕ) → slice_index bytes i < 256) → (p : Point) → p.vs ≡ 0 → Sees (whole_text bytes) p (content_codes (drop p.index bytes))
+TextCodesLaw = (bytes : List ℕ) → ((i : ℕ) → slice_index bytes i < 256) → (p : Point) → p.vs ≡ 0
+    → Sees (whole_text bytes) p (content_codes (drop p.index bytes))

@@ -1,5 +1,6 @@
 -- What the bytes of a character say (UTF-8).
-use Rattle.std.proofs.Common.{◌≡◌, ℕ, zero, suc, ◌+◌, ◌-◌, ◌*◌, ◌/◌, ◌%◌, ◌<◌, ◌≤◌, Bool, true, false, cond, eqb, ltb, leb, List, [], ◌∷◌, ◌++◌, inl, inr, refl, sym, ap, ◌∙◌, arith, ◌||◌, length, get_or}
+use Rattle.std.proofs.Common.{◌≡◌, ℕ, zero, suc, ◌+◌, ◌-◌, ◌*◌, ◌/◌, ◌%◌, ◌<◌, ◌≤◌, Bool, true, false, cond, eqb, ltb, leb, List, [], ◌∷◌, ◌++◌, inl, inr, refl}
+use Rattle.std.proofs.Common.{sym, ap, ◌∙◌, arith, ◌||◌, length, get_or}
 use Rattle.std.specs.Char.{encode_utf8}
 use Rattle.std.proofs.lemmas.Bool.{cases_lt, cond-true, cond-false, lt-ltb, le-ltb, le-leb, and_left, and_from, and_right, lt-leb, ne_eqb, or_from}
 use Rattle.definition_text.specs.declared.beside.Kind.{Kind}
@@ -12,7 +13,9 @@ use Rattle.inline_content.specs.View.{width, line_rest, kind_before, kind_betwee
 -- ---- bytes above 127
 
 high : (x : ℕ) → 128 ≤ x → x < 257 → is_eol x ≡ false
-high x h l = or_from (eqb x 10 || eqb x 13) (eqb x 257) (or_from (eqb x 10) (eqb x 13) (ne_eqb x 10 (λ e. omega (arith, e, h))) (ne_eqb x 13 (λ e. omega (arith, e, h)))) (ne_eqb x 257 (λ e. omega (arith, e, l)))
+high x h l =
+    or_from (eqb x 10 || eqb x 13) (eqb x 257) (or_from (eqb x 10) (eqb x 13) (ne_eqb x 10 (λ e. omega (arith, e, h))) (ne_eqb x 13 (λ e. omega (arith, e, h))))
+    (ne_eqb x 257 (λ e. omega (arith, e, l)))
 
 goes_on : (x : ℕ) → 128 ≤ x → x < 192 → is_continuation x ≡ true
 goes_on x h l = and_from (leb 128 x) (ltb x 192) (le-leb 128 x h) (lt-ltb x 192 l)
@@ -92,7 +95,8 @@ first_is c l small h = elim (cases_lt c 128) [
           (cond-false (ltb c 128) _ _ (le-ltb c 128 a) ∙ cond-false (ltb c 2048) _ _ (le-ltb c 2048 b) ∙ cond-false (ltb c 65536) _ _ (le-ltb c 65536 d))
           ∙ ap first_character
           (line_more x (y ∷ z ∷ w ∷ l) (high x (omega arith) (omega (arith, small)))
-          ∙ ap (λ k. x ∷ k) (line_more y (z ∷ w ∷ l) (high y (omega arith) (omega arith)) ∙ ap (λ k. y ∷ k) (line_more z (w ∷ l) (high z (omega arith) (omega arith)))))
+          ∙ ap (λ k. x ∷ k) (line_more y (z ∷ w ∷ l) (high y (omega arith) (omega arith))
+          ∙ ap (λ k. y ∷ k) (line_more z (w ∷ l) (high z (omega arith) (omega arith)))))
           ∙ first_four x y z w (cond (is_eol w) [] (line_rest l)) (omega arith) ∙ omega (arith, a, b, d)
     ]
   ]
@@ -181,16 +185,19 @@ module _ (p : ℕ → Bool) (marks : List Mark) where
       let s = spelled c small h in
       let left = line_rest (s.others ++ cs) in
       let first : first_character (s.head ∷ left) ≡ c =
-      ap first_character (sym (line_more s.head (s.others ++ cs) s.clear)) ∙ ap (λ bs. first_character (line_rest (bs ++ cs))) (sym s.same) ∙ first_is c cs small h in
+      ap first_character (sym (line_more s.head (s.others ++ cs) s.clear)) ∙ ap (λ bs. first_character (line_rest (bs ++ cs))) (sym s.same)
+      ∙ first_is c cs small h in
       ap (λ bs. kind_between p marks place before bs cs) s.same
       ∙ same_between (place + width s.head) (kind_before p marks (place + width s.head) before s.head left) s.others cs s.rest
       ∙ lead p marks (place + width s.head) before s.head left s.clear s.starts
       ∙ ap (character_kind p) first
 
 -- the kind before a character that ends no line
-pub kind_ahead : (p : ℕ → Bool) (end : Kind) (c : ℕ) (cs : List ℕ) → c < 2097152 → ends_line c ≡ false → first_kind p end (line_rest (encode_utf8 c ++ cs)) ≡ character_kind p c
+pub kind_ahead : (p : ℕ → Bool) (end : Kind) (c : ℕ) (cs : List ℕ) → c < 2097152 → ends_line c ≡ false
+    → first_kind p end (line_rest (encode_utf8 c ++ cs)) ≡ character_kind p c
 kind_ahead p end c cs small h =
     let s = spelled c small h in
     let left = line_rest (s.others ++ cs) in
     let line : line_rest (encode_utf8 c ++ cs) ≡ s.head ∷ left = ap (λ bs. line_rest (bs ++ cs)) s.same ∙ line_more s.head (s.others ++ cs) s.clear in
-    ap (first_kind p end) line ∙ cond-false (is_eol s.head) _ _ s.clear ∙ ap (λ l. character_kind p (first_character l)) (sym line) ∙ ap (character_kind p) (first_is c cs small h)
+    ap (first_kind p end) line ∙ cond-false (is_eol s.head) _ _ s.clear ∙ ap (λ l. character_kind p (first_character l)) (sym line)
+    ∙ ap (character_kind p) (first_is c cs small h)

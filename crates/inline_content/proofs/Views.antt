@@ -1,5 +1,6 @@
 -- The codes of a content, cut between two of them, and what stands beside them.
-use Rattle.std.proofs.Common.{◌≡◌, ℕ, zero, suc, ◌+◌, ◌-◌, ◌<◌, Bool, true, List, [], ◌∷◌, ◌++◌, Option, None, refl, ap, ◌∙◌, get_or, length, drop, append_assoc, arith}
+use Rattle.std.proofs.Common.{◌≡◌, ℕ, zero, suc, ◌+◌, ◌-◌, ◌<◌, Bool, true, List, [], ◌∷◌, ◌++◌, Option, None, refl, ap, ◌∙◌, get_or, length, drop}
+use Rattle.std.proofs.Common.{append_assoc, arith}
 use Rattle.std.proofs.lemmas.Bool.{cond-true}
 use Rattle.std.proofs.lemmas.List.{length-append}
 use Rattle.definition_text.specs.declared.beside.Kind.{Kind}
@@ -8,7 +9,8 @@ use Rattle.definition_text.specs.InlineCode.{InlineCode, codes_of}
 use Rattle.inline_content.specs.declared.mark.Mark.{Mark}
 use Rattle.inline_content.specs.declared.content.Content.{Content}
 use Rattle.inline_content.specs.Marks.{kind_at}
-use Rattle.inline_content.specs.View.{width, line_rest, kind_after, kind_before, kind_between, previous_after, previous_from, view_from, codes_with_marks, content_view}
+use Rattle.inline_content.specs.View.{width, line_rest, kind_after, kind_before, kind_between, previous_after, previous_from, view_from, codes_with_marks}
+use Rattle.inline_content.specs.View.{content_view}
 
 -- how many bytes codes are
 abbrev pub widths : List ℕ → ℕ
@@ -19,7 +21,8 @@ module _ (p : ℕ → Bool) (end : Kind) (marks : List Mark) where
   -- the codes are those of the text
   pub codes_from : (place : ℕ) (previous : Option ℕ) (before : Kind) (cs : List ℕ) → codes_of (view_from p end marks place previous before cs) ≡ cs
   codes_from place previous before [] = refl
-  codes_from place previous before (c ∷ cs) = ap (λ x. c ∷ x) (codes_from (place + width c) (previous_after c) (kind_before p marks (place + width c) before c (line_rest cs)) cs)
+  codes_from place previous before (c ∷ cs) =
+      ap (λ x. c ∷ x) (codes_from (place + width c) (previous_after c) (kind_before p marks (place + width c) before c (line_rest cs)) cs)
 
   -- ---- what is left after some codes
 
@@ -54,7 +57,8 @@ module _ (p : ℕ → Bool) (marks : List Mark) where
       let is : left ≡ same = ap line_rest (append_assoc xs ys cs) in
       let e : place + width c + widths xs ≡ place + (width c + widths xs) = omega arith in
       between_append (place + width c) next xs ys cs
-      ∙ ap (λ l. kind_between p marks (place + width c + widths xs) (kind_between p marks (place + width c) (kind_before p marks (place + width c) before c l) xs (ys ++ cs)) ys cs) is
+      ∙ ap (λ l. kind_between p marks (place + width c + widths xs) (kind_between p marks (place + width c)
+      (kind_before p marks (place + width c) before c l) xs (ys ++ cs)) ys cs) is
       ∙ ap (λ n. kind_between p marks n (kind_between p marks (place + width c) (kind_before p marks (place + width c) before c same) xs (ys ++ cs)) ys cs) e
 
   -- after a line ending a line starts
@@ -83,4 +87,5 @@ view_is p end marks text rest front e =
     ap (λ k. drop k (codes_with_marks p end marks text)) n
     ∙ ap (λ cs. drop (length front) (view_from p end marks 0 None (kind_at marks 0) cs)) e
     ∙ view_drop p end marks 0 None (kind_at marks 0) front (content_codes rest)
-    ∙ ap (λ k. view_from p end marks k (previous_from None front) (kind_between p marks 0 (kind_at marks 0) front (content_codes rest)) (content_codes rest)) (omega arith)
+    ∙ ap (λ k. view_from p end marks k (previous_from None front) (kind_between p marks 0 (kind_at marks 0) front (content_codes rest)) (content_codes rest))
+    (omega arith)

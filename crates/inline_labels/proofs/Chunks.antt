@@ -1,5 +1,6 @@
 -- A word with its case folded, chunk by chunk: a text, and the bytes after it that are no text.
-use Rattle.std.proofs.Common.{◌≡◌, ℕ, false, eqb, List, [], ◌∷◌, ◌++◌, length, drop, encode_utf8, Result, Ok, Err, OnOk, is_ok, if◌then◌else◌, refl, sym, ap, ap₂, ◌∙◌, append_assoc, arith}
+use Rattle.std.proofs.Common.{◌≡◌, ℕ, false, eqb, List, [], ◌∷◌, ◌++◌, length, drop, encode_utf8, Result, Ok, Err, OnOk, is_ok, if◌then◌else◌, refl, sym, ap}
+use Rattle.std.proofs.Common.{ap₂, ◌∙◌, append_assoc, arith}
 use Rattle.std.proofs.lemmas.List.{append-nil}
 use Rattle.std.proofs.lemmas.Str.{IsUtf8-from_is_utf8, utf8_lossy_chunk, utf8_lossy_last_chunk, utf8_lossy_empty}
 use Rattle.std.specs.Str.{IsUtf8, chars, is_utf8}
@@ -34,7 +35,8 @@ folded_chunk bs text [] rest is_text parts first second last =
 folded_chunk bs text (b ∷ no_text) rest is_text parts first second last =
     ap case_fold (utf8_lossy_chunk bs text (b ∷ no_text) rest parts first second (omega arith))
     ∙ case_folded-append text (replacement_bytes ++ utf8_lossy rest) is_text
-    ∙ ap (λ t. case_fold text ++ t) (case_folded-append replacement_bytes (utf8_lossy rest) replacement_is_text ∙ ap (λ t. t ++ fold_word rest) replacement_folded)
+    ∙ ap (λ t. case_fold text ++ t) (case_folded-append replacement_bytes (utf8_lossy rest) replacement_is_text
+    ∙ ap (λ t. t ++ fold_word rest) replacement_folded)
     ∙ sym (append_assoc (case_fold text) replacement_bytes (fold_word rest))
 
 pub folded_end : (bs : List ℕ) → length bs ≡ 0 → fold_word bs ≡ []

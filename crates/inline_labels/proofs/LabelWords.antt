@@ -22,7 +22,8 @@ split_renamed f renames (c ∷ cs) = elim (cases_Bool (is_space c)) [
   | inl h ↦
       cond-true (is_space (f c)) _ _ (space_same f renames c ∙ h) ∙ ap (λ parts. [] ∷ parts) (split_renamed f renames cs) ∙ sym (cond-true (is_space c) _ _ h)
   | inr h ↦
-      cond-false (is_space (f c)) _ _ (space_same f renames c ∙ h) ∙ ap₂ onto_first (renames.other c h) (split_renamed f renames cs) ∙ sym (cond-false (is_space c) _ _ h)
+      cond-false (is_space (f c)) _ _ (space_same f renames c ∙ h) ∙ ap₂ onto_first (renames.other c h) (split_renamed f renames cs)
+      ∙ sym (cond-false (is_space c) _ _ h)
 ]
 
 pub words_renamed : (f : ℕ → ℕ) → Renames f → (cs : List ℕ) → words (map f cs) ≡ words cs
@@ -35,7 +36,8 @@ pub normals_renamed : (f : ℕ → ℕ) → Renames f → (labels : List (List �
 normals_renamed f renames [] = refl
 normals_renamed f renames (label ∷ labels) = ap₂ ◌∷◌ (normal_renamed f renames label) (normals_renamed f renames labels)
 
-pub first_match-renamed : (f : ℕ → ℕ) → Renames f → (label : List ℕ) (labels : List (List ℕ)) → first_match (map f label) (map (map f) labels) ≡ first_match label labels
+pub first_match-renamed : (f : ℕ → ℕ) → Renames f → (label : List ℕ) (labels : List (List ℕ))
+    → first_match (map f label) (map (map f) labels) ≡ first_match label labels
 first_match-renamed f renames label labels = ap₂ place_of (normal_renamed f renames label) (normals_renamed f renames labels)
 
 -- ---- CR LF as one code or as two bytes
@@ -96,7 +98,8 @@ same_pair : (b : ℕ) (bs : List ℕ) → eqb b 10 ≡ true → HaveSameWords (c
     → HaveSameWords (slice_split is_space (after_return_code (b ∷ bs) (content_codes (b ∷ bs)))) ([] ∷ bytes_split (b ∷ bs))
 same_pair b bs feed h =
     let is : b ≡ 10 = eqb-true b 10 feed in
-    let pair : after_return_code (b ∷ bs) (content_codes (b ∷ bs)) ≡ 257 ∷ content_codes bs = ap (λ c. after_return_code (c ∷ bs) (content_codes (c ∷ bs))) is in
+    let pair : after_return_code (b ∷ bs) (content_codes (b ∷ bs)) ≡ 257 ∷ content_codes bs =
+    ap (λ c. after_return_code (c ∷ bs) (content_codes (c ∷ bs))) is in
     let here : HaveSameWords ([] ∷ codes_split bs) ([] ∷ [] ∷ bytes_split bs) = record {
       first = [];
       left = codes_split bs;
@@ -118,7 +121,8 @@ same_return (b ∷ bs) h more = elim (cases_Bool (eqb b 10)) [
       (same_after (codes_split (b ∷ bs)) (bytes_split (b ∷ bs)) h)
 ]
 
-same_byte : (b : ℕ) (bs : List ℕ) → eqb b 13 ≡ false → HaveSameWords (codes_split bs) (bytes_split bs) → HaveSameWords (codes_split (b ∷ bs)) (bytes_split (b ∷ bs))
+same_byte : (b : ℕ) (bs : List ℕ) → eqb b 13 ≡ false → HaveSameWords (codes_split bs) (bytes_split bs)
+    → HaveSameWords (codes_split (b ∷ bs)) (bytes_split (b ∷ bs))
 same_byte b bs other h =
     let code : codes_split (b ∷ bs) ≡ slice_split is_space (b ∷ content_codes bs) = ap (slice_split is_space) (cond-false (eqb b 13) _ _ other) in
     elim (cases_Bool (is_space b)) [
@@ -126,7 +130,8 @@ same_byte b bs other h =
           same_at _ _ ([] ∷ codes_split bs) ([] ∷ bytes_split bs) (code ∙ cond-true (is_space b) _ _ white) (cond-true (is_space b) _ _ white)
           (same_after (codes_split bs) (bytes_split bs) h)
       | inr black ↦
-          same_at _ _ (onto_first b (codes_split bs)) (onto_first b (bytes_split bs)) (code ∙ cond-false (is_space b) _ _ black) (cond-false (is_space b) _ _ black)
+          same_at _ _ (onto_first b (codes_split bs)) (onto_first b (bytes_split bs)) (code ∙ cond-false (is_space b) _ _ black)
+          (cond-false (is_space b) _ _ black)
           (same_onto b (codes_split bs) (bytes_split bs) h)
     ]
 

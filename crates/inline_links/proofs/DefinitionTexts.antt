@@ -8,7 +8,8 @@ use Rattle.definition_inline.specs.Space.{after_spaces, after_white, begins_with
 use Rattle.definition_inline.specs.Label.{label_at}
 use Rattle.definition_inline.specs.Destination.{destination_at}
 use Rattle.definition_inline.specs.Title.{title_at}
-use Rattle.definition_inline.specs.Definition.{Definition, definition, definition_before, next_line, with_title, definition_with_title, or_definition_without_title, with_destination, with_colon, with_label, definition_at}
+use Rattle.definition_inline.specs.Definition.{Definition, definition, definition_before, next_line, with_title, definition_with_title}
+use Rattle.definition_inline.specs.Definition.{or_definition_without_title, with_destination, with_colon, with_label, definition_at}
 use Rattle.inline_links.specs.Texts.{IsText}
 use Rattle.inline_links.proofs.Splits.{from_some, is_ascii_code}
 use Rattle.inline_links.proofs.Texts.{around, destination_text, label_text, spaces_text, title_text, white_text}
@@ -33,11 +34,13 @@ titled_texts : (label : List ℕ) (p : Part) (d : Definition) → IsText p.text 
 titled_texts label p d t rest e = elim (cases_Bool (begins_with_space p.rest)) [
   | inl h ↦
       let next = after_white p.rest in
-      title_texts label p.text (title_at next) d t (λ q f. (title_text next q (white_text p.rest rest).text f).text) (sym (cond-true (begins_with_space p.rest) _ _ h) ∙ e)
+      title_texts label p.text (title_at next) d t (λ q f. (title_text next q (white_text p.rest rest).text f).text)
+      (sym (cond-true (begins_with_space p.rest) _ _ h) ∙ e)
   | inr h ↦ absurd (none-some d (sym (cond-false (begins_with_space p.rest) _ _ h) ∙ e))
 ]
 
-or_untitled_texts : (label : List ℕ) (p : Part) (o : Option Definition) (d : Definition) → IsText p.text → ((found : Definition) → o ≡ Some found → DefinitionTexts found)
+or_untitled_texts : (label : List ℕ) (p : Part) (o : Option Definition) (d : Definition) → IsText p.text
+    → ((found : Definition) → o ≡ Some found → DefinitionTexts found)
     → or_definition_without_title label p o ≡ Some d → DefinitionTexts d
 or_untitled_texts label p None d t h e = before_texts label p.text None (next_line p.rest) d t tt e
 or_untitled_texts label p (Some found) d t h e = h d e

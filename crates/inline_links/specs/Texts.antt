@@ -32,7 +32,11 @@ found_text_part (Some read) = Some (text_part read)
 
 abbrev pub text_resource : TextResource → resource.LinkResource
 text_resource read =
-    record { destination = content_codes read.destination.now; title = option_map (λ text. content_codes text.now) read.title; rest = content_codes read.rest.now }
+    record {
+      destination = content_codes read.destination.now;
+      title = option_map (λ text. content_codes text.now) read.title;
+      rest = content_codes read.rest.now;
+    }
 
 abbrev pub found_text_resource : Option TextResource → Option resource.LinkResource
 found_text_resource None = None
@@ -40,7 +44,8 @@ found_text_resource (Some read) = Some (text_resource read)
 
 abbrev pub text_definition : TextDefinition → link_definition.Definition
 text_definition read =
-    definition (content_codes read.label.now) (content_codes read.destination.now) (option_map (λ text. content_codes text.now) read.title) (content_codes read.rest.now)
+    definition (content_codes read.label.now) (content_codes read.destination.now) (option_map (λ text. content_codes text.now) read.title)
+    (content_codes read.rest.now)
 
 abbrev pub found_text_definition : Option TextDefinition → Option link_definition.Definition
 found_text_definition None = None

@@ -1,5 +1,6 @@
 -- What is found of literals, in bytes.
-use Rattle.std.specs.Prelude.{◌≡◌, ◌+◌, ◌-◌, ◌<◌, ◌≤◌, ℕ, zero, suc, Bool, true, false, not, ◌&&◌, ◌||◌, ◌==◌, if◌then◌else◌, List, [], ◌∷◌, Option, None, Some, codes, drop, length, slice_index, take}
+use Rattle.std.specs.Prelude.{◌≡◌, ◌+◌, ◌-◌, ◌<◌, ◌≤◌, ℕ, zero, suc, Bool, true, false, not, ◌&&◌, ◌||◌, ◌==◌, if◌then◌else◌, List, [], ◌∷◌, Option, None, Some}
+use Rattle.std.specs.Prelude.{codes, drop, length, slice_index, take}
 use Rattle.std.specs.Str.{IsCharBoundary}
 use Rattle.definition_text.specs.Ascii.{right_parenthesis, semicolon}
 use Rattle.definition_text.specs.declared.beside.Kind.TheVariants.{Whitespace}

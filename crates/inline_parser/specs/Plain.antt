@@ -1,7 +1,8 @@
 -- Text in a content (CommonMark 6.9).
 use Rattle.std.specs.Prelude.{◌≡◌, ◌<◌, ◌≤◌, ℕ, Bool, true, false, not, if◌then◌else◌, ◌==◌, ◌||◌, List, [], ◌∷◌, drop, length, slice_index}
 use Rattle.std.specs.Char.{to_ascii_lowercase}
-use Rattle.definition_text.specs.Ascii.{exclamation_mark, dollar, ampersand, asterisk, less_than, left_bracket, backslash, right_bracket, underscore, backtick, tilde}
+use Rattle.definition_text.specs.Ascii.{exclamation_mark, dollar, ampersand, asterisk, less_than, left_bracket, backslash, right_bracket, underscore, backtick}
+use Rattle.definition_text.specs.Ascii.{tilde}
 use Rattle.definition_text.specs.Columns.{is_white, bare}
 use Rattle.definition_text.specs.Content.{is_eol}
 use Rattle.definition_inline.specs.HardBreak.{ends_here}
@@ -11,7 +12,8 @@ use Rattle.inline_literals.specs.Literals.{may_begin}
 abbrev pub is_special : ℕ → Bool
 is_special code =
     (code == backslash) || ((code == ampersand) || ((code == backtick) || ((code == dollar) || ((code == less_than)
-    || ((code == asterisk) || ((code == underscore) || ((code == tilde) || ((code == exclamation_mark) || ((code == left_bracket) || (code == right_bracket))))))))))
+    || ((code == asterisk) || ((code == underscore)
+    || ((code == tilde) || ((code == exclamation_mark) || ((code == left_bracket) || (code == right_bracket))))))))))
 
 -- a code at which a construct may start, if it is no space or tab: one of these, or a line ending
 abbrev pub starts : ℕ → Bool

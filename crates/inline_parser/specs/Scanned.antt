@@ -39,7 +39,8 @@ abbrev pub context_by : ParseOptions → (List ℕ → Option (List ℕ)) → Ta
 context_by options names ds = record { options = options; names = names; is_defined = is_label_of ds.definitions; is_footnote = is_footnote_of ds.footnotes }
 
 -- what was read, and that the scan of what is left gives this in the end
-pub record Follows {A : Type 0} (options : ParseOptions) (names : List ℕ → Option (List ℕ)) (is_punctuation : ℕ → Bool) (ds : Targets) (content : Content) (s : Scanner A) (final : scan.Reading) : Type 0 where
+pub record Follows {A : Type 0} (options : ParseOptions) (names : List ℕ → Option (List ℕ)) (is_punctuation : ℕ
+    → Bool) (ds : Targets) (content : Content) (s : Scanner A) (final : scan.Reading) : Type 0 where
   pub now : scan.Reading
   pub shows : Shows (leads_to (linked_by ds.definitions)) (linked_at ds.definitions) s.reading now
   pub same : scan.scan (context_by options names ds) 0 now (view_at is_punctuation content s.rest.now) ≡ final
@@ -87,7 +88,8 @@ scan_from options names is_punctuation ds content start =
     scan.scan (context_by options names ds) 0 (scan.reading (scan.text [] false) []) (view_at is_punctuation content start)
 
 -- a content that is being read from this place to this end
-pub record IsScanning {A : Type 0} (options : ParseOptions) (names : List ℕ → Option (List ℕ)) (is_punctuation : ℕ → Bool) (labels footnotes : LabelTable A) (content : Content) (start : List ℕ) (s : Scanner A) : Type 0 where
+pub record IsScanning {A : Type 0} (options : ParseOptions) (names : List ℕ → Option (List ℕ)) (is_punctuation : ℕ
+    → Bool) (labels footnotes : LabelTable A) (content : Content) (start : List ℕ) (s : Scanner A) : Type 0 where
   pub placed : IsPlaced is_punctuation content s
   pub follows : (ds : Targets) → HasTargets labels footnotes ds
       → Follows options names is_punctuation ds content s (scan_from options names is_punctuation ds content start)
@@ -96,11 +98,13 @@ pub record IsScanning {A : Type 0} (options : ParseOptions) (names : List ℕ �
 abbrev pub GoesOn : {T A B C : Type 0} → (List ℕ → Option (List ℕ)) → (ℕ → Bool) → Source T A → Scanner A → Result B C → Scanner A → Type 0
 GoesOn names is_punctuation source old result new =
     (ds : Targets) (final : scan.Reading) → HasTargets source.labels.now source.footnotes.now ds →
-    Follows source.options.now names is_punctuation ds source.content old final → OnOk result (Follows source.options.now names is_punctuation ds source.content new final)
+    Follows source.options.now names is_punctuation ds source.content old final
+    → OnOk result (Follows source.options.now names is_punctuation ds source.content new final)
 
 -- what is left stays a rest of the content, unless memory ran out
 abbrev pub StaysPlaced : {A B C : Type 0} → Scanner A → Result B C → Scanner A → Type 0
-StaysPlaced old result new = (is_punctuation : ℕ → Bool) (content : Content) → IsPlaced is_punctuation content old → OnOk result (IsPlaced is_punctuation content new)
+StaysPlaced old result new = (is_punctuation : ℕ → Bool) (content : Content) → IsPlaced is_punctuation content old
+    → OnOk result (IsPlaced is_punctuation content new)
 
 -- less is left, unless memory ran out
 abbrev pub Shortens : {A B C : Type 0} → Scanner A → Result B C → Scanner A → Type 0

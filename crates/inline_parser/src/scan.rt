@@ -297,7 +297,8 @@ impl<'a, A: Allocator + Clone> Scanner<'a, A> {
         requires front { StartsLabel self.old.rest.now start }
         ensures placed { StaysPlaced self.old result self.new }
         ensures rest { OnOk result (self.new.rest.now ≡ drop (length (start_bytes (start_view start))) self.old.rest.now) }
-        ensures read { ShowsThen self.old.reading result self.new.reading (with_open_label start (drop (length (start_bytes (start_view start))) self.old.rest.now)) }
+        ensures read { ShowsThen self.old.reading result self.new.reading
+            (with_open_label start (drop (length (start_bytes (start_view start))) self.old.rest.now)) }
     {
         let size = start.size();
         let after = cut_after(self.rest, size);

@@ -1,5 +1,6 @@
 -- A text is decoded to one text.
-use Rattle.std.proofs.Common.{◌≡◌, ℕ, zero, suc, ◌≤◌, List, [], ◌∷◌, ◌++◌, Option, None, Some, ◌⊎◌, length, refl, sym, ap, ◌∙◌, subst, inl, inr, arith, length-append}
+use Rattle.std.proofs.Common.{◌≡◌, ℕ, zero, suc, ◌≤◌, List, [], ◌∷◌, ◌++◌, Option, None, Some, ◌⊎◌, length, refl, sym, ap, ◌∙◌, subst, inl, inr, arith}
+use Rattle.std.proofs.Common.{length-append}
 use Rattle.definition_text.specs.Content.{Part, part}
 use Rattle.definition_inline.specs.CharacterReference.{CharacterName, Names}
 use Rattle.definition_inline.specs.Decoded.{known_at, decode}

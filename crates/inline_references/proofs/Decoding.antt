@@ -1,5 +1,6 @@
 -- Decoded texts, part by part.
-use Rattle.std.proofs.Common.{◌≡◌, ℕ, zero, suc, ◌+◌, ◌-◌, ◌<◌, true, false, List, [], ◌∷◌, ◌++◌, Option, None, Some, refl, sym, ap, ◌∙◌, inl, inr, eqb, length, take, drop, arith, not, subst, length-append}
+use Rattle.std.proofs.Common.{◌≡◌, ℕ, zero, suc, ◌+◌, ◌-◌, ◌<◌, true, false, List, [], ◌∷◌, ◌++◌, Option, None, Some, refl, sym, ap, ◌∙◌, inl, inr, eqb, length}
+use Rattle.std.proofs.Common.{take, drop, arith, not, subst, length-append}
 use Rattle.std.specs.Prelude.{is_some, unwrap_or}
 use Rattle.std.specs.List.{position_or_len, before_first, after_first, list_all}
 use Rattle.std.specs.Option.{option_map, option_and_then}
@@ -27,7 +28,8 @@ pub record HasReference (names : Names) (bytes : List ℕ) (p : Part) : Type 0 w
   pub text : reference_text names name ≡ Some p.text
   pub is : bytes ≡ front ++ p.rest
 
-with_text : (names : Names) (bytes : List ℕ) (p : Part) (r : CharacterReference) → reference_form bytes ≡ Some r → (text : Option (List ℕ)) → reference_text names r.name ≡ text
+with_text : (names : Names) (bytes : List ℕ) (p : Part) (r : CharacterReference) → reference_form bytes ≡ Some r → (text : Option (List ℕ))
+    → reference_text names r.name ≡ text
     → option_map (λ x. part x r.rest) text ≡ Some p → HasReference names bytes p
 with_text names bytes p r e None t h = cc
 with_text names bytes p r e (Some text) t h =
@@ -160,7 +162,8 @@ decoded_reference names bytes r is known =
     (ap (option_and_then (known_text names)) (sym is) ∙ text_known (reference_text names r.name) r.rest known)
 
 -- whose name isn't known
-pub decoded_unknown : (names : Names) (b : ℕ) (bs : List ℕ) (r : CharacterReference) → Some r ≡ reference_form (b ∷ bs) → is_some (reference_text names r.name) ≡ false
+pub decoded_unknown : (names : Names) (b : ℕ) (bs : List ℕ) (r : CharacterReference) → Some r ≡ reference_form (b ∷ bs)
+    → is_some (reference_text names r.name) ≡ false
     → decode names (b ∷ bs) ≡ b ∷ decode names bs
 decoded_unknown names b bs r is unknown =
     decoded_other names b bs (ap (option_and_then (known_text names)) (sym is) ∙ no_text (reference_text names r.name) r.rest unknown)

@@ -1,5 +1,6 @@
 -- References are read by the marker of what stands after their `&`.
-use Rattle.std.proofs.Common.{◌≡◌, ℕ, suc, ◌+◌, ◌-◌, ◌<◌, List, [], ◌∷◌, ◌++◌, Bool, true, false, cond, ◌&&◌, ◌||◌, eqb, leb, Option, None, Some, refl, sym, ap, ◌∙◌, inl, inr, arith, length, take, drop, get_or}
+use Rattle.std.proofs.Common.{◌≡◌, ℕ, suc, ◌+◌, ◌-◌, ◌<◌, List, [], ◌∷◌, ◌++◌, Bool, true, false, cond, ◌&&◌, ◌||◌, eqb, leb, Option, None, Some, refl, sym, ap}
+use Rattle.std.proofs.Common.{◌∙◌, inl, inr, arith, length, take, drop, get_or}
 use Rattle.std.specs.List.{prefix_len}
 use Rattle.std.specs.Option.{option_map}
 use Rattle.std.proofs.lemmas.Bool.{cases_Bool, cond-true, cond-false, eqb-true, ne_eqb, le-leb, leb-true, leb-false}
@@ -7,9 +8,11 @@ use Rattle.std.proofs.lemmas.List.{at_drop_all, drop-drop, get_or-drop, length-d
 use Rattle.std.proofs.Math.Seq.{drop-cons}
 use Rattle.definition_text.specs.Content.{Part, part}
 use Rattle.definition_inline.specs.CharacterReference as definition
-use Rattle.definition_inline.specs.CharacterReference.{character_reference, before_semicolon, part_to_semicolon, reference_by_name, reference_by_number, number_reference, reference_after}
+use Rattle.definition_inline.specs.CharacterReference.{character_reference, before_semicolon, part_to_semicolon, reference_by_name, reference_by_number}
+use Rattle.definition_inline.specs.CharacterReference.{number_reference, reference_after}
 use Rattle.inline_references.specs.declared.reference.Reference.{Reference}
-use Rattle.inline_references.specs.Markers.{name_marker, decimal_marker, hexadecimal_marker, is_value_byte, marker_of, marker_size, name_by, value_max, IsDecodable}
+use Rattle.inline_references.specs.Markers.{name_marker, decimal_marker, hexadecimal_marker, is_value_byte, marker_of, marker_size, name_by, value_max}
+use Rattle.inline_references.specs.Markers.{IsDecodable}
 use Rattle.inline_references.specs.Places.{placed_reference, value_of, IsPlaced}
 use Rattle.inline_references.proofs.Values.{decodable}
 
@@ -99,7 +102,8 @@ other_at text xs n other =
       | inl p ↦ at_drop_all (before_semicolon text) xs n (leb-true (length xs) n p)
       | inr p ↦
           let lt = leb-false (length xs) n p in
-          ap (before_semicolon text) (drop-cons xs n 0 lt) ∙ cond-false (eqb (get_or xs n 0) 59) (Some (part text (drop (suc n) xs))) None (ne_eqb (get_or xs n 0) 59 (other lt))
+          ap (before_semicolon text) (drop-cons xs n 0 lt) ∙ cond-false (eqb (get_or xs n 0) 59) (Some (part text (drop (suc n) xs))) None
+          (ne_eqb (get_or xs n 0) 59 (other lt))
     ]
 
 pub unclosed : (bytes : List ℕ) (marker start size : ℕ) → IsSized bytes marker start size
@@ -127,7 +131,8 @@ closed_read bytes r placed size =
     let within : n < length from = omega (arith, placed.within, placed.nonempty, length-drop r.start bytes) in
     let semicolon : get_or from n 0 ≡ 59 = get_or-drop r.start bytes n 0 ∙ ap (λ k. get_or bytes k 0) e ∙ placed.semicolon in
     let last : r.start + (n + 1) ≡ r.end + 1 = omega (arith, placed.nonempty) in
-    let fits : has_size r.marker n ≡ true = ap (λ b. b && leb n (value_max r.marker)) (le-leb 1 n (omega (arith, placed.nonempty))) ∙ le-leb n (value_max r.marker) placed.bounded in
+    let fits : has_size r.marker n ≡ true =
+    ap (λ b. b && leb n (value_max r.marker)) (le-leb 1 n (omega (arith, placed.nonempty))) ∙ le-leb n (value_max r.marker) placed.bounded in
     sym (by_size bytes r.marker r.start n sized
     ∙ ap (option_map (with_marker r.marker))
     (cond-true (has_size r.marker n) (before_semicolon (take n from) (drop n from)) None fits ∙ semicolon_at (take n from) from n within semicolon)

@@ -3,7 +3,8 @@ use Rattle.std.specs.Prelude.{◌≡◌, ℕ, ◌≤◌, Bool, List, [], ◌∷�
 use Rattle.std.specs.Char.{is_ascii_digit, is_ascii_hexdigit, is_ascii_alphanumeric}
 use Rattle.std.specs.List.{list_all}
 use Rattle.definition_text.specs.Ascii.{number_sign, ampersand, semicolon, capital_x, small_x}
-use Rattle.definition_inline.specs.CharacterReference.{CharacterName, Named, Numbered, CharacterReference, character_reference, Names, number_of, reference_form, reference_text}
+use Rattle.definition_inline.specs.CharacterReference.{CharacterName, Named, Numbered, CharacterReference, character_reference, Names, number_of}
+use Rattle.definition_inline.specs.CharacterReference.{reference_form, reference_text}
 use Rattle.definition_inline.specs.Decoded.{decode}
 
 -- from one to so many bytes, all of a kind
@@ -16,8 +17,10 @@ pub record IsValue (test : ℕ → Bool) (most : ℕ) (value : List ℕ) : Type 
 pub data IsWritten : List ℕ → CharacterName → Type 0 where
   name : (value : List ℕ) → IsValue is_ascii_alphanumeric 31 value → IsWritten (ampersand ∷ value ++ semicolon ∷ []) (Named value)
   digits : (value : List ℕ) → IsValue is_ascii_digit 7 value → IsWritten (ampersand ∷ number_sign ∷ value ++ semicolon ∷ []) (Numbered (number_of 10 value))
-  lower_x : (value : List ℕ) → IsValue is_ascii_hexdigit 6 value → IsWritten (ampersand ∷ number_sign ∷ small_x ∷ value ++ semicolon ∷ []) (Numbered (number_of 16 value))
-  upper_x : (value : List ℕ) → IsValue is_ascii_hexdigit 6 value → IsWritten (ampersand ∷ number_sign ∷ capital_x ∷ value ++ semicolon ∷ []) (Numbered (number_of 16 value))
+  lower_x : (value : List ℕ) → IsValue is_ascii_hexdigit 6 value
+      → IsWritten (ampersand ∷ number_sign ∷ small_x ∷ value ++ semicolon ∷ []) (Numbered (number_of 16 value))
+  upper_x : (value : List ℕ) → IsValue is_ascii_hexdigit 6 value
+      → IsWritten (ampersand ∷ number_sign ∷ capital_x ∷ value ++ semicolon ∷ []) (Numbered (number_of 16 value))
 
 -- what is written is read
 abbrev pub WrittenIsRead : Type 0

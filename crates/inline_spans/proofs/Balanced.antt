@@ -5,7 +5,8 @@ use Rattle.std.proofs.lemmas.List.{append-nil, nil_from_length}
 use Rattle.definition_inline.specs.Inline.{Target, Linked, Inline, Inlines, Nil, Cons, followed_by}
 use Rattle.inline_rows.specs.InlineRows as rows
 use Rattle.inline_rows.specs.InlineRows.{part_rows, inline_rows}
-use Rattle.definition_inline.specs.Spans.{Span, IsEmphasis, IsStrong, IsStrikethrough, SpanRow, Holds, Opens, Closes, OpenSpan, nest, span_part, nest_row, nest_spans}
+use Rattle.definition_inline.specs.Spans.{Span, IsEmphasis, IsStrong, IsStrikethrough, SpanRow, Holds, Opens, Closes, OpenSpan, nest, span_part, nest_row}
+use Rattle.definition_inline.specs.Spans.{nest_spans}
 use Rattle.inline_spans.specs.Told.{told_rows}
 
 -- from so many open spans rows lead to so many, and none of them ends a span where none is open
@@ -26,7 +27,8 @@ module _ (leads : Target → Linked) where
 
   one_more : (is : Inlines) (i : Inline) → inline_rows leads (followed_by is i) ≡ inline_rows leads is ++ part_rows leads i
   one_more Nil i = append-nil (part_rows leads i)
-  one_more (Cons j js) i = ap (λ xs. part_rows leads j ++ xs) (one_more js i) ∙ sym (append_assoc (part_rows leads j) (inline_rows leads js) (part_rows leads i))
+  one_more (Cons j js) i = ap (λ xs. part_rows leads j ++ xs) (one_more js i)
+      ∙ sym (append_assoc (part_rows leads j) (inline_rows leads js) (part_rows leads i))
 
   span_is : (span : Span) (kids : Inlines) → part_rows leads (span_part span kids) ≡ rows.EnterSpan span ∷ (inline_rows leads kids ++ rows.Leave ∷ [])
   span_is IsEmphasis kids = refl
@@ -42,7 +44,8 @@ module _ (leads : Target → Linked) where
       let e : List rows.InlineRow = rows.EnterSpan o.span ∷ [] in
       let n = inline_rows leads now in
       ap (λ xs. a ++ xs) (one_more o.before (span_part o.span now) ∙ ap (λ xs. b ++ xs) (span_is o.span now))
-      ∙ sym (append_assoc ((a ++ (b ++ e))) n (rows.Leave ∷ []) ∙ append_assoc a (b ++ e) (n ++ rows.Leave ∷ []) ∙ ap (λ xs. a ++ xs) (append_assoc b e (n ++ rows.Leave ∷ [])))
+      ∙ sym (append_assoc ((a ++ (b ++ e))) n (rows.Leave ∷ []) ∙ append_assoc a (b ++ e) (n ++ rows.Leave ∷ [])
+      ∙ ap (λ xs. a ++ xs) (append_assoc b e (n ++ rows.Leave ∷ [])))
 
   -- the rows of a nest after more rows, and how many spans are open then
   record After (now : Inlines) (around : List OpenSpan) (rs : List SpanRow) (after : ℕ) : Type 0 where
@@ -57,7 +60,8 @@ module _ (leads : Target → Linked) where
         count = more.count;
         same =
             more.same
-            ∙ ap (λ xs. xs ++ told_rows leads rs) (ap (λ xs. around_rows around ++ xs) (one_more now i) ∙ sym (append_assoc (around_rows around) (inline_rows leads now) (part_rows leads i)))
+            ∙ ap (λ xs. xs ++ told_rows leads rs) (ap (λ xs. around_rows around ++ xs) (one_more now i)
+            ∙ sym (append_assoc (around_rows around) (inline_rows leads now) (part_rows leads i)))
             ∙ append_assoc (nest_rows now around) (part_rows leads i) (told_rows leads rs);
       }
   read (Opens span ∷ rs) now around after nests =

@@ -5,14 +5,16 @@ use Rattle.engine_events.specs.declared.state.Inline.TheVariants as inline_state
 use Rattle.engine_events.specs.declared.state.State.TheVariants as states
 use Rattle.engine_programs.specs.Bodies.{Body, Answer, Keep, Register, Tries, Byte, On}
 use Rattle.inline_states_table.specs.Words.{next, retry}
-use Rattle.definition_text.specs.Ascii.{exclamation_mark, dollar, ampersand, asterisk, less_than, left_bracket, backslash, right_bracket, underscore, backtick, tilde}
+use Rattle.definition_text.specs.Ascii.{exclamation_mark, dollar, ampersand, asterisk, less_than, left_bracket, backslash, right_bracket, underscore, backtick}
+use Rattle.definition_text.specs.Ascii.{tilde}
 
 module _ {M : Type 0} where
   -- before each part
   abbrev pub text_before : Body M
   text_before =
       Byte (Register resolvers.Data (Register resolvers.Text (Answer states.Ok)))
-      (On (λ b. b == exclamation_mark) (Tries false (next inline_states.TextBefore) (next inline_states.TextBeforeData) (retry inline_states.LabelStartImageStart))
+      (On (λ b. b == exclamation_mark) (Tries false (next inline_states.TextBefore) (next inline_states.TextBeforeData)
+      (retry inline_states.LabelStartImageStart))
       (On (λ b. (b == dollar) || (b == backtick))
       (Tries false (next inline_states.TextBefore) (next inline_states.TextBeforeData) (retry inline_states.RawTextStart))
       (On (λ b. b == ampersand)

@@ -1,5 +1,6 @@
 -- The text of a label, from the events over it, and whether it is defined.
-use Rattle.std.specs.Prelude.{ℕ, zero, suc, ◌+◌, ◌-◌, ◌^◌, min, Bool, true, false, not, ◌==◌, ◌&&◌, if◌then◌else◌, nat_le, nat_lt, List, [], ◌++◌, length, slice_get, Option, None, Some}
+use Rattle.std.specs.Prelude.{ℕ, zero, suc, ◌+◌, ◌-◌, ◌^◌, min, Bool, true, false, not, ◌==◌, ◌&&◌, if◌then◌else◌, nat_le, nat_lt, List, [], ◌++◌, length}
+use Rattle.std.specs.Prelude.{slice_get, Option, None, Some}
 use Rattle.std.specs.List.{list_any}
 use Rattle.std.specs.Str.{bytes_eq}
 use denote.Enum.Bare.{sameb}
@@ -25,7 +26,8 @@ ends_line e = sameb the_kinds e.kind event_kinds.Exit && sameb the_names e.name 
 abbrev pub part_between : List ℕ → Option Event → Option Event → List ℕ
 part_between bytes None f = []
 part_between bytes (Some e) None = []
-part_between bytes (Some e) (Some f) = if not (ends_line e) && (nat_le e.index f.index && nat_le f.index (length bytes)) then between e.index f.index bytes else []
+part_between bytes (Some e) (Some f) = if not (ends_line e) && (nat_le e.index f.index && nat_le f.index (length bytes)) then between e.index f.index bytes
+    else []
 
 abbrev pub label_part : List ℕ → List Event → ℕ → List ℕ
 label_part bytes es i = part_between bytes (slice_get es i) (slice_get es (i + 1))

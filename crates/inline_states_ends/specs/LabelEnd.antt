@@ -1,5 +1,6 @@
 -- What the states of `label_end` do.
-use Rattle.std.specs.Prelude.{is_some, ℕ, Bool, true, false, not, nat_lt, List, Option, None, Some, refl, length, take, ◌==◌, ◌&&◌, ◌||◌, ◌-◌, ◌∷◌, ◌++◌, [], if◌then◌else◌}
+use Rattle.std.specs.Prelude.{is_some, ℕ, Bool, true, false, not, nat_lt, List, Option, None, Some, refl, length, take, ◌==◌, ◌&&◌, ◌||◌, ◌-◌, ◌∷◌, ◌++◌, []}
+use Rattle.std.specs.Prelude.{if◌then◌else◌}
 use Rattle.engine_events.specs.declared.event.Name.TheVariants as names
 use Rattle.engine_events.specs.declared.resolve.Name.TheVariants as resolvers
 use Rattle.engine_events.specs.declared.state.Inline.TheVariants as inline_states
@@ -60,7 +61,8 @@ module _ {M : Type 0} where
   abbrev pub end_followed : InlineName → Body M
   end_followed other =
       On (λ b. b == left_parenthesis) (Tries false (next inline_states.LabelEndOk) (next other) (retry inline_states.LabelEndResourceStart))
-      (On (λ b. b == left_bracket) (Tries false (next inline_states.LabelEndOk) (next inline_states.LabelEndReferenceNotFull) (retry inline_states.LabelEndReferenceFull))
+      (On (λ b. b == left_bracket) (Tries false (next inline_states.LabelEndOk) (next inline_states.LabelEndReferenceNotFull)
+      (retry inline_states.LabelEndReferenceFull))
       (Answer (retry other)))
 
   abbrev pub end_after_link : List ℕ → List (List ℕ) → Body M
@@ -69,7 +71,10 @@ module _ {M : Type 0} where
   -- the last start is no call
   abbrev pub end_undefined : Body M → Body M
   end_undefined b =
-      Keep (λ c. record c.tokenize_state { label_starts = without_last c.tokenize_state.label_starts ++ undefined_start (last_start c.tokenize_state.label_starts) }) (λ c i. refl) b
+      Keep (λ c. record c.tokenize_state {
+        label_starts = without_last c.tokenize_state.label_starts
+            ++ undefined_start (last_start c.tokenize_state.label_starts);
+      }) (λ c i. refl) b
 
   abbrev pub end_formed : Body M
   end_formed =
@@ -168,7 +173,8 @@ module _ {M : Type 0} where
       (Hold 4 names.ResourceDestinationRaw
       (Hold 5 names.ResourceDestinationString
       (Keep (λ c. record c.tokenize_state { size_b = 32 }) (λ c i. refl)
-      (Tries false (next inline_states.LabelEndResourceDestinationAfter) (next inline_states.LabelEndResourceDestinationMissing) (retry inline_states.DestinationStart))))))))
+      (Tries false (next inline_states.LabelEndResourceDestinationAfter) (next inline_states.LabelEndResourceDestinationMissing)
+      (retry inline_states.DestinationStart))))))))
 
   -- after the destination
   abbrev pub label_end_resource_destination_after : Body M

@@ -1,5 +1,6 @@
 -- What the states of `gfm_autolink_literal` do.
-use Rattle.std.specs.Prelude.{ℕ, Bool, true, false, not, nat_le, nat_lt, is_none, if◌then◌else◌, ◌==◌, ◌&&◌, ◌||◌, List, Option, None, slice_get, take, drop, refl}
+use Rattle.std.specs.Prelude.{ℕ, Bool, true, false, not, nat_le, nat_lt, is_none, if◌then◌else◌, ◌==◌, ◌&&◌, ◌||◌, List, Option, None, slice_get, take, drop}
+use Rattle.std.specs.Prelude.{refl}
 use Rattle.std.specs.Char.{is_ascii_alphabetic, is_ascii_alphanumeric}
 use denote.Enum.Bare.{sameb}
 use Rattle.engine_events.specs.declared.event.Name.TheVariants as names
@@ -12,7 +13,9 @@ use Rattle.engine_text.specs.declared.char.Kind.TheVariants.{Other}
 use Rattle.markdown_engine.specs.Reading.{Config}
 use Rattle.engine_programs.specs.Bodies.{Fixed, Body, Answer, Consume, Enter, Exit, Keep, Tries, Byte, On, Test, has}
 use Rattle.inline_states_table.specs.Words.{next, retry, more}
-use Rattle.definition_text.specs.Ascii.{tab, line_feed, space, exclamation_mark, double_quote, ampersand, single_quote, left_parenthesis, right_parenthesis, asterisk, hyphen, dot, slash, colon, semicolon, less_than, question_mark, left_bracket, right_bracket, underscore, tilde, delete}
+use Rattle.definition_text.specs.Ascii.{tab, line_feed, space, exclamation_mark, double_quote, ampersand, single_quote, left_parenthesis, right_parenthesis}
+use Rattle.definition_text.specs.Ascii.{asterisk, hyphen, dot, slash, colon, semicolon, less_than, question_mark, left_bracket, right_bracket, underscore}
+use Rattle.definition_text.specs.Ascii.{tilde, delete}
 
 -- ---- characters
 
@@ -25,7 +28,8 @@ is_control b = nat_lt b 32 || (b == delete)
 
 -- a literal that begins with `www.` may follow this byte
 abbrev pub is_before_www : ℕ → Bool
-is_before_www b = (b == tab) || (b == line_feed) || (b == space) || (b == left_parenthesis) || (b == asterisk) || (b == left_bracket) || (b == right_bracket) || (b == underscore) || (b == tilde)
+is_before_www b = (b == tab) || (b == line_feed) || (b == space) || (b == left_parenthesis) || (b == asterisk) || (b == left_bracket) || (b == right_bracket)
+    || (b == underscore) || (b == tilde)
 
 -- a literal ends before these
 abbrev pub is_hard_end : ℕ → Bool
@@ -33,7 +37,8 @@ is_hard_end b = (b == tab) || (b == line_feed) || (b == space) || (b == less_tha
 
 -- what is cut from the end of a literal, but for `)` and references
 abbrev pub is_trail : ℕ → Bool
-is_trail b = (b == exclamation_mark) || (b == double_quote) || (b == single_quote) || (b == asterisk) || (b == 44) || (b == dot) || (b == colon) || (b == semicolon) || (b == question_mark) || (b == underscore) || (b == tilde)
+is_trail b = (b == exclamation_mark) || (b == double_quote) || (b == single_quote) || (b == asterisk) || (b == 44) || (b == dot) || (b == colon)
+    || (b == semicolon) || (b == question_mark) || (b == underscore) || (b == tilde)
 
 -- a trail may begin with this byte
 abbrev pub may_trail : ℕ → Bool
@@ -148,7 +153,8 @@ module _ {M : Type 0} where
       Byte (Answer (retry inline_states.GfmAutolinkLiteralDomainAfter))
       (On (λ b. (b == dot) || (b == underscore))
       (Test is_known (Answer (retry inline_states.GfmAutolinkLiteralDomainAtPunctuation))
-      (Tries true (next inline_states.GfmAutolinkLiteralDomainAfter) (next inline_states.GfmAutolinkLiteralDomainAtPunctuation) (retry inline_states.GfmAutolinkLiteralTrail)))
+      (Tries true (next inline_states.GfmAutolinkLiteralDomainAfter) (next inline_states.GfmAutolinkLiteralDomainAtPunctuation)
+      (retry inline_states.GfmAutolinkLiteralTrail)))
       (On (λ b. (b == hyphen) || goes_on b) (Consume (Answer (next inline_states.GfmAutolinkLiteralDomainInside)))
       (Test (is_plain_here is_punctuation bytes)
       (Consume (Answer (next inline_states.GfmAutolinkLiteralDomainInside)))
@@ -178,7 +184,8 @@ module _ {M : Type 0} where
       (On is_hard_end (Answer (retry inline_states.GfmAutolinkLiteralPathAfter))
       (On may_trail
       (Test is_known (Answer (retry inline_states.GfmAutolinkLiteralPathAtPunctuation))
-      (Tries true (next inline_states.GfmAutolinkLiteralPathAfter) (next inline_states.GfmAutolinkLiteralPathAtPunctuation) (retry inline_states.GfmAutolinkLiteralTrail)))
+      (Tries true (next inline_states.GfmAutolinkLiteralPathAfter) (next inline_states.GfmAutolinkLiteralPathAtPunctuation)
+      (retry inline_states.GfmAutolinkLiteralTrail)))
       (On (λ b. b == left_parenthesis)
       (Keep (λ c. record c.tokenize_state { size = more c.tokenize_state.size }) (λ c i. refl)
       (Consume (Answer (next inline_states.GfmAutolinkLiteralPathInside))))

@@ -12,7 +12,8 @@ use Rattle.definition_text.specs.Ascii.{exclamation_mark, asterisk, plus, hyphen
 -- a byte of the name of an email
 abbrev pub is_atext : ℕ → Bool
 is_atext b =
-    is_ascii_alphanumeric b || (b == exclamation_mark) || is_in_range 35 39 b || (b == asterisk) || (b == plus) || is_in_range 45 47 b || (b == equals) || (b == question_mark) || is_in_range 94 96 b || is_in_range 123 126 b
+    is_ascii_alphanumeric b || (b == exclamation_mark) || is_in_range 35 39 b || (b == asterisk) || (b == plus) || is_in_range 45 47 b || (b == equals)
+    || (b == question_mark) || is_in_range 94 96 b || is_in_range 123 126 b
 
 -- a byte that can't stand in a URL
 abbrev pub ends_url : ℕ → Bool

@@ -7,11 +7,13 @@ use Rattle.engine_events.specs.declared.state.State.TheVariants as states
 use Rattle.engine_programs.specs.Bodies.{Fixed, Body, Answer, Consume, Enter, Exit, Keep, Tries, Byte, On, AfterFeed, Test, around, has}
 use Rattle.inline_states_table.specs.Words.{next, retry, more, at_marker}
 use Rattle.engine_events.specs.declared.state.Inline.{Inline as InlineName}
-use Rattle.definition_text.specs.Ascii.{tab, line_feed, space, exclamation_mark, double_quote, single_quote, hyphen, dot, slash, colon, less_than, equals, greater_than, question_mark, left_bracket, right_bracket, underscore, backtick}
+use Rattle.definition_text.specs.Ascii.{tab, line_feed, space, exclamation_mark, double_quote, single_quote, hyphen, dot, slash, colon, less_than, equals}
+use Rattle.definition_text.specs.Ascii.{greater_than, question_mark, left_bracket, right_bracket, underscore, backtick}
 
 -- A line ending: data ends, and an attempt goes over the ending. No line is empty, so data isn't begun at a line's start only to end there.
 abbrev pub html_text_line : {M : Type 0} → InlineName → Body M
-html_text_line n = AfterFeed (Answer states.Nok) (Exit (Fixed names.HtmlTextData) (Tries false (next n) states.Nok (retry inline_states.HtmlTextLineEndingBefore)))
+html_text_line n =
+    AfterFeed (Answer states.Nok) (Exit (Fixed names.HtmlTextData) (Tries false (next n) states.Nok (retry inline_states.HtmlTextLineEndingBefore)))
 
 -- the byte of `CDATA[` at an index
 abbrev pub is_prefix_byte : ℕ → ℕ → Bool

@@ -16,7 +16,8 @@ is_control b = is_in_range 1 32 b || (b == delete)
 
 -- over a byte between angle brackets
 abbrev pub enclosed_byte : {M : Type 0} → Body M
-enclosed_byte = On (λ b. b == backslash) (Consume (Answer (next inline_states.DestinationEnclosedEscape))) (Consume (Answer (next inline_states.DestinationEnclosed)))
+enclosed_byte = On (λ b. b == backslash) (Consume (Answer (next inline_states.DestinationEnclosedEscape)))
+    (Consume (Answer (next inline_states.DestinationEnclosed)))
 
 -- over a byte with none around
 abbrev pub raw_byte : {M : Type 0} → Body M
@@ -40,7 +41,8 @@ raw_begun size state =
 
 -- at the end of one with none around, if no parenthesis is open
 abbrev pub raw_end : {M : Type 0} → Body M
-raw_end = Test (λ c. c.tokenize_state.size == 0) (Exit (Fixed names.Data) (Exit (Held 5) (Exit (Held 4) (Exit (Held 1) (Answer states.Ok))))) (Answer states.Nok)
+raw_end = Test (λ c. c.tokenize_state.size == 0) (Exit (Fixed names.Data) (Exit (Held 5) (Exit (Held 4) (Exit (Held 1) (Answer states.Ok)))))
+    (Answer states.Nok)
 
 module _ {M : Type 0} where
   -- at the first byte

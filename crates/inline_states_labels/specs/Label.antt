@@ -14,11 +14,15 @@ abbrev pub counted : ℕ → Point → ℕ
 counted size point = if point.vs == 0 then more size else size
 
 abbrev pub counting : {M : Type 0} → Body M → Body M
-counting b = Keep (λ c. record c.tokenize_state { size = counted c.tokenize_state.size c.point; seen = c.tokenize_state.seen || not (has is_space_or_tab c.current) }) (λ c i. refl) b
+counting b = Keep (λ c. record c.tokenize_state {
+  size = counted c.tokenize_state.size c.point;
+  seen = c.tokenize_state.seen || not (has is_space_or_tab c.current);
+}) (λ c i. refl) b
 
 -- over a byte of the text
 abbrev pub label_byte : {M : Type 0} → Body M
-label_byte = On (λ b. b == backslash) (counting (Consume (Answer (next inline_states.LabelEscape)))) (counting (Consume (Answer (next inline_states.LabelInside))))
+label_byte = On (λ b. b == backslash) (counting (Consume (Answer (next inline_states.LabelEscape))))
+    (counting (Consume (Answer (next inline_states.LabelInside))))
 
 -- over the end of the text
 abbrev pub label_close : {M : Type 0} → Body M

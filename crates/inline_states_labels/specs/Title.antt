@@ -10,7 +10,8 @@ use Rattle.definition_text.specs.Ascii.{line_feed, double_quote, single_quote, l
 
 -- after a first marker
 abbrev pub title_open : {M : Type 0} → ℕ → Body M
-title_open marker = Keep (λ c. record c.tokenize_state { marker = marker; connect = true }) (λ c i. refl) (Enter (Held 1) (around (Held 2) (Answer (next inline_states.TitleBegin))))
+title_open marker = Keep (λ c. record c.tokenize_state { marker = marker; connect = true }) (λ c i. refl)
+    (Enter (Held 1) (around (Held 2) (Answer (next inline_states.TitleBegin))))
 
 -- no title is here
 abbrev pub title_fails : {M : Type 0} → Body M
@@ -36,7 +37,8 @@ module _ {M : Type 0} where
   abbrev pub title_start : Body M
   title_start =
       Byte (Answer states.Nok)
-      (On (λ b. b == double_quote) (title_open 34) (On (λ b. b == single_quote) (title_open 39) (On (λ b. b == left_parenthesis) (title_open 41) (Answer states.Nok))))
+      (On (λ b. b == double_quote) (title_open 34) (On (λ b. b == single_quote) (title_open 39)
+      (On (λ b. b == left_parenthesis) (title_open 41) (Answer states.Nok))))
 
   -- after the first marker, or at the last
   abbrev pub title_begin : Body M
@@ -72,5 +74,6 @@ module _ {M : Type 0} where
   abbrev pub title_escape : Body M
   title_escape =
       Byte (Answer (retry inline_states.TitleInside))
-      (Test (λ c. has (λ b. (b == c.tokenize_state.marker) || (b == left_parenthesis) || (b == backslash)) c.current) (Consume (Answer (next inline_states.TitleInside)))
+      (Test (λ c. has (λ b. (b == c.tokenize_state.marker) || (b == left_parenthesis) || (b == backslash)) c.current)
+      (Consume (Answer (next inline_states.TitleInside)))
       (Answer (retry inline_states.TitleInside)))

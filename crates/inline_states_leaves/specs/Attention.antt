@@ -11,7 +11,8 @@ use Rattle.definition_text.specs.Ascii.{asterisk, underscore, tilde}
 
 -- at the first byte of a run
 abbrev pub attention_open : {M : Type 0} → ℕ → Body M
-attention_open marker = Keep (λ c. record c.tokenize_state { marker = marker }) (λ c i. refl) (Enter (Fixed names.AttentionSequence) (Consume (Answer (next inline_states.AttentionInside))))
+attention_open marker = Keep (λ c. record c.tokenize_state { marker = marker }) (λ c i. refl)
+    (Enter (Fixed names.AttentionSequence) (Consume (Answer (next inline_states.AttentionInside))))
 
 module _ {M : Type 0} where
   -- at a byte that may begin a run

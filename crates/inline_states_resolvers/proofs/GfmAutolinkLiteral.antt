@@ -18,7 +18,8 @@ held l (b ∷ bs) = held (linking l.events l.point (l.run ++ b ∷ [])) bs ∙ a
 -- up to an address, and after it
 pub found_linked : (l : Linking) (text : List ℕ) (found : FoundAddress) → with_addresses text ≡ found_parts text found
     → linked l text
-    ≡ linked (with_address (kind_view found.kind) (take (found.end - found.start) (drop found.start text)) (with_data (linking l.events l.point (l.run ++ take found.start text)))) (drop found.end text)
+    ≡ linked (with_address (kind_view found.kind) (take (found.end - found.start) (drop found.start text))
+    (with_data (linking l.events l.point (l.run ++ take found.start text)))) (drop found.end text)
 found_linked l text found h =
     let more : List Inline = Literal (kind_view found.kind) (take (found.end - found.start) (drop found.start text)) ∷ with_addresses (drop found.end text) in
     ap (λ (parts : List Inline). with_data (fold with_part l parts)) h

@@ -11,7 +11,8 @@ use Rattle.inline_states_resolvers.specs.Whole.{is_whole}
 pub ordered_true : (from : ℕ) (edits : List Placed) (size : ℕ) → IsOrdered from edits size → is_ordered from edits size ≡ true
 unfolding is_ordered
 ordered_true from [] size h = le-leb from size h
-ordered_true from (e ∷ es) size h = ap (λ (b : Bool). b && is_ordered (e.at + e.remove) es size) (le-leb from e.at h.0) ∙ ordered_true (e.at + e.remove) es size h.1
+ordered_true from (e ∷ es) size h =
+    ap (λ (b : Bool). b && is_ordered (e.at + e.remove) es size) (le-leb from e.at h.0) ∙ ordered_true (e.at + e.remove) es size h.1
 
 pub true_ordered : (from : ℕ) (edits : List Placed) (size : ℕ) → is_ordered from edits size ≡ true → IsOrdered from edits size
 unfolding is_ordered
@@ -26,7 +27,8 @@ told false true P h k there back = absurd (k refl (there refl))
 told false false P h k there back = refl
 
 -- a test that tells whether they can be made is this one
-pub same_test : (b : Bool) (edits : List Placed) (size : ℕ) → (b ≡ true → IsOrdered 0 edits size) → (b ≡ false → IsOrdered 0 edits size → ⊥) → b ≡ is_ordered 0 edits size
+pub same_test : (b : Bool) (edits : List Placed) (size : ℕ) → (b ≡ true → IsOrdered 0 edits size) → (b ≡ false → IsOrdered 0 edits size → ⊥)
+    → b ≡ is_ordered 0 edits size
 same_test b edits size h k = told b (is_ordered 0 edits size) (IsOrdered 0 edits size) h k (true_ordered 0 edits size) (ordered_true 0 edits size)
 
 module _ (edits : List Placed) (to : Point) (events : List Event) where
@@ -36,8 +38,10 @@ module _ (edits : List Placed) (to : Point) (events : List Event) where
 
   pub unwhole : is_ordered 0 edits (length events) ≡ true → is_whole (events_after edits events) to ≡ false → edited edits to events ≡ events
   unfolding edited
-  unwhole h k = ap (λ (b : Bool). if b && is_whole (events_after edits events) to then events_after edits events else events) h ∙ ap (λ (b : Bool). if b then events_after edits events else events) k
+  unwhole h k = ap (λ (b : Bool). if b && is_whole (events_after edits events) to then events_after edits events else events) h
+      ∙ ap (λ (b : Bool). if b then events_after edits events else events) k
 
   pub made : is_ordered 0 edits (length events) ≡ true → is_whole (events_after edits events) to ≡ true → edited edits to events ≡ events_after edits events
   unfolding edited
-  made h k = ap (λ (b : Bool). if b && is_whole (events_after edits events) to then events_after edits events else events) h ∙ ap (λ (b : Bool). if b then events_after edits events else events) k
+  made h k = ap (λ (b : Bool). if b && is_whole (events_after edits events) to then events_after edits events else events) h
+      ∙ ap (λ (b : Bool). if b then events_after edits events else events) k

@@ -22,7 +22,8 @@ pub white_start : (in_text hard : Bool) (bytes : List ℕ) (events : List Event)
 unfolding white_edits
 white_start in_text hard bytes events = refl
 
-pub white_more : (in_text hard : Bool) (bytes : List ℕ) (events : List Event) (i : ℕ) → white_edits in_text hard bytes events (i + 1) ≡ index_edit in_text hard bytes events i (white_edits in_text hard bytes events i)
+pub white_more : (in_text hard : Bool) (bytes : List ℕ) (events : List Event) (i : ℕ)
+    → white_edits in_text hard bytes events (i + 1) ≡ index_edit in_text hard bytes events i (white_edits in_text hard bytes events i)
 unfolding white_edits
 white_more in_text hard bytes events i = ap (white_edits in_text hard bytes events) (add-one i)
 
@@ -46,7 +47,8 @@ pub addresses_start : (bytes : List ℕ) (events : List Event) → address_edits
 unfolding address_edits
 addresses_start bytes events = refl
 
-pub addresses_more : (bytes : List ℕ) (events : List Event) (i : ℕ) → address_edits bytes events (i + 1) ≡ address_edit bytes events (links_before events i) i (address_edits bytes events i)
+pub addresses_more : (bytes : List ℕ) (events : List Event) (i : ℕ) → address_edits bytes events (i + 1)
+    ≡ address_edit bytes events (links_before events i) i (address_edits bytes events i)
 unfolding address_edits
 addresses_more bytes events i = ap (address_edits bytes events) (add-one i)
 
@@ -54,7 +56,8 @@ pub runs_start : (events : List Event) (entries : List ℕ) (runs : List Run) (e
 unfolding run_edits
 runs_start events entries runs edits = refl
 
-pub runs_more : (events : List Event) (entries : List ℕ) (runs : List Run) (k : ℕ) (edits : List Placed) → run_edits events entries runs (k + 1) edits ≡ run_edit events entries runs k (run_edits events entries runs k edits)
+pub runs_more : (events : List Event) (entries : List ℕ) (runs : List Run) (k : ℕ) (edits : List Placed)
+    → run_edits events entries runs (k + 1) edits ≡ run_edit events entries runs k (run_edits events entries runs k edits)
 unfolding run_edits
 runs_more events entries runs k edits = ap (λ (n : ℕ). run_edits events entries runs n edits) (add-one k)
 
@@ -63,6 +66,7 @@ module _ {T : Type 0} (is_punctuation : ℕ → Bool) (x : Context T) (events : 
   unfolding sought
   sought_start = refl
 
-  pub sought_more : (i : ℕ) → sought is_punctuation x events (i + 1) ≡ with_index is_punctuation x events i (slice_get events i) (sought is_punctuation x events i)
+  pub sought_more : (i : ℕ) → sought is_punctuation x events (i + 1) ≡ with_index is_punctuation x events i (slice_get events i)
+      (sought is_punctuation x events i)
   unfolding sought
   sought_more i = ap (sought is_punctuation x events) (add-one i)

@@ -1,5 +1,6 @@
 -- Emphasis, strong emphasis and strikethrough in place of the runs that go together (CommonMark 6.2, GFM 6.5).
-use Rattle.std.specs.Prelude.{ℕ, zero, suc, ◌+◌, ◌-◌, Bool, false, ◌&&◌, ◌==◌, if◌then◌else◌, List, [], ◌∷◌, ◌++◌, length, take, drop, reverse, slice_get, slice_index_or, unwrap_or, Option, None, Some}
+use Rattle.std.specs.Prelude.{ℕ, zero, suc, ◌+◌, ◌-◌, Bool, false, ◌&&◌, ◌==◌, if◌then◌else◌, List, [], ◌∷◌, ◌++◌, length, take, drop, reverse, slice_get}
+use Rattle.std.specs.Prelude.{slice_index_or, unwrap_or, Option, None, Some}
 use Rattle.std.specs.List.{fold}
 use denote.Enum.Bare.{sameb}
 use Rattle.markdown_options.specs.declared.configuration.ParseOptions.{ParseOptions}
@@ -119,7 +120,8 @@ module _ (events : List Event) where
 
 -- ---- containers
 
--- the runs that are in no container whose end was found, the indices at which they are entered, how many were found before each label's text that is open, and the edits so far
+-- the runs that are in no container whose end was found, the indices at which they are entered, how many were found before each label's text that is open, and
+-- the edits so far
 pub record Sought : Type 0 where
   pub entries : List ℕ
   pub runs : List Run

@@ -1,5 +1,6 @@
 -- Email addresses among data outside links (GFM 6.9).
-use Rattle.std.specs.Prelude.{ℕ, zero, suc, ◌+◌, ◌-◌, Bool, false, ◌==◌, ◌&&◌, ◌||◌, if◌then◌else◌, nat_lt, List, [], ◌∷◌, ◌++◌, codes, length, slice_get, Option, None, Some}
+use Rattle.std.specs.Prelude.{ℕ, zero, suc, ◌+◌, ◌-◌, Bool, false, ◌==◌, ◌&&◌, ◌||◌, if◌then◌else◌, nat_lt, List, [], ◌∷◌, ◌++◌, codes, length, slice_get}
+use Rattle.std.specs.Prelude.{Option, None, Some}
 use Rattle.std.specs.List.{fold, list_any}
 use denote.Enum.Bare.{sameb}
 use Rattle.definition_text.specs.Ascii.{at_sign}

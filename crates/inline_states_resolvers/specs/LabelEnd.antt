@@ -34,7 +34,8 @@ module _ (events : List Event) where
 
   -- a start: the label begins before it, and its text after it
   abbrev pub with_start : Label → List Placed → List Placed
-  with_start l edits = with_edit true (later 1 l.start.1) 0 (enters names.LabelText l.start.1 ∷ []) (with_edit false l.start.0 0 (enters (group_name l.kind) l.start.0 ∷ enters names.Label l.start.0 ∷ []) edits)
+  with_start l edits = with_edit true (later 1 l.start.1) 0 (enters names.LabelText l.start.1 ∷ [])
+      (with_edit false l.start.0 0 (enters (group_name l.kind) l.start.0 ∷ enters names.Label l.start.0 ∷ []) edits)
 
   -- a footnote's start that is no call: a link, whose text begins with the `^`
   abbrev pub link_start : ℕ → ℕ → List Event

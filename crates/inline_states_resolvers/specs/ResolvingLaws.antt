@@ -29,10 +29,12 @@ either false b all events to h k = k
 
 edited_whole : (edits : List Placed) (to : Point) (events : List Event) → AreWhole events to → AreWhole (edited edits to events) to
 unfolding edited
-edited_whole edits to events h = either (is_ordered 0 edits (length events)) (is_whole (events_after edits events) to) (events_after edits events) events to (whole (events_after edits events) to) h
+edited_whole edits to events h = either (is_ordered 0 edits (length events)) (is_whole (events_after edits events) to) (events_after edits events) events to
+    (whole (events_after edits events) to) h
 
 module _ {T M : Type 0} (is_punctuation : ℕ → Bool) (x : Context T) where
-  linked_settled : (b : Bool) (c : Config M) → settles_whole c [] → settles_whole (if b then with_edited (address_edits x.bytes c.events (length c.events)) c else c) []
+  linked_settled : (b : Bool) (c : Config M) → settles_whole c []
+      → settles_whole (if b then with_edited (address_edits x.bytes c.events (length c.events)) c else c) []
   linked_settled true c h = (h.0, edited_whole (address_edits x.bytes c.events (length c.events)) c.point c.events h.1)
   linked_settled false c h = h
 

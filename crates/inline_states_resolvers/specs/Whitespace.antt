@@ -1,5 +1,6 @@
 -- Spaces and tabs of data at the ends of lines, and at the ends of a text: they aren't printed, or they are a hard break.
-use Rattle.std.specs.Prelude.{ℕ, zero, suc, ◌+◌, ◌-◌, Bool, false, not, ◌==◌, ◌&&◌, nat_le, nat_lt, is_some, if◌then◌else◌, List, [], ◌∷◌, ◌++◌, length, take, drop, slice_get, Option, None, Some}
+use Rattle.std.specs.Prelude.{ℕ, zero, suc, ◌+◌, ◌-◌, Bool, false, not, ◌==◌, ◌&&◌, nat_le, nat_lt, is_some, if◌then◌else◌, List, [], ◌∷◌, ◌++◌, length, take}
+use Rattle.std.specs.Prelude.{drop, slice_get, Option, None, Some}
 use Rattle.std.specs.List.{fold, list_all, prefix_len, suffix_len}
 use denote.Enum.Bare.{sameb}
 use Rattle.engine_events.specs.contracts.event.Kind.{the_type}
@@ -26,7 +27,12 @@ column_over column b = if b == tab then later (tab_size column) column else late
 
 -- the place after some bytes of a line
 abbrev pub place_past : Point → List ℕ → Point
-place_past p part = if length part == 0 then p else record { line = p.line; column = fold column_over p.column part; index = later (length part) p.index; vs = 0 }
+place_past p part = if length part == 0 then p else record {
+  line = p.line;
+  column = fold column_over p.column part;
+  index = later (length part) p.index;
+  vs = 0;
+}
 
 -- a line ending begins, or ends
 abbrev pub is_line : Kind → Option Event → Bool
@@ -83,7 +89,8 @@ may_break hard events i = hard && (is_line Enter (slice_get events (i + 2)) && i
 -- data of these bytes, of which so many are cut
 abbrev pub white_edit : Bool → List Event → ℕ → List ℕ → ℕ → ℕ → List Placed → List Placed
 white_edit hard events i part head tail edits =
-    if nat_lt 0 (head + tail) then with_edit false i 2 (trimmed part head tail (may_break hard events i && are_spaces part tail) (place_at events i) (place_at events (i + 1))) edits else edits
+    if nat_lt 0 (head + tail) then with_edit false i 2 (trimmed part head tail (may_break hard events i && are_spaces part tail) (place_at events i)
+    (place_at events (i + 1))) edits else edits
 
 abbrev pub part_edit : Bool → Bool → List Event → ℕ → List ℕ → ℕ → List Placed → List Placed
 part_edit in_text hard events i part head edits = white_edit hard events i part head (tail_size (ends in_text events i) (drop head part)) edits
@@ -91,7 +98,8 @@ part_edit in_text hard events i part head edits = white_edit hard events i part 
 -- what an index adds to the edits
 abbrev pub index_edit : Bool → Bool → List ℕ → List Event → ℕ → List Placed → List Placed
 index_edit in_text hard bytes events i edits =
-    if is_data Enter (slice_get events i) && is_data Exit (slice_get events (i + 1)) then part_edit in_text hard events i (data_part bytes events i) (head_size (begins in_text events i) (data_part bytes events i)) edits else edits
+    if is_data Enter (slice_get events i) && is_data Exit (slice_get events (i + 1))
+    then part_edit in_text hard events i (data_part bytes events i) (head_size (begins in_text events i) (data_part bytes events i)) edits else edits
 
 -- the edits of white space, up to an index
 unfoldable pub white_edits : Bool → Bool → List ℕ → List Event → ℕ → List Placed

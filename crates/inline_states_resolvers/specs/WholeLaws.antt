@@ -1,5 +1,6 @@
 -- Events of which the test holds are whole.
-use Rattle.std.proofs.Common.{◌≡◌, ◌∙◌, ℕ, ◌+◌, ◌-◌, ◌<◌, Bool, true, false, not, nat_le, ◌&&◌, ◌||◌, List, [], ◌∷◌, ◌++◌, length, take, slice_get, Some, refl, sym, ap, arith}
+use Rattle.std.proofs.Common.{◌≡◌, ◌∙◌, ℕ, ◌+◌, ◌-◌, ◌<◌, Bool, true, false, not, nat_le, ◌&&◌, ◌||◌, List, [], ◌∷◌, ◌++◌, length, take, slice_get, Some, refl}
+use Rattle.std.proofs.Common.{sym, ap, arith}
 use Rattle.std.proofs.lemmas.Bool.{and_parts, eq-eqb, leb-true}
 use Rattle.std.proofs.lemmas.List.{length-append}
 use Rattle.std.proofs.lemmas.Option.{slice_get-get_or}
@@ -29,7 +30,8 @@ last_of names n =
     let size = last_place names n in
     let at : length (names ++ n ∷ []) - 1 ≡ length names = omega (arith, size) in
     let less : length names < length (names ++ n ∷ []) = omega (arith, size) in
-    ap (slice_get (names ++ n ∷ [])) at ∙ (slice_get-get_or (names ++ n ∷ []) (length names) n less ∙ ap (λ (z : Name). Some z) (get_or-append_seam names n [] n))
+    ap (slice_get (names ++ n ∷ [])) at ∙ (slice_get-get_or (names ++ n ∷ []) (length names) n less
+    ∙ ap (λ (z : Name). Some z) (get_or-append_seam names n [] n))
 
 front_of : (names : List Name) (n : Name) → without_innermost (names ++ n ∷ []) ≡ names
 front_of names n =
@@ -50,7 +52,8 @@ none_left (n ∷ ns) h = absurd (some_left (flipped ns) n h)
 abbrev Closes : List Name → List Event → Type 0
 Closes names es = IsNested names es × (open_after names es ≡ [])
 
-by_kind : (k : Kind) (name : Name) (names : List Name) (es : List Event) → ((more : List Name) → is_nested (flipped more) es ≡ true → Closes more es) → (may_stand k name (flipped names) && is_nested (opened k name (flipped names)) es) ≡ true → MayStand k name names × Closes (opened_by k name names) es
+by_kind : (k : Kind) (name : Name) (names : List Name) (es : List Event) → ((more : List Name) → is_nested (flipped more) es ≡ true → Closes more es)
+    → (may_stand k name (flipped names) && is_nested (opened k name (flipped names)) es) ≡ true → MayStand k name names × Closes (opened_by k name names) es
 by_kind Enter name names es on h = (tt, on (name ∷ names) h)
 by_kind Exit name [] es on h = absurd (let e : false ≡ true = h in cc)
 by_kind Exit name (n ∷ ns) es on h =
@@ -71,7 +74,10 @@ nested names (e ∷ es) h =
 reached : (p q : Point) → reaches p q ≡ true → Reaches p q
 reached p q h =
     let both = and_parts _ _ h in
-    record { index = leb-true p.index q.index both.0; column = λ e. leb-true p.vs q.vs (ap (λ (b : Bool). not b || nat_le p.vs q.vs) (sym (eq-eqb p.index q.index e)) ∙ both.1) }
+    record {
+      index = leb-true p.index q.index both.0;
+      column = λ e. leb-true p.vs q.vs (ap (λ (b : Bool). not b || nat_le p.vs q.vs) (sym (eq-eqb p.index q.index e)) ∙ both.1);
+    }
 
 in_order : (from : Point) (es : List Event) (to : Point) → is_in_order from es to ≡ true → InOrder from es to
 in_order from [] to h = reached from to h

@@ -21,7 +21,20 @@ of_group g s = record { group = g; sort = s }
 -- ---- sorts
 
 abbrev pub base : List Token → ℕ → Sort
-base open_tokens height = record { open_tokens = open_tokens; leaves = []; given = 0; after = false; moved = true; yields = true; sure = false; plain = false; byte = false; exits = true; firm = true; height = height }
+base open_tokens height = record {
+  open_tokens = open_tokens;
+  leaves = [];
+  given = 0;
+  after = false;
+  moved = true;
+  yields = true;
+  sure = false;
+  plain = false;
+  byte = false;
+  exits = true;
+  firm = true;
+  height = height;
+}
 
 -- where a construct may begin
 abbrev pub first : ℕ → Sort

@@ -19,7 +19,8 @@ module _ (text : Text) (c0 : Config Inlines) where
     pub map : c.map ≡ c0.map
     pub resolvers : c.resolvers ≡ c0.resolvers
 
-  pub enters : {es : List Event} {k : Kept} {c : Config Inlines} {p : Point} (name : EventName) → Here es k c → c.point ≡ p → Here (es ++ event Enter name p None ∷ []) k (with_enter name None c)
+  pub enters : {es : List Event} {k : Kept} {c : Config Inlines} {p : Point} (name : EventName) → Here es k c → c.point ≡ p
+      → Here (es ++ event Enter name p None ∷ []) k (with_enter name None c)
   enters {es} {k} {c} {p} name h at = record {
     events = ap (λ (q : Point). c.events ++ event Enter name q None ∷ []) at ∙ ap (λ (l : List Event). l ++ event Enter name p None ∷ []) h.events;
     kept = h.kept;
@@ -39,7 +40,8 @@ module _ (text : Text) (c0 : Config Inlines) where
   }
 
   -- the same with something else kept
-  pub keeping_here : {es : List Event} {k : Kept} {c : Config Inlines} (f : Kept → Kept) (goal : Kept) → f k ≡ goal → Here es k c → Here es goal (record c { tokenize_state = f c.tokenize_state })
+  pub keeping_here : {es : List Event} {k : Kept} {c : Config Inlines} (f : Kept → Kept) (goal : Kept) → f k ≡ goal → Here es k c
+      → Here es goal (record c { tokenize_state = f c.tokenize_state })
   keeping_here f goal e h = record { events = h.events; kept = ap f h.kept ∙ e; map = h.map; resolvers = h.resolvers }
 
   -- over a byte
@@ -51,6 +53,7 @@ module _ (text : Text) (c0 : Config Inlines) where
   fed_here h = record { events = h.events; kept = h.kept; map = h.map; resolvers = h.resolvers }
 
   -- an event round a byte that ends no line
-  pub around_here : {es : List Event} {k : Kept} {c : Config Inlines} {p q : Point} (name : EventName) → Here es k c → c.point ≡ p → c.next ≡ q → is_feed c.current ≡ false
+  pub around_here : {es : List Event} {k : Kept} {c : Config Inlines} {p q : Point} (name : EventName) → Here es k c → c.point ≡ p → c.next ≡ q
+      → is_feed c.current ≡ false
       → Here ((es ++ event Enter name p None ∷ []) ++ event Exit name q None ∷ []) k (with_exit name (past_byte (with_enter name None c)))
   around_here name h at next apart = exits name (past_here (enters name h at)) apart next

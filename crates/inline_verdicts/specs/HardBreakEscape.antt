@@ -27,7 +27,8 @@ ends_apart [] = true
 ends_apart (c ∷ []) = not (is_eol c)
 ends_apart (c ∷ next ∷ cs) = ends_apart (next ∷ cs)
 
--- at a backslash, after which these codes are seen, a hard break is read exactly where the definition has one; reading then stands where the line ending is read from
+-- at a backslash, after which these codes are seen, a hard break is read exactly where the definition has one; reading then stands where the line ending is
+-- read from
 abbrev pub BreakVerdict : Type 0 → Type 0
 BreakVerdict T =
     (texts : List ℕ → Option (List ℕ)) (is_punctuation : ℕ → Bool) (x : Context T) (text : Text) (c : Config Inlines) (p q : Point) (cs : List ℕ)

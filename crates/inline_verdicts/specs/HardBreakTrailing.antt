@@ -1,5 +1,6 @@
 -- What becomes of spaces and tabs at the end of data: they aren't printed, or they are a hard break (CommonMark 6.7 and 6.8).
-use Rattle.std.specs.Prelude.{◌≡◌, ℕ, ◌+◌, ◌-◌, ◌<◌, Bool, true, false, not, ◌==◌, ◌&&◌, nat_lt, if◌then◌else◌, is_some, List, [], ◌∷◌, ◌++◌, length, take, drop, slice_get, Option, None, Some}
+use Rattle.std.specs.Prelude.{◌≡◌, ℕ, ◌+◌, ◌-◌, ◌<◌, Bool, true, false, not, ◌==◌, ◌&&◌, nat_lt, if◌then◌else◌, is_some, List, [], ◌∷◌, ◌++◌, length, take}
+use Rattle.std.specs.Prelude.{drop, slice_get, Option, None, Some}
 use Rattle.std.specs.List.{list_all, suffix_len}
 use Rattle.markdown_options.specs.declared.configuration.Constructs.{Constructs}
 use Rattle.definition_text.specs.Columns.{indent, is_white}
@@ -15,7 +16,8 @@ use Rattle.inline_states_resolvers.specs.Data.{is_data}
 use Rattle.inline_states_resolvers.specs.Each.{place_at}
 use Rattle.inline_states_resolvers.specs.Whitespace.{around, around_if, begins, data_part, ends, head_size, index_edit, is_line, place_past, tail_size}
 
--- what follows data among the events follows it among the codes: a line ending or nothing, something after that ending or nothing, and no space or tab, as those are data
+-- what follows data among the events follows it among the codes: a line ending or nothing, something after that ending or nothing, and no space or tab, as
+-- those are data
 pub record Follows (events : List Event) (i : ℕ) (rest : List ℕ) : Type 0 where
   pub here : ends true events i ≡ ends_here rest
   pub inner : (is_line Enter (slice_get events (i + 2)) && is_some (slice_get events (i + 4))) ≡ ends_inner_line rest
@@ -40,7 +42,8 @@ data_events part head tail found from to =
 -- the edit at data: none where nothing is cut, otherwise these events in its place
 abbrev pub data_edit : Constructs → List ℕ → ℕ → ℕ → List ℕ → ℕ → Point → Point → List Placed → List Placed
 data_edit on part head tail rest i from to edits =
-    if nat_lt 0 (head + tail) then with_edit false i 2 (data_events part head tail (line_spaces_at on (drop (length part - tail) part ++ rest)) from to) edits else edits
+    if nat_lt 0 (head + tail) then with_edit false i 2 (data_events part head tail (line_spaces_at on (drop (length part - tail) part ++ rest)) from to) edits
+    else edits
 
 abbrev pub cut_before : List ℕ → List Event → ℕ → ℕ
 cut_before bytes events i = head_size (begins true events i) (data_part bytes events i)
@@ -63,4 +66,5 @@ is_inner b = not (is_eol b)
 -- before those the definition has none in the data
 abbrev pub EarlierVerdict : Type 0
 EarlierVerdict =
-    (on : Constructs) (part rest : List ℕ) (k : ℕ) → list_all is_inner part ≡ true → k < length part - suffix_len is_white part → line_spaces_at on (drop k part ++ rest) ≡ None
+    (on : Constructs) (part rest : List ℕ) (k : ℕ) → list_all is_inner part ≡ true → k < length part - suffix_len is_white part
+    → line_spaces_at on (drop k part ++ rest) ≡ None

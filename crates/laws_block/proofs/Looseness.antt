@@ -131,7 +131,8 @@ gap_at : (before : Blocks) (first : Block) (bs : Blocks) → is_ending first ≡
     → has_gap (join before (Cons first bs)) ≡ true
 gap_at Nil first bs p q r =
     let two = and_true (not (is_ending first)) (leb 2 (endings_at_front bs)) (ap not p) q in
-    or_left (not (is_ending first) && leb 2 (endings_at_front bs) && is_some_block bs) (has_gap bs) (and_true (not (is_ending first) && leb 2 (endings_at_front bs)) (is_some_block bs) two r)
+    or_left (not (is_ending first) && leb 2 (endings_at_front bs) && is_some_block bs) (has_gap bs)
+    (and_true (not (is_ending first) && leb 2 (endings_at_front bs)) (is_some_block bs) two r)
 gap_at (Cons b before) first bs p q r = or_right _ (has_gap (join before (Cons first bs))) (gap_at before first bs p q r)
 
 line_gap : (inside : Block → ℕ) (top : ℕ) (bs : Blocks) → HasLineBetween inside top bs → has_gap bs ≡ true

@@ -3,7 +3,8 @@ use Rattle.std.proofs.Common.{◌≡◌, ◌≢◌, ℕ, true, false, cond, ◌&
 use Rattle.std.proofs.lemmas.Bool.{cases_Bool, cond-true, cond-false, and_parts, eqb-false, eq-eqb, ne_eqb, false≢true}
 use Rattle.definition_block.specs.Container.{Quote, Item, Footnote}
 use Rattle.definition_block.specs.Tree.{Block, Holds, Items, Ending, Blank, Blocks, Nil, Cons, join, one, is_ending, all_endings}
-use Rattle.definition_block.specs.Lists.{endings_of, after_endings, item_marker, list_marker, list_items, rest_of, before_list, before, grouped_block, group_items}
+use Rattle.definition_block.specs.Lists.{endings_of, after_endings, item_marker, list_marker, list_items, rest_of, before_list, before, grouped_block}
+use Rattle.definition_block.specs.Lists.{group_items}
 use Rattle.laws_block.specs.Neighbours.{IsItem, children, NeighboursAreListed, is_other, OthersPartLists}
 
 join_assoc : (a b c : Blocks) → join (join a b) c ≡ join a (join b c)
@@ -87,7 +88,8 @@ same_items b bs cs = refl
 put-join : (marker : ℕ) (item : Block) (es : Blocks) (b : Block) (bs all cs : Blocks)
     → put marker item es (Cons b (join bs cs)) (join all cs) ≡ join (put marker item es (Cons b bs) all) cs
 put-join marker item es b bs all cs =
-    let choice : ℕ → Blocks → Blocks = λ m items. cond (eqb m marker) (Cons (Items (Cons item (join es items))) (join bs cs)) (Cons (Items (one item)) (join all cs)) in
+    let choice : ℕ → Blocks → Blocks =
+    λ m items. cond (eqb m marker) (Cons (Items (Cons item (join es items))) (join bs cs)) (Cons (Items (one item)) (join all cs)) in
     ap (λ m. choice m (list_items (Cons b (join bs cs)))) (same_marker b (join bs cs) bs)
     ∙ ap (choice (list_marker (Cons b bs))) (same_items b (join bs cs) bs)
     ∙ elim (cases_Bool (eqb (list_marker (Cons b bs)) marker)) [

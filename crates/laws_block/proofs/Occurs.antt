@@ -1,5 +1,6 @@
 -- Which blocks a text can have.
-use Rattle.std.proofs.Common.{◌≡◌, ℕ, suc, zero, Bool, true, false, cond, not, ◌&&◌, ◌||◌, ◌-◌, leb, List, [], ◌∷◌, Option, None, Some, length, take, drop, refl, ap, ◌∙◌, eqb, ◌⊎◌, inl, inr, arith}
+use Rattle.std.proofs.Common.{◌≡◌, ℕ, suc, zero, Bool, true, false, cond, not, ◌&&◌, ◌||◌, ◌-◌, leb, List, [], ◌∷◌, Option, None, Some, length, take, drop}
+use Rattle.std.proofs.Common.{refl, ap, ◌∙◌, eqb, ◌⊎◌, inl, inr, arith}
 use Rattle.std.specs.Prelude.{◌==◌, ◌<◌}
 use Rattle.std.specs.List.{prefix_len, position_or_len, list_all}
 use Rattle.std.proofs.lemmas.List.{get_or-take}
@@ -36,10 +37,20 @@ use Rattle.definition_inline.specs.Definition.{Definition as LinkDefinition, def
 use Rattle.definition_text.specs.Content.{Part, content_of}
 use Rattle.definition_block.specs.Definitions.{lines_before, Cut, cut_into, cut_after, cut_most, cut}
 use Rattle.definition_text.specs.BlockLines.{own_lines, BlockLine}
-use Rattle.definition_block.specs.Tree.{one, block_and_ending, empty_tree, nothing, tree, blanks, paragraph_of, close_leaf, is_ending, all_endings, front, trailing, without_last, last_of, holds, close, has_text, has_table, is_some_line, table_of, table_if, makes_table, leaf_with_line, with_line, rest_line, indented_takes, fenced_takes, html_with, html_takes, takes, or_heading, or_fence, or_html, begins, after, text_line_of, break_or_text, text_here, heading_of, heading_if, turns, begun, tree_or, leaf_line, beside_in, start, new, began_blank, goes_on, grow, beside_line, step, steps, blocks_at_end, children, children_after, Block, Paragraph, Heading, Break, IndentedCode, FencedCode, Html, Table, Definition, Holds, Items, Ending, Blank, Blocks, Nil, Cons, join, blocks, OpenLeaf, Text, Indented, Fenced, OpenHtml, OpenTable, Opening, Leaf, Inside, Tree as BlockTree}
+use Rattle.definition_block.specs.Tree.{one, block_and_ending, empty_tree, nothing, tree, blanks, paragraph_of, close_leaf, is_ending, all_endings, front}
+use Rattle.definition_block.specs.Tree.{trailing, without_last, last_of, holds, close, has_text, has_table, is_some_line, table_of, table_if, makes_table}
+use Rattle.definition_block.specs.Tree.{leaf_with_line, with_line, rest_line, indented_takes, fenced_takes, html_with, html_takes, takes, or_heading, or_fence}
+use Rattle.definition_block.specs.Tree.{or_html, begins, after, text_line_of, break_or_text, text_here, heading_of, heading_if, turns, begun, tree_or}
+use Rattle.definition_block.specs.Tree.{leaf_line, beside_in, start, new, began_blank, goes_on, grow, beside_line, step, steps, blocks_at_end, children}
+use Rattle.definition_block.specs.Tree.{children_after, Block, Paragraph, Heading, Break, IndentedCode, FencedCode, Html, Table, Definition, Holds, Items}
+use Rattle.definition_block.specs.Tree.{Ending, Blank, Blocks, Nil, Cons, join, blocks, OpenLeaf, Text, Indented, Fenced, OpenHtml, OpenTable, Opening, Leaf}
+use Rattle.definition_block.specs.Tree.{Inside, Tree as BlockTree}
 use Rattle.definition_block.specs.Lists.{before, grouped_block, group_items}
 use Rattle.laws_block.specs.ItemMarkers.{is_item_marker, is_unmarked, ItemsAreMarked}
-use Rattle.laws_block.specs.Occurs.{block_has, has, is_word, is_math, NoMath, NoFrontmatter, is_quote, is_list_item, is_footnote_definition, is_indented_code, is_fenced_code, is_html, is_table, is_thematic_break, is_definition, is_heading, is_one_line, is_long_heading, is_deep_heading, NoQuotes, NoItems, NoFootnoteDefinitions, NoIndentedCode, NoFencedCode, NoHtml, NoTables, NoBreaks, NoDefinitions, NoHeadings, NoLongHeadings, NoDeepHeadings, NoLists}
+use Rattle.laws_block.specs.Occurs.{block_has, has, is_word, is_math, NoMath, NoFrontmatter, is_quote, is_list_item, is_footnote_definition, is_indented_code}
+use Rattle.laws_block.specs.Occurs.{is_fenced_code, is_html, is_table, is_thematic_break, is_definition, is_heading, is_one_line, is_long_heading}
+use Rattle.laws_block.specs.Occurs.{is_deep_heading, NoQuotes, NoItems, NoFootnoteDefinitions, NoIndentedCode, NoFencedCode, NoHtml, NoTables, NoBreaks}
+use Rattle.laws_block.specs.Occurs.{NoDefinitions, NoHeadings, NoLongHeadings, NoDeepHeadings, NoLists}
 
 -- ---- what may stand in a text
 
@@ -188,7 +199,8 @@ module _ (on : Constructs) where
   may_cut_most (suc most) ls h = may_cut_after (definition_at (content_of (own_lines ls))) ls (cut_most most) h (λ others. may_cut_most most others h)
 
   may_cut : (ls : List BlockLine) → MayStand on (cut on ls).definitions
-  may_cut ls = cond_both on.definition (cut_most (length ls) ls) (cut_into Nil ls) (λ (parts : Cut). MayStand on parts.definitions) (λ h. may_cut_most (length ls) ls h) (λ _. tt)
+  may_cut ls = cond_both on.definition (cut_most (length ls) ls) (cut_into Nil ls) (λ (parts : Cut). MayStand on parts.definitions)
+      (λ h. may_cut_most (length ls) ls h) (λ _. tt)
 
   may_close_leaf : (leaf : OpenLeaf) → LeafMayStand on leaf → MayStand on (close_leaf on leaf)
   may_close_leaf (Text ls) p = may-join (cut on ls).definitions (paragraph_of (cut on ls).left) (may_cut ls) (may_paragraph (cut on ls).left)
@@ -319,12 +331,14 @@ module _ (on : Constructs) where
 
   may_make_table : (away : Opening) (rest : Rest) (beside : Beside) → SomeTreeMayStand (makes_table on away rest beside)
   may_make_table away rest beside =
-      may_table (delimiter_row on rest) (text_here away) (rest_line rest beside) (guarded on.gfm_table (small_indent on rest) (delimiters (bytes_of (bare rest))))
+      may_table (delimiter_row on rest) (text_here away) (rest_line rest beside)
+      (guarded on.gfm_table (small_indent on rest) (delimiters (bytes_of (bare rest))))
 
   may_break : (away : Opening) (rest : Rest) (beside : Beside) → OpeningMayStand on away → TreeMayStand on (break_or_text on away rest beside)
   may_break away rest beside p =
       cond_both (is_break on rest) _ _ (TreeMayStand on)
-      (λ e. may_after away (tree (block_and_ending Break beside.ending) nothing) p (((and_parts on.thematic_break _ (and_parts (on.thematic_break && small_indent on rest) _ e).0).0, (tt, tt)), tt))
+      (λ e. may_after away (tree (block_and_ending Break beside.ending) nothing) p
+      (((and_parts on.thematic_break _ (and_parts (on.thematic_break && small_indent on rest) _ e).0).0, (tt, tt)), tt))
       (λ _. may_taken (makes_table on away rest beside) (text_line_of on away rest beside) (may_make_table away rest beside) (may_text away rest beside p))
 
   -- an underline gives the rank 1 or 2
@@ -353,14 +367,16 @@ module _ (on : Constructs) where
       cond_both (is_blank rest) _ _ (TreeMayStand on)
       (λ _. may_after away (tree (one (Blank beside.ending)) nothing) p ((tt, tt), tt))
       (λ _. may_begun (begins on (has_text away) rest beside) away _ (may_begin (has_text away) rest beside) p
-      (may_taken (turns on away rest beside.ending) _ (may_underlined (underline on rest) (text_here away) beside.ending (may_underline rest)) (may_break away rest beside p)))
+      (may_taken (turns on away rest beside.ending) _ (may_underlined (underline on rest) (text_here away) beside.ending (may_underline rest))
+      (may_break away rest beside p)))
 
   -- ---- containers
 
   abbrev StartedMayStand : Option ContainerStart → Type 0
   StartedMayStand o = WhereSome (λ (s : ContainerStart). ContainerMayStand on s.container) o
 
-  may_quote_or : (other : Option ContainerStart) (o : Option Rest) → StartedMayStand other → WhereSome (λ (r : Rest). on.block_quote ≡ true) o → StartedMayStand (quote_or other o)
+  may_quote_or : (other : Option ContainerStart) (o : Option Rest) → StartedMayStand other → WhereSome (λ (r : Rest). on.block_quote ≡ true) o
+      → StartedMayStand (quote_or other o)
   may_quote_or other None p q = p
   may_quote_or other (Some rest) p q = q
 
@@ -389,7 +405,8 @@ module _ (on : Constructs) where
   may_start_one : (interrupts : Bool) (rest : Rest) → StartedMayStand (starts on interrupts rest)
   may_start_one interrupts rest =
       may_quote_or (footnote_or (item_start on interrupts rest) (footnote_start on rest)) (quote_prefix on rest)
-      (footnote_either StartedMayStand (item_start on interrupts rest) (footnote_start on rest) (may_item_start interrupts rest) (may_footnote_start rest)) (guarded on.block_quote (small_indent on rest) _)
+      (footnote_either StartedMayStand (item_start on interrupts rest) (footnote_start on rest) (may_item_start interrupts rest) (may_footnote_start rest))
+      (guarded on.block_quote (small_indent on rest) _)
 
   may_start : (o : Option ContainerStart) (away : Opening) (other : BlockTree) (more : ContainerStart → BlockTree) → StartedMayStand o → OpeningMayStand on away
       → TreeMayStand on other → ((s : ContainerStart) → TreeMayStand on (more s)) → TreeMayStand on (start on o away other more)
@@ -403,7 +420,8 @@ module _ (on : Constructs) where
   may_new zero all away beside rest p = may_leaf_line away rest beside p
   may_new (suc most) all away beside rest p =
       may_start (starts on (all && has_text away) rest) away (leaf_line on away rest beside) _
-      (may_start_one (all && has_text away) rest) p (may_leaf_line away rest beside p) (λ s. may_new most true nothing (beside_in s.container rest beside) s.rest tt)
+      (may_start_one (all && has_text away) rest) p (may_leaf_line away rest beside p)
+      (λ s. may_new most true nothing (beside_in s.container rest beside) s.rest tt)
 
   may_go_on : (o : Option Rest) (c : Container) (kids : Blocks) (inner : Opening) (beside : Beside) (rest : Rest) (more : Rest → BlockTree)
       → ContainerMayStand on c → MayStand on kids → OpeningMayStand on inner → ((others : Rest) → TreeMayStand on (more others))

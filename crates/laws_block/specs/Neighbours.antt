@@ -1,7 +1,8 @@
 -- Which items are in one list (CommonMark 5.3).
 use Rattle.std.specs.Prelude.{◌≡◌, ◌≢◌, Bool, true, false}
 use Rattle.definition_block.specs.Container.{Quote, Footnote}
-use Rattle.definition_block.specs.Tree.{Block, Paragraph, Heading, Break, IndentedCode, FencedCode, Html, Table, Definition, Holds, Items, Blocks, Cons, join, one, all_endings}
+use Rattle.definition_block.specs.Tree.{Block, Paragraph, Heading, Break, IndentedCode, FencedCode, Html, Table, Definition, Holds, Items, Blocks, Cons, join}
+use Rattle.definition_block.specs.Tree.{one, all_endings}
 use Rattle.definition_block.specs.Lists.{item_marker, grouped_block, group_items}
 
 -- an item has a marker, any other block none
@@ -37,7 +38,8 @@ abbrev pub two_lists : Around → Block → Blocks → Block → Blocks
 two_lists around first endings second =
     join around.before (Cons (Items (join around.earlier (one first))) (join endings (begins_list around second)))
 
--- Two items are in one list if they have the same marker, and otherwise in two: the lists are those of what stands up to the first one, and of what stands from the second one on.
+-- Two items are in one list if they have the same marker, and otherwise in two: the lists are those of what stands up to the first one, and of what stands from
+-- the second one on.
 pub record AreListed (front : Blocks) (first : Block) (endings : Blocks) (second : Block) (rest : Blocks) : Type 0 where
   pub around : Around
   pub up_to_first : group_items (join front (one first)) ≡ ends_list around (grouped_block first)

@@ -7,7 +7,8 @@ use Rattle.definition_text.specs.BlockLines.{BlockLine}
 use Rattle.definition_text.specs.Columns.{is_white}
 use Rattle.definition_text.specs.Lines.{lines}
 use Rattle.std.specs.List.{list_all}
-use Rattle.definition_block.specs.Tree.{Block, Heading, Break, IndentedCode, FencedCode, Html, Table, Definition, Holds, Items, Blocks, Nil, Cons, blocks, children}
+use Rattle.definition_block.specs.Tree.{Block, Heading, Break, IndentedCode, FencedCode, Html, Table, Definition, Holds, Items, Blocks, Nil, Cons, blocks}
+use Rattle.definition_block.specs.Tree.{children}
 use Rattle.definition_block.specs.Lists.{group_items}
 
 -- whether one of these blocks passes a test, at any depth

@@ -3,8 +3,10 @@ use Rattle.std.proofs.Common.{◌≡◌, ℕ, zero, suc, List, [], ◌∷◌, �
 use Rattle.std.proofs.lemmas.Bool.{cond_both}
 use Rattle.markdown_options.specs.declared.line_ending.LineEnding.{LineEnding}
 use Rattle.markdown_options.specs.declared.configuration.Constructs.{Constructs}
-use Rattle.definition_inline.specs.Inline.{Inline, Data, Escape, Character, Code, Math, Autolink, Literal, Html, EscapedBreak, TrailingBreak, LineEnd, Emphasis, Strong, Strikethrough, Link, Image, Call, Inlines, Nil, Cons}
-use Rattle.definition_inline.specs.GfmAutolinkLiteral.{Address, address_or_text, address_at, parts_from, with_addresses, parts_before, without_literals, with_literals, linked_literals, without_last}
+use Rattle.definition_inline.specs.Inline.{Inline, Data, Escape, Character, Code, Math, Autolink, Literal, Html, EscapedBreak, TrailingBreak, LineEnd, Emphasis}
+use Rattle.definition_inline.specs.Inline.{Strong, Strikethrough, Link, Image, Call, Inlines, Nil, Cons}
+use Rattle.definition_inline.specs.GfmAutolinkLiteral.{Address, address_or_text, address_at, parts_from, with_addresses, parts_before, without_literals}
+use Rattle.definition_inline.specs.GfmAutolinkLiteral.{with_literals, linked_literals, without_last}
 use Rattle.laws_endings.specs.Inlines.{inline_with, inlines_with, target_with}
 use Rattle.laws_endings.proofs.Codes.{cond-under}
 

@@ -4,8 +4,10 @@ use Rattle.markdown_options.specs.declared.line_ending.LineEnding.{LineEnding}
 use Rattle.markdown_options.specs.declared.configuration.Constructs.{Constructs}
 use Rattle.definition_block.specs.Container.{Container, Quote, Item, Footnote}
 use Rattle.definition_block.specs.Definitions.{Cut, cut}
-use Rattle.definition_block.specs.Tree.{BlockLine, last_ending, own_lines, Block, Paragraph, Heading, Break, IndentedCode, FencedCode, Html, Table, Definition, Holds, Items, Ending, Blank, Blocks, Nil, Cons, join, one, block_and_ending}
-use Rattle.definition_block.specs.Tree.{OpenLeaf, Text, Indented, Fenced, OpenHtml, OpenTable, Opening, Leaf, Inside, blanks, paragraph_of, with_paragraph, close_leaf, is_ending, all_endings, front, trailing, without_last, last_of, holds, close}
+use Rattle.definition_block.specs.Tree.{BlockLine, last_ending, own_lines, Block, Paragraph, Heading, Break, IndentedCode, FencedCode, Html, Table, Definition}
+use Rattle.definition_block.specs.Tree.{Holds, Items, Ending, Blank, Blocks, Nil, Cons, join, one, block_and_ending}
+use Rattle.definition_block.specs.Tree.{OpenLeaf, Text, Indented, Fenced, OpenHtml, OpenTable, Opening, Leaf, Inside, blanks, paragraph_of, with_paragraph}
+use Rattle.definition_block.specs.Tree.{close_leaf, is_ending, all_endings, front, trailing, without_last, last_of, holds, close}
 use Rattle.laws_endings.specs.Endings.{if_ending_with, lines_with, block_with, blocks_with}
 use Rattle.laws_endings.proofs.Codes.{cond-under}
 use Rattle.laws_endings.proofs.Cuts.{last_ending_or-with, last_ending-with, own_lines-with, cut_with, join-with, cut-with}
@@ -14,7 +16,8 @@ use Rattle.laws_endings.proofs.Openings.{leaf_with, opening_with}
 module _ (e : LineEnding) where
   -- a block made of lines, and the ending of its last one
   ended-with : (make : List BlockLine → Block) → ((ls : List BlockLine) → make (lines_with e ls) ≡ block_with e (make ls)) → (ls : List BlockLine)
-      → block_and_ending (make (own_lines (lines_with e ls))) (last_ending (lines_with e ls)) ≡ blocks_with e (block_and_ending (make (own_lines ls)) (last_ending ls))
+      → block_and_ending (make (own_lines (lines_with e ls))) (last_ending (lines_with e ls))
+      ≡ blocks_with e (block_and_ending (make (own_lines ls)) (last_ending ls))
   ended-with make same ls =
       ap (λ own. block_and_ending (make own) (last_ending (lines_with e ls))) (own_lines-with e ls)
       ∙ ap (λ b. block_and_ending b (last_ending (lines_with e ls))) (same (own_lines ls))

@@ -1,5 +1,6 @@
 -- The inline structure of a content with another ending in place of each LF.
-use Rattle.std.proofs.Common.{◌≡◌, ℕ, zero, suc, ◌+◌, ◌-◌, List, [], ◌∷◌, ◌++◌, None, Some, Option, Bool, true, false, cond, not, ◌&&◌, ◌||◌, eqb, refl, sym, ap, ◌∙◌, drop, map}
+use Rattle.std.proofs.Common.{◌≡◌, ℕ, zero, suc, ◌+◌, ◌-◌, List, [], ◌∷◌, ◌++◌, None, Some, Option, Bool, true, false, cond, not, ◌&&◌, ◌||◌, eqb, refl, sym}
+use Rattle.std.proofs.Common.{ap, ◌∙◌, drop, map}
 use Rattle.std.specs.Prelude.{is_some, codes, slice_index_or}
 use Rattle.std.specs.List.{fold, prefix_len}
 use Rattle.std.proofs.Math.ListN.{get_or-map}
@@ -25,7 +26,10 @@ use Rattle.definition_inline.specs.LabelEnd.{LinkOrCall, Leads, Calls}
 use Rattle.definition_inline.specs.GfmLabelStartFootnote.{called_label, call_or_link}
 use Rattle.definition_inline.specs.Attention.{Run, is_marker, run_between, run_size, run_at}
 use Rattle.definition_inline.specs.Spans.{Token, Item, Delimiters, with_spans}
-use Rattle.definition_inline.specs.Scan.{InlineContext, leaf_at, leaf_here, LabelStart, LinkStart, ImageStart, starts_image, starts_link, label_start_at, start_more, start_tokens, may_form, label_part, formed_part, formed_at, makes_link, Text, text, OpenLabel, Reading, reading, read_tokens, with_plain_start, with_link_or_call, Step, Next, data_step, ended_step, ended_by, label_end_step, last_step, label_step, run_step, leaf_step, step, and_then, scan, whole_text, inlines, inlines_from, without_indent}
+use Rattle.definition_inline.specs.Scan.{InlineContext, leaf_at, leaf_here, LabelStart, LinkStart, ImageStart, starts_image, starts_link, label_start_at}
+use Rattle.definition_inline.specs.Scan.{start_more, start_tokens, may_form, label_part, formed_part, formed_at, makes_link, Text, text, OpenLabel, Reading}
+use Rattle.definition_inline.specs.Scan.{reading, read_tokens, with_plain_start, with_link_or_call, Step, Next, data_step, ended_step, ended_by, label_end_step}
+use Rattle.definition_inline.specs.Scan.{last_step, label_step, run_step, leaf_step, step, and_then, scan, whole_text, inlines, inlines_from, without_indent}
 use Rattle.laws_endings.specs.Endings.{code_with, codes_with}
 use Rattle.laws_endings.specs.Inlines.{inline_code_with, content_with, target_with, inline_with, inlines_with}
 use Rattle.laws_endings.specs.Laws.{InlinesLaw}
@@ -290,10 +294,12 @@ module _ (e : LineEnding) where
     scan-with (suc k) r (c ∷ cs) = scan-with k r cs
 
     unformed_all : (now : Text) (labels : List OpenLabel)
-        → fold (λ inner label. with_plain_start label inner) (text_with now) (map open_with labels) ≡ text_with (fold (λ inner label. with_plain_start label inner) now labels)
+        → fold (λ inner label. with_plain_start label inner) (text_with now) (map open_with labels)
+        ≡ text_with (fold (λ inner label. with_plain_start label inner) now labels)
     unformed_all now [] = refl
     unformed_all now (label ∷ labels) =
-        ap (λ t. fold (λ inner l. with_plain_start l inner) t (map open_with labels)) (unformed-with label now) ∙ unformed_all (with_plain_start label now) labels
+        ap (λ t. fold (λ inner l. with_plain_start l inner) t (map open_with labels)) (unformed-with label now)
+        ∙ unformed_all (with_plain_start label now) labels
 
     -- the inline structure of a content from a place on
     pub from-with : (content : List InlineCode) → inlines_from context (content_with e content) ≡ inlines_with e (inlines_from context content)

@@ -1,5 +1,6 @@
 -- One more line, with another ending in place of each LF.
-use Rattle.std.proofs.Common.{◌≡◌, ℕ, zero, suc, List, [], ◌∷◌, ◌++◌, None, Some, Option, Bool, true, false, cond, not, ◌&&◌, ◌||◌, ◌-◌, refl, sym, ap, ◌∙◌, length, take, drop}
+use Rattle.std.proofs.Common.{◌≡◌, ℕ, zero, suc, List, [], ◌∷◌, ◌++◌, None, Some, Option, Bool, true, false, cond, not, ◌&&◌, ◌||◌, ◌-◌, refl, sym, ap, ◌∙◌}
+use Rattle.std.proofs.Common.{length, take, drop}
 use Rattle.std.specs.Option.{option_map}
 use Rattle.std.proofs.lemmas.List.{map-append, take-map, drop-map, length-map}
 use Rattle.markdown_options.specs.declared.line_ending.LineEnding.{LineEnding}
@@ -20,9 +21,13 @@ use Rattle.definition_block.specs.ThematicBreak.{is_break}
 use Rattle.definition_block.specs.declared.align_kind.AlignKind.{AlignKind}
 use Rattle.definition_block.specs.GfmTable.{delimiter_row, is_head}
 use Rattle.definition_block.specs.Definitions.{Cut, cut}
-use Rattle.definition_block.specs.Tree.{BlockLine, block_line, spaced_line, own_lines, Paragraph, Heading, Break, IndentedCode, FencedCode, Html, Table, Definition, Holds, Items, Ending, Blank, Blocks, Nil, Cons, join, one, block_and_ending}
-use Rattle.definition_block.specs.Tree.{OpenLeaf, Text, Indented, Fenced, OpenHtml, OpenTable, Opening, Leaf, Inside, Tree, tree, nothing, close, leaf_text, open_text, is_some_line, has_text, has_table, table_of, table_if, makes_table, paragraph_of, leaf_with_line, with_line, rest_line}
-use Rattle.definition_block.specs.Tree.{indented_takes, fenced_takes, html_with, takes, or_heading, or_fence, or_html, begins, after, text_line_of, break_or_text, text_here, heading_of, heading_if, turns, begun, tree_or, leaf_line}
+use Rattle.definition_block.specs.Tree.{BlockLine, block_line, spaced_line, own_lines, Paragraph, Heading, Break, IndentedCode, FencedCode, Html, Table}
+use Rattle.definition_block.specs.Tree.{Definition, Holds, Items, Ending, Blank, Blocks, Nil, Cons, join, one, block_and_ending}
+use Rattle.definition_block.specs.Tree.{OpenLeaf, Text, Indented, Fenced, OpenHtml, OpenTable, Opening, Leaf, Inside, Tree, tree, nothing, close, leaf_text}
+use Rattle.definition_block.specs.Tree.{open_text, is_some_line, has_text, has_table, table_of, table_if, makes_table, paragraph_of, leaf_with_line, with_line}
+use Rattle.definition_block.specs.Tree.{rest_line}
+use Rattle.definition_block.specs.Tree.{indented_takes, fenced_takes, html_with, takes, or_heading, or_fence, or_html, begins, after, text_line_of}
+use Rattle.definition_block.specs.Tree.{break_or_text, text_here, heading_of, heading_if, turns, begun, tree_or, leaf_line}
 use Rattle.definition_block.specs.Tree.{beside_in, start, new, in_container, is_nothing, is_one_blank, began_blank, goes_on, grow}
 use Rattle.laws_endings.specs.Endings.{if_ending_with, line_with, lines_with, blocks_with}
 use Rattle.laws_endings.proofs.Codes.{cond-under}
@@ -221,10 +226,12 @@ module _ (e : LineEnding) where
   table_if-with on (Some columns) ls row =
       let parts = cut on ls in
       let count = length columns in
-      let made : Cut → Bool → Option Tree = λ own fits. cond (is_some_line own.left && fits) (Some (table_of own.definitions own.left (line_with e row))) None in
+      let made : Cut → Bool → Option Tree =
+      λ own fits. cond (is_some_line own.left && fits) (Some (table_of own.definitions own.left (line_with e row))) None in
       ap (λ own. made own (is_head count (lines_with e ls))) (cut-with e on ls)
       ∙ ap (made (cut_with e parts)) (is_head-with e count ls)
-      ∙ ap (λ some. cond (some && is_head count ls) (Some (table_of (blocks_with e parts.definitions) (lines_with e parts.left) (line_with e row))) None) (is_some_line-with parts.left)
+      ∙ ap (λ some. cond (some && is_head count ls) (Some (table_of (blocks_with e parts.definitions) (lines_with e parts.left) (line_with e row))) None)
+      (is_some_line-with parts.left)
       ∙ cond-under if_tree (is_some_line parts.left && is_head count ls) (ap Some (table_of-with parts.definitions parts.left row)) refl
 
   makes_table-with : (on : Constructs) (away : Opening) (rest : Rest) (beside : Beside) → Kept e rest
@@ -259,7 +266,8 @@ module _ (e : LineEnding) where
       let text = break_or_text on away rest beside in
       cond-under (tree_with e) (is_blank rest) (after-with on away (tree (one (Blank beside.ending)) nothing))
       (ap (λ has. begun on (begins on has rest ends) now (tree_or (turns on now rest ends.ending) (break_or_text on now rest ends))) (has_text-with away)
-      ∙ ap (λ found. begun on found now (tree_or (turns on now rest ends.ending) (break_or_text on now rest ends))) (begins-with on (has_text away) rest beside k)
+      ∙ ap (λ found. begun on found now (tree_or (turns on now rest ends.ending) (break_or_text on now rest ends)))
+      (begins-with on (has_text away) rest beside k)
       ∙ ap (λ found. begun on (if_tree (begins on (has_text away) rest beside)) now (tree_or found (break_or_text on now rest ends)))
       (turns-with on away rest beside.ending)
       ∙ ap (λ other. begun on (if_tree (begins on (has_text away) rest beside)) now (tree_or (if_tree turned) other)) (break_or_text-with on away rest beside k)
@@ -270,7 +278,8 @@ module _ (e : LineEnding) where
 
   start-with : (on : Constructs) (found : Option ContainerStart) (away : Opening) (none other : Tree) (f g : ContainerStart → Tree)
       → none ≡ tree_with e other → KeptStarted e found
-      → ((s : ContainerStart) → Kept e s.rest → f s ≡ tree_with e (g s)) → start on found (opening_with e away) none f ≡ tree_with e (start on found away other g)
+      → ((s : ContainerStart) → Kept e s.rest → f s ≡ tree_with e (g s)) → start on found (opening_with e away) none f
+      ≡ tree_with e (start on found away other g)
   start-with on None away none other f g same k more = same
   start-with on (Some s) away none other f g same k more =
       ap (λ (t : Tree). after on (opening_with e away) (tree Nil (Inside s.container t.done t.now))) (more s k)

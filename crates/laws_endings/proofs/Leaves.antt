@@ -1,5 +1,6 @@
 -- Constructs that hold no other, in a content with another ending in place of each LF.
-use Rattle.std.proofs.Common.{◌≡◌, ℕ, suc, ◌+◌, ◌-◌, List, [], ◌∷◌, None, Some, Option, Bool, true, false, cond, not, ◌&&◌, ◌||◌, eqb, refl, sym, ap, ◌∙◌, length, drop, take, map, arith}
+use Rattle.std.proofs.Common.{◌≡◌, ℕ, suc, ◌+◌, ◌-◌, List, [], ◌∷◌, None, Some, Option, Bool, true, false, cond, not, ◌&&◌, ◌||◌, eqb, refl, sym, ap, ◌∙◌}
+use Rattle.std.proofs.Common.{length, drop, take, map, arith}
 use Rattle.std.specs.Prelude.{nat_le, codes}
 use Rattle.std.specs.Char.{is_ascii_digit, is_ascii_hexdigit, is_ascii_alphanumeric, is_ascii_punctuation}
 use Rattle.std.specs.List.{prefix_len, list_all, take_while}
@@ -16,10 +17,13 @@ use Rattle.definition_text.specs.Content.{line_ending_code, is_eol, Part, part, 
 use Rattle.definition_text.specs.Runs.{run, after_run}
 use Rattle.definition_inline.specs.Inline.{Data, Escape, Code, Math, Autolink, Html, EscapedBreak, TrailingBreak, LineEnd, Leaf, leaf, or_else}
 use Rattle.definition_inline.specs.CharacterEscape.{escape_at}
-use Rattle.definition_inline.specs.CharacterReference.{CharacterReference, character_reference, before_semicolon, part_to_semicolon, reference_by_number, reference_by_name, number_reference, reference_after, reference_form, reference_text, reference_leaf, reference_of, reference_at}
+use Rattle.definition_inline.specs.CharacterReference.{CharacterReference, character_reference, before_semicolon, part_to_semicolon, reference_by_number}
+use Rattle.definition_inline.specs.CharacterReference.{reference_by_name, number_reference, reference_after, reference_form, reference_text, reference_leaf}
+use Rattle.definition_inline.specs.CharacterReference.{reference_of, reference_at}
 use Rattle.definition_inline.specs.CodeText.{run_of, code_space, without_padding, raw_part, raw_leaf, raw_at, code_text_at}
 use Rattle.definition_inline.specs.MathText.{may_open_math, math_text_at}
-use Rattle.definition_inline.specs.Autolink.{is_scheme_byte, is_uri_byte, begins_with_scheme, after_uri, uri_end, is_email_byte, is_domain_byte, is_domain, domain_end, email_end, closed_autolink, autolink_after, autolink_at}
+use Rattle.definition_inline.specs.Autolink.{is_scheme_byte, is_uri_byte, begins_with_scheme, after_uri, uri_end, is_email_byte, is_domain_byte, is_domain}
+use Rattle.definition_inline.specs.Autolink.{domain_end, email_end, closed_autolink, autolink_after, autolink_at}
 use Rattle.definition_inline.specs.HtmlText.{html_byte, html_end, html_leaf, html_text_at}
 use Rattle.definition_inline.specs.HardBreak.{ends_inner_line, ends_here, line_end_at, escaped_break_at, is_trailing_break, line_spaces_at}
 use Rattle.definition_inline.specs.Scan.{InlineContext, leaf_at}
@@ -206,9 +210,11 @@ module _ (e : LineEnding) where
   reference_after-with : (cs : List ℕ) → reference_after (codes_with e cs) ≡ if_reference (reference_after cs)
   reference_after-with [] = refl
   reference_after-with (c ∷ cs) =
-      same_code e (λ x. cond (eqb x 35) (number_reference (codes_with e cs)) (reference_by_name (part_to_semicolon is_ascii_alphanumeric 31 (codes_with e (c ∷ cs))))) c refl refl
+      same_code e (λ x. cond (eqb x 35) (number_reference (codes_with e cs))
+      (reference_by_name (part_to_semicolon is_ascii_alphanumeric 31 (codes_with e (c ∷ cs))))) c refl refl
       ∙ cond-under if_reference (eqb c 35) (number_reference-with cs)
-      (ap reference_by_name (terminated-with is_ascii_alphanumeric 31 refl refl refl (c ∷ cs)) ∙ named-with (part_to_semicolon is_ascii_alphanumeric 31 (c ∷ cs)))
+      (ap reference_by_name (terminated-with is_ascii_alphanumeric 31 refl refl refl (c ∷ cs))
+      ∙ named-with (part_to_semicolon is_ascii_alphanumeric 31 (c ∷ cs)))
 
   reference_form-with : (cs : List ℕ) → reference_form (codes_with e cs) ≡ if_reference (reference_form cs)
   reference_form-with [] = refl

@@ -10,7 +10,8 @@ use Rattle.definition_text.specs.Columns.{is_tab_column, code_byte}
 use Rattle.definition_text.specs.Content.{line_ending_code, is_space}
 use Rattle.definition_inline.specs.Definition.{Definition as LinkDefinition, definition}
 use Rattle.definition_inline.specs.LabelMatch.{is_word, fold_word, normal_label, place_of}
-use Rattle.definition_block.specs.Blocks.{Block, Paragraph, Heading, Break, IndentedCode, FencedCode, Html, Table, Definition, Holds, Items, Ending, Blank, Blocks, Nil, Cons}
+use Rattle.definition_block.specs.Blocks.{Block, Paragraph, Heading, Break, IndentedCode, FencedCode, Html, Table, Definition, Holds, Items, Ending, Blank}
+use Rattle.definition_block.specs.Blocks.{Blocks, Nil, Cons}
 use Rattle.definition_block.specs.Definitions.{block_definitions, definitions, container_footnotes, block_footnotes, footnotes}
 use Rattle.definition_block.specs.Tree.{blocks}
 use Rattle.definition_page.specs.Targets.{with_spaces, document_definitions}
@@ -94,7 +95,8 @@ module _ (e : LineEnding) where
   all_spaced-with : (ds : List LinkDefinition) → map with_spaces (map (definition_with e) ds) ≡ map (definition_with e) (map with_spaces ds)
   all_spaced-with [] = refl
   all_spaced-with (d ∷ ds) =
-      ap (λ first. first ∷ map with_spaces (map (definition_with e) ds)) (spaced-with d) ∙ ap (λ others. definition_with e (with_spaces d) ∷ others) (all_spaced-with ds)
+      ap (λ first. first ∷ map with_spaces (map (definition_with e) ds)) (spaced-with d)
+      ∙ ap (λ others. definition_with e (with_spaces d) ∷ others) (all_spaced-with ds)
 
   mutual
     block_definitions-with : (b : Block) → block_definitions (block_with e b) ≡ map (definition_with e) (block_definitions b)

@@ -10,7 +10,8 @@ use Rattle.definition_text.specs.Lines.{TextLine, text_line}
 use Rattle.definition_text.specs.BlockLines.{BlockLine, block_line}
 use Rattle.definition_text.specs.Content.{line_ending_code}
 use Rattle.definition_inline.specs.Definition.{Definition as LinkDefinition, definition}
-use Rattle.definition_block.specs.Blocks.{Block, Paragraph, Heading, Break, IndentedCode, FencedCode, Html, Table, Definition, Holds, Items, Ending, Blank, Blocks, Nil, Cons}
+use Rattle.definition_block.specs.Blocks.{Block, Paragraph, Heading, Break, IndentedCode, FencedCode, Html, Table, Definition, Holds, Items, Ending, Blank}
+use Rattle.definition_block.specs.Blocks.{Blocks, Nil, Cons}
 
 -- the bytes of an ending for an LF, any other byte as it is
 abbrev pub byte_with : LineEnding → ℕ → List ℕ

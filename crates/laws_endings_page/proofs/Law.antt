@@ -1,5 +1,6 @@
 -- With an ending in place of each LF, a text prints its page with that ending.
-use Rattle.std.proofs.Common.{◌≡◌, ℕ, zero, suc, ◌<◌, Bool, true, false, cond, eqb, ◌||◌, not, List, [], ◌∷◌, ◌++◌, Option, None, Some, refl, sym, ap, ◌∙◌, arith, map, drop, length, slice_index_or, All, inl, inr, ◌⊎◌}
+use Rattle.std.proofs.Common.{◌≡◌, ℕ, zero, suc, ◌<◌, Bool, true, false, cond, eqb, ◌||◌, not, List, [], ◌∷◌, ◌++◌, Option, None, Some, refl, sym, ap, ◌∙◌}
+use Rattle.std.proofs.Common.{arith, map, drop, length, slice_index_or, All, inl, inr, ◌⊎◌}
 use Rattle.std.specs.Prelude.{◌≢◌, is_some, unwrap_or}
 use Rattle.std.specs.Option.{option_map}
 use Rattle.std.proofs.Math.ListN.{get_or-map}
@@ -20,7 +21,8 @@ use Rattle.definition_block.specs.Tree as tree
 use Rattle.definition_block.specs.Definitions.{block_definitions, definitions, footnotes}
 use Rattle.definition_block.specs.Lists.{group_items}
 use Rattle.definition_page.specs.TextTables.{TextTables}
-use Rattle.definition_page.specs.Targets.{with_spaces, document_definitions, labels_of, no_definition, linked_at, linked_by, is_label_of, targets, is_footnote_of}
+use Rattle.definition_page.specs.Targets.{with_spaces, document_definitions, labels_of, no_definition, linked_at, linked_by, is_label_of, targets}
+use Rattle.definition_page.specs.Targets.{is_footnote_of}
 use Rattle.definition_page.specs.Page.{Page}
 use Rattle.definition_page.specs.Pieces.{Piece}
 use Rattle.definition_page.specs.Layout.{Laid, laid, note_of, page_layout}

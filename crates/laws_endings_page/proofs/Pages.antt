@@ -1,5 +1,6 @@
 -- The page of the blocks of a text with another line ending in place of each LF.
-use Rattle.std.proofs.Common.{◌≡◌, ℕ, zero, suc, Bool, false, true≢false, cond, eqb, not, ◌||◌, ◌&&◌, leb, List, [], ◌∷◌, ◌++◌, Option, None, Some, refl, sym, ap, ◌∙◌, subst, map, drop}
+use Rattle.std.proofs.Common.{◌≡◌, ℕ, zero, suc, Bool, false, true≢false, cond, eqb, not, ◌||◌, ◌&&◌, leb, List, [], ◌∷◌, ◌++◌, Option, None, Some, refl, sym}
+use Rattle.std.proofs.Common.{ap, ◌∙◌, subst, map, drop}
 use Rattle.std.specs.Prelude.{unwrap_or}
 use Rattle.std.proofs.lemmas.Bool.{cond_both}
 use Rattle.std.proofs.lemmas.List.{drop-map, map-append}
@@ -19,13 +20,16 @@ use Rattle.definition_inline.specs.Strings.{string_text}
 use Rattle.definition_block.specs.Container.{Quote, Item, Footnote}
 use Rattle.definition_block.specs.Tree as tree
 use Rattle.definition_block.specs.Tree.{is_ending, join, one}
-use Rattle.definition_block.specs.Lists.{endings_at_front, endings_of, after_endings, is_some_block, has_gap, has_gap_inside, is_loose, item_marker, list_marker, list_items, rest_of, before_list, before, grouped_block, group_items}
+use Rattle.definition_block.specs.Lists.{endings_at_front, endings_of, after_endings, is_some_block, has_gap, has_gap_inside, is_loose, item_marker}
+use Rattle.definition_block.specs.Lists.{list_marker, list_items, rest_of, before_list, before, grouped_block, group_items}
 use Rattle.definition_block.specs.GfmTable.{Cell, cells, line_cells, delimiters as delimiters_of}
 use Rattle.definition_inline.specs.Inline.{Inlines}
 use Rattle.definition_page.specs.GfmTable.{TableRow, Table, head_line, delimiter_line, body_lines, line_aligns, in_cell}
 use Rattle.definition_page.specs.Page as page
 use Rattle.definition_page.specs.Page.{cons_ending, cons_blank}
-use Rattle.definition_page.specs.Read.{Reading, Standing, context_of, in_container, in_item, next_standing, checked_paragraph, read_paragraph, read_cell, read_row, read_table, read_text, info_text, code_lines, without_ending, after_code, list_number, read_block, read_blocks, is_blank_ending, ends_blank}
+use Rattle.definition_page.specs.Read.{Reading, Standing, context_of, in_container, in_item, next_standing, checked_paragraph, read_paragraph, read_cell}
+use Rattle.definition_page.specs.Read.{read_row, read_table, read_text, info_text, code_lines, without_ending, after_code, list_number, read_block, read_blocks}
+use Rattle.definition_page.specs.Read.{is_blank_ending, ends_blank}
 use Rattle.laws_endings.specs.Endings.{with_ending, ending_with, if_ending_with, codes_with, line_with, lines_with, block_with, blocks_with}
 use Rattle.laws_endings.specs.Inlines.{inline_code_with, inlines_with, content_with}
 use Rattle.laws_endings.proofs.Codes.{cond-under}
@@ -44,7 +48,8 @@ use Rattle.laws_endings_reads.proofs.Parts.{AreFit}
 use Rattle.laws_endings_reads.proofs.InlineReads.{dropped_codes, from_fits, inlines_fit}
 use Rattle.laws_endings_reads.proofs.BlockReads.{IsFed, WholeBefore, LineFits, LinesFit, BlockFits, BlocksFit, line_singles, join_fits, own_fit}
 use Rattle.laws_endings_page.proofs.Bytes.{IsNoFeed}
-use Rattle.laws_endings_page.proofs.GfmTable.{RowFits, TableFits, in_cell_fits, CellFits, cells_fit, head_fits, delimiters_fit, head-with, delimiters-with, row_with, table_with, in_cell-with}
+use Rattle.laws_endings_page.proofs.GfmTable.{RowFits, TableFits, in_cell_fits, CellFits, cells_fit, head_fits, delimiters_fit, head-with, delimiters-with}
+use Rattle.laws_endings_page.proofs.GfmTable.{row_with, table_with, in_cell-with}
 use Rattle.laws_endings_page.proofs.Saids.{plains_no_feed, codes-kept, string_text-with}
 
 -- ---- lists
@@ -255,7 +260,8 @@ module _ (e : LineEnding) where
         let more = inline_content p Whitespace ls in
         let other = inline_content p Whitespace (lines_with e ls) in
         subst (AreAlike (line_content p Whitespace (line_with e line) ++ other)) (sym (content-append first more))
-        (alike_append (line_content p Whitespace (line_with e line)) (content_with e first) other (content_with e more) (line-with line h.0) (content-with ls h.1))
+        (alike_append (line_content p Whitespace (line_with e line)) (content_with e first) other (content_with e more) (line-with line h.0)
+        (content-with ls h.1))
       where
         content-append : (xs ys : List InlineCode) → content_with e (xs ++ ys) ≡ content_with e xs ++ content_with e ys
         content-append xs ys = map-append _ xs ys
@@ -457,7 +463,12 @@ module _ (e : LineEnding) where
         let made : BlockLine → TableRow → List TableRow → Table =
         λ line head rows. record { aligns = line_aligns line; head = head; ending = line.ending; rows = rows } in
         let aligned : List ℕ → Table =
-        λ text. record { aligns = unwrap_or (delimiters_of text) []; head = row_with e (read_row r (head_line ls)); ending = if_ending_with e delimiters.ending; rows = map (row_with e) (map (read_row r) (body_lines ls)) } in
+        λ text. record {
+          aligns = unwrap_or (delimiters_of text) [];
+          head = row_with e (read_row r (head_line ls));
+          ending = if_ending_with e delimiters.ending;
+          rows = map (row_with e) (map (read_row r) (body_lines ls));
+        } in
         let body = lines_with e (body_lines ls) in
         ap (λ line. made line (read_row r (head_line (lines_with e ls))) (map (read_row r) (body_lines (lines_with e ls)))) (delimiters-with e ls)
         ∙ ap (λ line. made (line_with e delimiters) (read_row r line) (map (read_row r) (body_lines (lines_with e ls)))) (head-with e ls)
@@ -472,7 +483,8 @@ module _ (e : LineEnding) where
         let p = r.tables.is_punctuation in
         let all = map code_byte c.codes in
         let content = with_kinds p None c.before c.after all in
-        let singles = subst (Each Single) (sym (kinds_codes p None c.before c.after all)) (each_map Single Single code_byte c.codes space_single (singles_of c.codes h.0)) in
+        let singles = subst (Each Single) (sym (kinds_codes p None c.before c.after all))
+        (each_map Single Single code_byte c.codes space_single (singles_of c.codes h.0)) in
         (in_cell_fits (inlines context content) (inlines_fit context content singles), read_cells_fit cs h.1)
 
     row_fits : (line : BlockLine) → LineFits line → RowFits (read_row r line)

@@ -1,5 +1,6 @@
 -- The blocks of a text of whole characters without CR and `&`: their lines are made of its codes, and end in LF.
-use Rattle.std.proofs.Common.{◌≡◌, ℕ, suc, zero, ◌+◌, Bool, true, false, cond, eqb, ◌&&◌, not, leb, List, [], ◌∷◌, ◌++◌, Option, None, Some, take, drop, map, refl, sym, ap, ◌∙◌, subst, arith}
+use Rattle.std.proofs.Common.{◌≡◌, ℕ, suc, zero, ◌+◌, Bool, true, false, cond, eqb, ◌&&◌, not, leb, List, [], ◌∷◌, ◌++◌, Option, None, Some, take, drop, map}
+use Rattle.std.proofs.Common.{refl, sym, ap, ◌∙◌, subst, arith}
 use Rattle.std.specs.List.{list_all, prefix_len}
 use Rattle.std.proofs.lemmas.Bool.{cond_both, cond-true, and_parts, both_ways}
 use Rattle.markdown_options.specs.declared.line_ending.LineEnding.{LineEnding}

@@ -1,5 +1,6 @@
 -- The inline structure of a content of codes that stand for themselves: its parts are such codes, and no character reference is among them.
-use Rattle.std.proofs.Common.{◌≡◌, ℕ, suc, zero, ◌+◌, Bool, true, false, cond, eqb, ◌&&◌, ◌==◌, List, [], ◌∷◌, ◌++◌, map, Option, None, Some, take, drop, refl, sym, subst}
+use Rattle.std.proofs.Common.{◌≡◌, ℕ, suc, zero, ◌+◌, Bool, true, false, cond, eqb, ◌&&◌, ◌==◌, List, [], ◌∷◌, ◌++◌, map, Option, None, Some, take, drop, refl}
+use Rattle.std.proofs.Common.{sym, subst}
 use Rattle.std.specs.Prelude.{codes}
 use Rattle.std.specs.Char.{is_ascii_punctuation}
 use Rattle.std.specs.List.{prefix_len}
@@ -16,7 +17,8 @@ use Rattle.definition_inline.specs.CharacterEscape.{escape_at}
 use Rattle.definition_inline.specs.CharacterReference.{reference_form, reference_after, reference_of, reference_at}
 use Rattle.definition_inline.specs.CodeText.{run_of, raw_part, raw_leaf, raw_at, code_text_at}
 use Rattle.definition_inline.specs.MathText.{may_open_math, math_text_at}
-use Rattle.definition_inline.specs.Autolink.{is_scheme_byte, is_uri_byte, begins_with_scheme, after_uri, uri_end, is_email_byte, is_domain_byte, domain_end, email_end, closed_autolink, autolink_after, autolink_at}
+use Rattle.definition_inline.specs.Autolink.{is_scheme_byte, is_uri_byte, begins_with_scheme, after_uri, uri_end, is_email_byte, is_domain_byte, domain_end}
+use Rattle.definition_inline.specs.Autolink.{email_end, closed_autolink, autolink_after, autolink_at}
 use Rattle.definition_inline.specs.HtmlText.{html_byte, html_end, html_leaf, html_text_at}
 use Rattle.definition_inline.specs.HardBreak.{line_end_at, escaped_break_at, is_trailing_break, line_spaces_at}
 use Rattle.definition_inline.specs.Space.{after_white, begins_with_space}
@@ -28,7 +30,8 @@ use Rattle.definition_inline.specs.LabelEnd.{LinkTail, by_text, by_label, by_res
 use Rattle.definition_inline.specs.GfmLabelStartFootnote.{called_label, call_or_link}
 use Rattle.definition_inline.specs.Attention.{Run, is_marker, run_at}
 use Rattle.definition_inline.specs.GfmAutolinkLiteral.{LiteralStart, literal_start_at, literal_name, literal_after, literal_at}
-use Rattle.definition_inline.specs.Scan.{InlineContext, leaf_at, leaf_here, LabelStart, LinkStart, ImageStart, formed_at, text, inlines, spans_from, inlines_from, without_indent}
+use Rattle.definition_inline.specs.Scan.{InlineContext, leaf_at, leaf_here, LabelStart, LinkStart, ImageStart, formed_at, text, inlines, spans_from}
+use Rattle.definition_inline.specs.Scan.{inlines_from, without_indent}
 use Rattle.laws_endings.proofs.Contents.{no_ending_here}
 use Rattle.laws_endings_reads.specs.Kinds.{may_mark}
 use Rattle.laws_reads.proofs.Inlines.{LeafGood, BeginsGood, either_begins, Nests, FormedGood, Reads, spans_good}
@@ -37,7 +40,9 @@ use Rattle.laws_endings_reads.proofs.Neighbours.{marker_marks}
 use Rattle.laws_endings_reads.proofs.LiteralTexts.{name_plain, StartPlain, start_plain}
 use Rattle.laws_endings_reads.proofs.Parts.{TargetFits, IsFit, AreFit}
 use Rattle.laws_endings_reads.proofs.Addresses.{linked_fits}
-use Rattle.laws_endings_reads.proofs.Fits.{Single, Plain, each_plain, no_ending_by, plain_byte, all_passed, Apart, before_apart, after_all_apart, after_byte_apart, apart_from, white_fits, PartFits, title_fits, DestinationFits, destination_fits, TitleFits, code_text_fits}
+use Rattle.laws_endings_reads.proofs.Fits.{Single, Plain, each_plain, no_ending_by, plain_byte, all_passed, Apart, before_apart, after_all_apart}
+use Rattle.laws_endings_reads.proofs.Fits.{after_byte_apart, apart_from, white_fits, PartFits, title_fits, DestinationFits, destination_fits, TitleFits}
+use Rattle.laws_endings_reads.proofs.Fits.{code_text_fits}
 
 -- ---- resources
 

@@ -36,7 +36,8 @@ line_bytes (b ∷ bs) all =
     let later = ap (λ x. x && list_all is_line_byte (with_backslashes bs)) parts.0 ∙ line_bytes bs parts.1 in
     split (λ xs. list_all is_line_byte xs ≡ true) b bs (λ _. later) (λ _. later)
 
-no_delimiter_after : (number digits : ℕ) (bytes : List ℕ) → delimiter number digits (drop (prefix_len is_digit (with_backslashes bytes)) (with_backslashes bytes)) ≡ None
+no_delimiter_after : (number digits : ℕ) (bytes : List ℕ)
+    → delimiter number digits (drop (prefix_len is_digit (with_backslashes bytes)) (with_backslashes bytes)) ≡ None
 no_delimiter_after number digits [] = refl
 no_delimiter_after number digits (b ∷ bs) =
     let later = no_delimiter_after number digits bs in
@@ -47,7 +48,8 @@ no_delimiter_after number digits (b ∷ bs) =
           cond-true (is_digit b) (1 + prefix_len is_digit (with_backslashes bs)) 0 digit ∙ omega arith in
           ap (λ n. delimiter number digits (drop n (b ∷ with_backslashes bs))) one_more ∙ later
       | inr no_digit ↦
-          ap (λ n. delimiter number digits (drop n (b ∷ with_backslashes bs))) (cond-false (is_digit b) (1 + prefix_len is_digit (with_backslashes bs)) 0 no_digit)
+          ap (λ n. delimiter number digits (drop n (b ∷ with_backslashes bs)))
+          (cond-false (is_digit b) (1 + prefix_len is_digit (with_backslashes bs)) 0 no_digit)
           ∙ cond-false ((b == 46) || (b == 41)) _ None (or_from (b == 46) (b == 41) (other b 46 off refl) (other b 41 off refl))
     ])
 

@@ -59,7 +59,8 @@ line_says : (d : Document) (options : CompileOptions) (default line : List ℕ) 
 line_says d options default line before on h l =
     let ls = block_line (with_backslashes line) None before ∷ [] in
     let content = inline_content d.tables.is_punctuation Whitespace ls in
-    let same = content_codes d.tables.is_punctuation Whitespace ls (escaped_in_line line h.0) ∙ append-nil (with_backslashes line ++ []) ∙ append-nil (with_backslashes line) in
+    let same = content_codes d.tables.is_punctuation Whitespace ls (escaped_in_line line h.0) ∙ append-nil (with_backslashes line ++ [])
+    ∙ append-nil (with_backslashes line) in
     without_calls options default (meaning_of d) (inlines (context_of d) content) (escaped_calls_nothing (context_of d) content line on h same) l
     ∙ ap (add l) (escape_law (context_of d) (meaning_of d) content line on h same)
 

@@ -19,7 +19,9 @@ use Rattle.definition_block.specs.HeadingSetext.{underline}
 use Rattle.definition_block.specs.ThematicBreak.{is_break}
 use Rattle.definition_block.specs.declared.align_kind.AlignKind.{AlignKind}
 use Rattle.definition_block.specs.GfmTable.{delimiter_row, is_head}
-use Rattle.definition_block.specs.Tree.{is_some_line, table_if, Nil, Paragraph, join, block_and_ending, Text, Leaf, Tree, tree, nothing, empty_tree, with_paragraph, rest_line, begun, tree_or, heading_if, text_line_of, break_or_text, beside_in, leaf_line, start, new, grow, beside_line, step, blocks_at_end, children, children_after, blocks}
+use Rattle.definition_block.specs.Tree.{is_some_line, table_if, Nil, Paragraph, join, block_and_ending, Text, Leaf, Tree, tree, nothing, empty_tree}
+use Rattle.definition_block.specs.Tree.{with_paragraph, rest_line, begun, tree_or, heading_if, text_line_of, break_or_text, beside_in, leaf_line, start, new}
+use Rattle.definition_block.specs.Tree.{grow, beside_line, step, blocks_at_end, children, children_after, blocks}
 use Rattle.laws_visible.proofs.PlainText.{and_no, bare_other}
 use Rattle.laws_inline.specs.Escaped.{is_line_byte}
 use Rattle.laws_inline.proofs.Escaped.{no_and, no_column, line_byte}

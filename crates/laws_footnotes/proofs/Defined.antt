@@ -1,5 +1,6 @@
 -- Where the calls of a page lead.
-use Rattle.std.proofs.Common.{◌≡◌, ◌<◌, ℕ, Bool, true, false, if◌then◌else◌, ◌||◌, not, List, [], ◌∷◌, ◌++◌, map, Option, None, Some, length, refl, sym, ap, ◌∙◌, subst, get_or, codes}
+use Rattle.std.proofs.Common.{◌≡◌, ◌<◌, ℕ, Bool, true, false, if◌then◌else◌, ◌||◌, not, List, [], ◌∷◌, ◌++◌, map, Option, None, Some, length, refl, sym, ap}
+use Rattle.std.proofs.Common.{◌∙◌, subst, get_or, codes}
 use Rattle.std.specs.List.{All, flat_map}
 use Rattle.std.specs.Str.{bytes_eq}
 use Rattle.std.proofs.lemmas.List.{get_or-map, length-map}
@@ -14,11 +15,15 @@ use Rattle.definition_inline.specs.Inline.{Inline, Html as RawHtml, Emphasis, St
 use Rattle.definition_inline.specs.LabelMatch.{normal_label, first_match}
 use Rattle.definition_page.specs.Tags.{Said, Words, Tag, tag, bare_tag}
 use Rattle.definition_page.specs.Pieces.{Piece, Open, Close, Void, Says, Eol, Fresh, CallOf, CountOf, NoteStart, NoteEnd}
-use Rattle.definition_page.specs.InlinePieces.{Meaning, element, html_says, call_at, count_at, part_counts, inline_counts, part_pieces, inline_pieces, link_tag, leads_to}
-use Rattle.definition_page.specs.GfmTable.{TableRow, Table as TableOf, cell_pieces, cells_pieces, row_pieces, align_attributes, ending_piece, body_row_pieces, head_pieces, body_pieces, table_pieces}
-use Rattle.definition_page.specs.BlockPieces.{Place, at_top, inside, fresh_unless, says, code_line, html_line, check_pieces, fenced_pieces, is_silent, last_visible, ends_plainly, block_pieces, children_pieces, heading_name, info_attributes, list_tag}
+use Rattle.definition_page.specs.InlinePieces.{Meaning, element, html_says, call_at, count_at, part_counts, inline_counts, part_pieces, inline_pieces, link_tag}
+use Rattle.definition_page.specs.InlinePieces.{leads_to}
+use Rattle.definition_page.specs.GfmTable.{TableRow, Table as TableOf, cell_pieces, cells_pieces, row_pieces, align_attributes, ending_piece, body_row_pieces}
+use Rattle.definition_page.specs.GfmTable.{head_pieces, body_pieces, table_pieces}
+use Rattle.definition_page.specs.BlockPieces.{Place, at_top, inside, fresh_unless, says, code_line, html_line, check_pieces, fenced_pieces, is_silent}
+use Rattle.definition_page.specs.BlockPieces.{last_visible, ends_plainly, block_pieces, children_pieces, heading_name, info_attributes, list_tag}
 use Rattle.definition_page.specs.DocumentPieces.{meaning_of}
-use Rattle.definition_page.specs.Page.{Page, Block, Paragraph, Heading, IndentedCode, FencedCode, Html, Table, Quote, ItemList, Item, Footnote, Ending, Blocks, Nil, Cons}
+use Rattle.definition_page.specs.Page.{Page, Block, Paragraph, Heading, IndentedCode, FencedCode, Html, Table, Quote, ItemList, Item, Footnote, Ending, Blocks}
+use Rattle.definition_page.specs.Page.{Nil, Cons}
 use Rattle.laws_footnotes.specs.Section.{NamedCall, named_call, named_calls}
 use Rattle.laws_footnotes.specs.Defined.{HasDefinition, CallHasDefinitionLaw}
 

@@ -1,5 +1,6 @@
 -- An escaped line prints itself as text.
-use Rattle.std.proofs.Common.{inl, inr, ◌≡◌, ◌+◌, ◌<◌, ℕ, Bool, true, false, cond, not, ◌&&◌, ◌||◌, List, [], ◌∷◌, ◌++◌, map, Option, None, Some, refl, sym, ap, ◌∙◌, length, get_or, drop, arith, subst, append_assoc}
+use Rattle.std.proofs.Common.{inl, inr, ◌≡◌, ◌+◌, ◌<◌, ℕ, Bool, true, false, cond, not, ◌&&◌, ◌||◌, List, [], ◌∷◌, ◌++◌, map, Option, None, Some, refl, sym, ap}
+use Rattle.std.proofs.Common.{◌∙◌, length, get_or, drop, arith, subst, append_assoc}
 use Rattle.std.specs.Prelude.{◌==◌, nat_lt, nat_le, codes}
 use Rattle.std.specs.List.{list_all, list_any, flat_map, prefix_len}
 use Rattle.std.specs.Char.{is_ascii_punctuation, to_ascii_lowercase}
@@ -27,7 +28,8 @@ use Rattle.definition_inline.specs.Spans.{Token, Item, with_spans}
 use Rattle.definition_inline.specs.GfmAutolinkLiteral.{begins_caselessly, parts_from, parts_before, with_literals, linked_literals}
 use Rattle.definition_inline.specs.GfmLabelStartFootnote.{starts_call}
 use Rattle.definition_inline.proofs.GfmAutolinkLiteral.{HasNoStart, no_literal}
-use Rattle.definition_inline.specs.Scan.{InlineContext, leaf_at, leaf_here, starts_image, starts_link, label_start_at, text, Reading, reading, read_tokens, Next, data_step, label_end_step, step, scan, whole_text, inlines}
+use Rattle.definition_inline.specs.Scan.{InlineContext, leaf_at, leaf_here, starts_image, starts_link, label_start_at, text, Reading, reading, read_tokens}
+use Rattle.definition_inline.specs.Scan.{Next, data_step, label_end_step, step, scan, whole_text, inlines}
 use Rattle.html_bytes.specs.InlineHtml.{InlineMeaning, part_html, inline_html}
 use Rattle.definition_inline.proofs.Scanning.{scan_step, step_leaf, step_last}
 use Rattle.html_bytes.proofs.WithoutCalls.{part_calls, has_calls}
@@ -186,7 +188,8 @@ goes_on_from b bs line after =
           ]
     ]
 
-goes_on : (b : ℕ) (bs : List ℕ) → list_all is_line_byte (b ∷ bs) ≡ true → ends_with_space (b ∷ bs) ≡ false → ends_here (bare (with_backslashes (b ∷ bs))) ≡ false
+goes_on : (b : ℕ) (bs : List ℕ) → list_all is_line_byte (b ∷ bs) ≡ true → ends_with_space (b ∷ bs) ≡ false
+    → ends_here (bare (with_backslashes (b ∷ bs))) ≡ false
 goes_on b [] lines trimmed =
     let line = (and_parts (is_line_byte b) true lines).0 in
     goes_on_from b [] line (λ white. absurd (both_ways (b == 32) trimmed (white_is_space b line white)))
@@ -300,9 +303,11 @@ module _ (context : InlineContext) (on : context.options.constructs.character_es
       after_white b [] lines trimmed white =
           absurd (both_ways (b == 32) trimmed (white_is_space b (and_parts (is_line_byte b) true lines).0 white))
       after_white b (next ∷ bs) lines trimmed white =
-          ap ends_here (bare_white b (with_backslashes (next ∷ bs)) white) ∙ goes_on next bs (and_parts (is_line_byte b) (list_all is_line_byte (next ∷ bs)) lines).1 trimmed
+          ap ends_here (bare_white b (with_backslashes (next ∷ bs)) white) ∙ goes_on next bs
+          (and_parts (is_line_byte b) (list_all is_line_byte (next ∷ bs)) lines).1 trimmed
 
-      escape_step : (b : ℕ) (bs : List ℕ) (content : List InlineCode) (r : Reading) → is_ascii_punctuation b ≡ true → codes_of content ≡ 92 ∷ b ∷ with_backslashes bs
+      escape_step : (b : ℕ) (bs : List ℕ) (content : List InlineCode) (r : Reading) → is_ascii_punctuation b ≡ true
+          → codes_of content ≡ 92 ∷ b ∷ with_backslashes bs
           → ((rest : List InlineCode) → codes_of rest ≡ with_backslashes bs
           → scan context 0 (read_tokens (Item (Escape b) ∷ []) r) rest ≡ read_tokens (tokens_of bs) (read_tokens (Item (Escape b) ∷ []) r))
           → scan context 0 r content ≡ read_tokens (tokens_of (b ∷ bs)) r
@@ -310,8 +315,10 @@ module _ (context : InlineContext) (on : context.options.constructs.character_es
       escape_step b bs (c ∷ []) r punctuation e more = let n : 1 ≡ length (92 ∷ b ∷ with_backslashes bs) = ap length e in absurd (omega arith)
       escape_step b bs (c ∷ d ∷ cs) r punctuation e more =
           let next = read_tokens (Item (Escape b) ∷ []) r in
-          let found : leaf_at context (codes_of (c ∷ d ∷ cs)) ≡ Some (leaf (Escape b ∷ []) 2) = ap (leaf_at context) e ∙ escape_leaf b (with_backslashes bs) punctuation in
-          scan_step context r next c (d ∷ cs) 1 (step_leaf context r c (d ∷ cs) (leaf (Escape b ∷ []) 2) (or_first (leaf_at context (codes_of (c ∷ d ∷ cs))) _ (leaf (Escape b ∷ []) 2) found))
+          let found : leaf_at context (codes_of (c ∷ d ∷ cs)) ≡ Some (leaf (Escape b ∷ []) 2) =
+          ap (leaf_at context) e ∙ escape_leaf b (with_backslashes bs) punctuation in
+          scan_step context r next c (d ∷ cs) 1 (step_leaf context r c (d ∷ cs) (leaf (Escape b ∷ []) 2)
+          (or_first (leaf_at context (codes_of (c ∷ d ∷ cs))) _ (leaf (Escape b ∷ []) 2) found))
           ∙ more cs (ap (drop 2) e) ∙ read_more (Item (Escape b)) (tokens_of bs) r
           ∙ ap (λ i. read_tokens (Item i ∷ tokens_of bs) r) (sym (escape_part b punctuation))
 
@@ -323,7 +330,8 @@ module _ (context : InlineContext) (on : context.options.constructs.character_es
       other_step b bs [] r off line spaces e more = let n : 0 ≡ length (b ∷ with_backslashes bs) = ap length e in absurd (omega arith)
       other_step b bs (c ∷ cs) r off line spaces e more =
           let next = read_tokens (Item (Data b) ∷ []) r in
-          scan_step context r next c cs 0 (data_place b (with_backslashes bs) r c cs off line spaces (subst HasNoStart (escaped_other b bs off) (no_start_escaped (b ∷ bs))) e)
+          scan_step context r next c cs 0 (data_place b (with_backslashes bs) r c cs off line spaces
+          (subst HasNoStart (escaped_other b bs off) (no_start_escaped (b ∷ bs))) e)
           ∙ more cs (ap (drop 1) e) ∙ read_more (Item (Data b)) (tokens_of bs) r
           ∙ ap (λ i. read_tokens (Item i ∷ tokens_of bs) r) (sym (data_part b off))
 
@@ -343,7 +351,8 @@ no_addresses before (b ∷ bs) h =
     cond-false (b == 64) _ _ h.0 ∙ no_addresses (before ++ b ∷ []) bs h.1 ∙ ap (map Data) (append_assoc before (b ∷ []) bs)
 
 -- a run of text, and the parts after it
-literals_escaped : (run bytes : List ℕ) → HasNoAt run → with_literals run (parts_before (map part_of bytes) Nil) ≡ parts_before (map Data run ++ map part_of bytes) Nil
+literals_escaped : (run bytes : List ℕ) → HasNoAt run → with_literals run (parts_before (map part_of bytes) Nil)
+    ≡ parts_before (map Data run ++ map part_of bytes) Nil
 literals_escaped run [] h = ap (λ is. parts_before is Nil) (no_addresses [] run h ∙ sym (append-nil (map Data run)))
 literals_escaped run (b ∷ bs) h =
     let others = map part_of bs in

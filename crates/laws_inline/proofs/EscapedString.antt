@@ -1,9 +1,11 @@
 -- A text that is escaped gives itself back as a string.
-use Rattle.std.proofs.Common.{inl, inr, ◌≡◌, ℕ, true, false, not, ◌&&◌, ◌||◌, ◌+◌, ◌<◌, List, [], ◌∷◌, ◌++◌, Option, None, Some, refl, sym, ap, ◌∙◌, subst, drop, arith}
+use Rattle.std.proofs.Common.{inl, inr, ◌≡◌, ℕ, true, false, not, ◌&&◌, ◌||◌, ◌+◌, ◌<◌, List, [], ◌∷◌, ◌++◌, Option, None, Some, refl, sym, ap, ◌∙◌, subst}
+use Rattle.std.proofs.Common.{drop, arith}
 use Rattle.std.specs.Prelude.{◌==◌, nat_le}
 use Rattle.std.specs.List.{list_all, flat_map}
 use Rattle.std.specs.Char.{is_ascii_punctuation}
-use Rattle.std.proofs.lemmas.Bool.{cases_Bool, cond-true, cond-false, both_ways, and_parts, and_left, and_right, or_cases, or_parts, not-true, eqb-true, ltb-true}
+use Rattle.std.proofs.lemmas.Bool.{cases_Bool, cond-true, cond-false, both_ways, and_parts, and_left, and_right, or_cases, or_parts, not-true, eqb-true}
+use Rattle.std.proofs.lemmas.Bool.{ltb-true}
 use Rattle.markdown_options.specs.declared.configuration.Constructs.{Constructs}
 use Rattle.definition_text.specs.Columns.{is_white, indent, bare}
 use Rattle.definition_text.specs.Content.{content_codes, is_eol}
@@ -45,7 +47,8 @@ no_return : (b : ℕ) → is_eol b ≡ false → (b == 13) ≡ false
 no_return b none = (or_parts (b == 10) (b == 13) (or_parts ((b == 10) || (b == 13)) (b == 257) none).0).1
 
 -- before ASCII punctuation a backslash is what comes first
-punctuation_codes : (b : ℕ) (bs : List ℕ) → is_ascii_punctuation b ≡ true → content_codes (with_backslashes (b ∷ bs)) ≡ 92 ∷ b ∷ content_codes (with_backslashes bs)
+punctuation_codes : (b : ℕ) (bs : List ℕ) → is_ascii_punctuation b ≡ true
+    → content_codes (with_backslashes (b ∷ bs)) ≡ 92 ∷ b ∷ content_codes (with_backslashes bs)
 punctuation_codes b bs on =
     let apart : (b == 13) ≡ false = elim (cases_Bool (b == 13)) [
       | inl e ↦ absurd (both_ways (is_ascii_punctuation b) (ap is_ascii_punctuation (eqb-true b 13 e)) on)
@@ -53,7 +56,8 @@ punctuation_codes b bs on =
     ] in
     ap content_codes (escaped_punctuation b bs on) ∙ ap (λ xs. 92 ∷ xs) (plain_code b (with_backslashes bs) apart)
 
-other_codes : (b : ℕ) (bs : List ℕ) → is_ascii_punctuation b ≡ false → (b == 13) ≡ false → content_codes (with_backslashes (b ∷ bs)) ≡ b ∷ content_codes (with_backslashes bs)
+other_codes : (b : ℕ) (bs : List ℕ) → is_ascii_punctuation b ≡ false → (b == 13) ≡ false
+    → content_codes (with_backslashes (b ∷ bs)) ≡ b ∷ content_codes (with_backslashes bs)
 other_codes b bs off apart = ap content_codes (escaped_other b bs off) ∙ plain_code b (with_backslashes bs) apart
 
 -- no space begins with a CR
@@ -131,7 +135,8 @@ module _ (on : Constructs) (names : List ℕ → Option (List ℕ)) where
   escape_text escapes b cs punctuation =
       let both : (on.character_escape && ((92 == 92) && is_ascii_punctuation b)) ≡ true = ap (λ x. x && is_ascii_punctuation b) escapes ∙ punctuation in
       let found : escape_at on (92 ∷ b ∷ cs) ≡ Some (leaf (Escape b ∷ []) 2) = cond-true _ _ _ both in
-      let first : string_leaf_at on names (92 ∷ b ∷ cs) ≡ Some (leaf (Escape b ∷ []) 2) = or_first (escape_at on (92 ∷ b ∷ cs)) _ (leaf (Escape b ∷ []) 2) found in
+      let first : string_leaf_at on names (92 ∷ b ∷ cs) ≡ Some (leaf (Escape b ∷ []) 2) =
+      or_first (escape_at on (92 ∷ b ∷ cs)) _ (leaf (Escape b ∷ []) 2) found in
       ap (flat_map string_bytes) (string_step on names 92 (b ∷ cs) (leaf (Escape b ∷ []) 2) first (omega arith))
 
   return_text : (xs : List ℕ) → indent (content_codes xs) ≡ 0 → IsBareFeed xs → read (content_codes (13 ∷ xs)) ≡ 13 ∷ read (content_codes xs)
@@ -148,7 +153,8 @@ module _ (on : Constructs) (names : List ℕ → Option (List ℕ)) where
   ]
 
   -- a line ending, and what follows it
-  ending_text : (b : ℕ) (bs : List ℕ) → b < 256 → is_eol b ≡ true → IsBareAt b bs → read (content_codes (with_backslashes (b ∷ bs))) ≡ b ∷ read (content_codes (with_backslashes bs))
+  ending_text : (b : ℕ) (bs : List ℕ) → b < 256 → is_eol b ≡ true → IsBareAt b bs
+      → read (content_codes (with_backslashes (b ∷ bs))) ≡ b ∷ read (content_codes (with_backslashes bs))
   ending_text b bs octet eol at = elim (or_cases ((b == 10) || (b == 13)) (b == 257) eol) [
     | inl one ↦
         let none = no_indent bs (at.after_eol eol) in

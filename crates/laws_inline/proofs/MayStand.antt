@@ -1,5 +1,6 @@
 -- What may stand in a content: the construct of each part is on.
-use Rattle.std.proofs.Common.{inl, inr, ◌≡◌, ℕ, suc, zero, Bool, true, false, cond, not, ◌&&◌, ◌||◌, ◌==◌, List, [], ◌∷◌, ◌++◌, map, Option, None, Some, length, take, drop, ap, ◌+◌, ◌-◌}
+use Rattle.std.proofs.Common.{inl, inr, ◌≡◌, ℕ, suc, zero, Bool, true, false, cond, not, ◌&&◌, ◌||◌, ◌==◌, List, [], ◌∷◌, ◌++◌, map, Option, None, Some, length}
+use Rattle.std.proofs.Common.{take, drop, ap, ◌+◌, ◌-◌}
 use Rattle.std.specs.Prelude.{replicate, reverse, codes}
 use Rattle.std.specs.List.{fold, filter}
 use Rattle.std.specs.Option.{option_map}
@@ -10,7 +11,8 @@ use Rattle.definition_text.specs.Bytes.{begins_with}
 use Rattle.definition_text.specs.Content.{Part, before, up_to}
 use Rattle.definition_text.specs.Runs.{run, after_run}
 use Rattle.definition_text.specs.InlineCode.{InlineCode, codes_of}
-use Rattle.definition_inline.specs.Inline.{Inline, Data, Escape, Character, Code, Math, Autolink, Literal, Html, EscapedBreak, TrailingBreak, LineEnd, Emphasis, Strong, Strikethrough, Link, Image, Call, Inlines, Nil, Cons, followed_by, Leaf, leaf, or_else}
+use Rattle.definition_inline.specs.Inline.{Inline, Data, Escape, Character, Code, Math, Autolink, Literal, Html, EscapedBreak, TrailingBreak, LineEnd, Emphasis}
+use Rattle.definition_inline.specs.Inline.{Strong, Strikethrough, Link, Image, Call, Inlines, Nil, Cons, followed_by, Leaf, leaf, or_else}
 use Rattle.definition_inline.specs.CharacterEscape.{escape_at}
 use Rattle.definition_inline.specs.CharacterReference.{CharacterReference, reference_form, reference_text, reference_leaf, reference_of, reference_at}
 use Rattle.definition_inline.specs.CodeText.{run_of, raw_leaf, code_text_at}
@@ -23,10 +25,14 @@ use Rattle.definition_inline.specs.LabelEnd.{LinkTail, is_label_text, label_end_
 use Rattle.definition_inline.specs.GfmLabelStartFootnote.{starts_marked_call, called_label, call_or_link}
 use Rattle.definition_inline.specs.Attention.{Run, run_at, is_marker}
 use Rattle.definition_inline.specs.Pairing.{Pair, pairs}
-use Rattle.definition_inline.specs.Spans.{Token, Item, Delimiters, runs_of, Span, IsEmphasis, IsStrong, IsStrikethrough, span_of, SpanRow, Holds, Opens, Closes, bytes_taken, run_rows, rows_from, OpenSpan, Nest, nest, span_part, leave, nest_row, with_spans}
+use Rattle.definition_inline.specs.Spans.{Token, Item, Delimiters, runs_of, Span, IsEmphasis, IsStrong, IsStrikethrough, span_of, SpanRow, Holds, Opens, Closes}
+use Rattle.definition_inline.specs.Spans.{bytes_taken, run_rows, rows_from, OpenSpan, Nest, nest, span_part, leave, nest_row, with_spans}
 use Rattle.definition_inline.specs.GfmAutolinkLiteral.{literal_at}
 use Rattle.definition_inline.proofs.GfmAutolinkLiteral.{any_literal}
-use Rattle.definition_inline.specs.Scan.{InlineContext, leaf_at, leaf_here, LabelStart, LinkStart, ImageStart, label_start_at, starts_image, starts_link, start_bytes, start_tokens, may_form as may_form_with, formed_part, formed_at, Text, text, OpenLabel, Reading, reading, read_tokens, with_plain_start, with_link_or_call, Step, Next, data_step, ended_step, ended_by, label_end_step, last_step, label_step, run_step, leaf_step, step, and_then, scan, whole_text, spans_from, without_indent, inlines}
+use Rattle.definition_inline.specs.Scan.{InlineContext, leaf_at, leaf_here, LabelStart, LinkStart, ImageStart, label_start_at, starts_image, starts_link}
+use Rattle.definition_inline.specs.Scan.{start_bytes, start_tokens, may_form as may_form_with, formed_part, formed_at, Text, text, OpenLabel, Reading, reading}
+use Rattle.definition_inline.specs.Scan.{read_tokens, with_plain_start, with_link_or_call, Step, Next, data_step, ended_step, ended_by, label_end_step}
+use Rattle.definition_inline.specs.Scan.{last_step, label_step, run_step, leaf_step, step, and_then, scan, whole_text, spans_from, without_indent, inlines}
 use Rattle.laws_inline.proofs.Each.{Each, WhereSome, each-append, each_map, each_same}
 use Rattle.laws_literals.proofs.Carried.{Carries, literals_good, linked_good}
 
@@ -253,7 +259,8 @@ module _ (on : Constructs) where
 
   -- ---- what a `]` forms
 
-  may_lead : (start : LabelStart) (found : Option LinkTail) → ((end : LinkTail) → MayForm start (Leads end)) → WhereSome (MayForm start) (option_map Leads found)
+  may_lead : (start : LabelStart) (found : Option LinkTail) → ((end : LinkTail) → MayForm start (Leads end))
+      → WhereSome (MayForm start) (option_map Leads found)
   may_lead start None p = tt
   may_lead start (Some end) p = p end
 
@@ -288,7 +295,8 @@ module _ (on : Constructs) where
       each-append TokenMayStand label.outer.tokens (start_tokens label.start ++ inner.tokens) h.1
       (each-append TokenMayStand (start_tokens label.start) inner.tokens (start_stands label.start) p)
 
-  may_form : (label : OpenLabel) (found : LinkOrCall) (inner : Text) → LabelMayStand label → MayForm label.start found → on.label_end ≡ true → TextMayStand inner
+  may_form : (label : OpenLabel) (found : LinkOrCall) (inner : Text) → LabelMayStand label → MayForm label.start found → on.label_end ≡ true
+      → TextMayStand inner
       → TextMayStand (with_link_or_call label found inner)
   may_form label found inner h f e p =
       each-append TokenMayStand label.outer.tokens (Item (formed_part label.start found inner.tokens) ∷ []) h.1
@@ -367,7 +375,8 @@ module _ (context : InlineContext) where
 
   may_form_at : (start : LabelStart) (between rest : List ℕ) → WhereSome (MayForm constructs start) (formed_at context start between rest)
   may_form_at LinkStart between rest =
-      may_link constructs context.is_defined between rest (called_label constructs context.is_footnote between) (may_call constructs context.is_footnote between)
+      may_link constructs context.is_defined between rest (called_label constructs context.is_footnote between)
+      (may_call constructs context.is_footnote between)
   may_form_at ImageStart between rest = may_lead constructs ImageStart (label_end_at context.is_defined between rest) (λ end. tt)
 
   may_end_by : (content : List ℕ) (label : OpenLabel) (inner : Text) → WhereSome (MayForm constructs label.start) (ended_by context content label inner)

@@ -1,5 +1,6 @@
 -- No link holds another.
-use Rattle.std.proofs.Common.{◌≡◌, ℕ, suc, zero, Bool, true, false, cond, not, ◌&&◌, ◌||◌, ◌==◌, List, [], ◌∷◌, ◌++◌, map, Option, None, Some, length, take, drop, refl, ◌+◌, ◌-◌}
+use Rattle.std.proofs.Common.{◌≡◌, ℕ, suc, zero, Bool, true, false, cond, not, ◌&&◌, ◌||◌, ◌==◌, List, [], ◌∷◌, ◌++◌, map, Option, None, Some, length, take}
+use Rattle.std.proofs.Common.{drop, refl, ◌+◌, ◌-◌}
 use Rattle.std.specs.Prelude.{replicate, reverse}
 use Rattle.std.specs.List.{fold, filter}
 use Rattle.std.specs.Option.{option_map}
@@ -9,7 +10,8 @@ use Rattle.definition_text.specs.Columns.{indent}
 use Rattle.definition_text.specs.Content.{Part, before, up_to}
 use Rattle.definition_text.specs.Runs.{run, after_run}
 use Rattle.definition_text.specs.InlineCode.{InlineCode, codes_of}
-use Rattle.definition_inline.specs.Inline.{Target, Inline, Data, Escape, Code, Math, Autolink, EscapedBreak, TrailingBreak, LineEnd, Emphasis, Strong, Strikethrough, Link, Image, Call, Inlines, Nil, Cons, followed_by, Leaf, leaf, or_else}
+use Rattle.definition_inline.specs.Inline.{Target, Inline, Data, Escape, Code, Math, Autolink, EscapedBreak, TrailingBreak, LineEnd, Emphasis, Strong}
+use Rattle.definition_inline.specs.Inline.{Strikethrough, Link, Image, Call, Inlines, Nil, Cons, followed_by, Leaf, leaf, or_else}
 use Rattle.definition_inline.specs.CharacterEscape.{escape_at}
 use Rattle.definition_inline.specs.CharacterReference.{CharacterReference, reference_form, reference_text, reference_leaf, reference_of, reference_at}
 use Rattle.definition_inline.specs.CodeText.{run_of, code_text, raw_leaf, raw_at, code_text_at}
@@ -20,10 +22,14 @@ use Rattle.definition_inline.specs.HardBreak.{line_end_at, escaped_break_at, is_
 use Rattle.definition_inline.specs.LabelEnd.{LinkTail, label_end_at, LinkOrCall, Leads, Calls}
 use Rattle.definition_inline.specs.Attention.{Run, run_at}
 use Rattle.definition_inline.specs.Pairing.{Pair, pairs}
-use Rattle.definition_inline.specs.Spans.{Token, Item, Delimiters, runs_of, Span, IsEmphasis, IsStrong, IsStrikethrough, span_of, SpanRow, Holds, Opens, Closes, bytes_taken, run_rows, rows_from, OpenSpan, Nest, nest, span_part, leave, nest_row, with_spans}
+use Rattle.definition_inline.specs.Spans.{Token, Item, Delimiters, runs_of, Span, IsEmphasis, IsStrong, IsStrikethrough, span_of, SpanRow, Holds, Opens, Closes}
+use Rattle.definition_inline.specs.Spans.{bytes_taken, run_rows, rows_from, OpenSpan, Nest, nest, span_part, leave, nest_row, with_spans}
 use Rattle.definition_inline.specs.GfmAutolinkLiteral.{literal_at}
 use Rattle.definition_inline.proofs.GfmAutolinkLiteral.{any_literal}
-use Rattle.definition_inline.specs.Scan.{InlineContext, leaf_at, leaf_here, LabelStart, LinkStart, ImageStart, label_start_at, start_bytes, start_tokens, may_form, formed_at, Text, text, OpenLabel, Reading, reading, read_tokens, with_plain_start, with_link_or_call, Step, Next, data_step, ended_step, label_end_step, last_step, label_step, run_step, leaf_step, step, and_then, scan, whole_text, spans_from, without_indent}
+use Rattle.definition_inline.specs.Scan.{InlineContext, leaf_at, leaf_here, LabelStart, LinkStart, ImageStart, label_start_at, start_bytes, start_tokens}
+use Rattle.definition_inline.specs.Scan.{may_form, formed_at, Text, text, OpenLabel, Reading, reading, read_tokens, with_plain_start, with_link_or_call, Step}
+use Rattle.definition_inline.specs.Scan.{Next, data_step, ended_step, label_end_step, last_step, label_step, run_step, leaf_step, step, and_then, scan}
+use Rattle.definition_inline.specs.Scan.{whole_text, spans_from, without_indent}
 use Rattle.laws_inline.specs.Occurs.{part_has, has}
 use Rattle.laws_inline.specs.NestedLinks.{is_leading, is_nesting, LinksHoldNoLinks}
 use Rattle.laws_inline.proofs.Each.{WhereSome, Each, each-append, each_map, each_same}
@@ -31,7 +37,8 @@ use Rattle.laws_inline.proofs.Literals.{LacksLiterals, without_lacks, with_lacks
 
 -- ---- spans of what lacks something
 
-module _ (test : Inline → Bool) (data_fails : (b : ℕ) → test (Data b) ≡ false) (span_fails : (span : Span) (kids : Inlines) → test (span_part span kids) ≡ false) where
+module _ (test : Inline → Bool) (data_fails : (b : ℕ) → test (Data b) ≡ false) (span_fails : (span : Span) (kids : Inlines)
+    → test (span_part span kids) ≡ false) where
   abbrev pub Lacks : Token → Type 0
   Lacks (Item i) = part_has test i ≡ false
   Lacks (Delimiters run) = Unit {0}
@@ -357,7 +364,8 @@ IsGoodStep (Next more r) = IsGoodReading r
 good_read : (more : List Token) (r : Reading) → Each NestsNothing more → Each HasNoLink more → IsGoodReading r → IsGoodReading (read_tokens more r)
 good_read more r p q h = record { now = good_more r.now more h.now p q; open_labels = h.open_labels }
 
-good_unended : (label : OpenLabel) (others : List OpenLabel) (inner : Text) → IsGood label.outer → Each (λ (l : OpenLabel). IsGood l.outer) others → IsGood inner
+good_unended : (label : OpenLabel) (others : List OpenLabel) (inner : Text) → IsGood label.outer → Each (λ (l : OpenLabel). IsGood l.outer) others
+    → IsGood inner
     → IsGoodStep (ended_step label others inner None)
 good_unended label others inner h hs p =
     good_read (Item (Data 93) ∷ []) (reading (with_plain_start label inner) others) (refl, tt) (refl, tt)

@@ -9,11 +9,15 @@ use Rattle.definition_text.specs.InlineCode.{InlineCode, codes_of}
 use Rattle.definition_inline.specs.Inline.{Reference, Inline, Data, Emphasis, Strong, Strikethrough, Link, Image, Call, Inlines, Leaf}
 use Rattle.definition_inline.specs.Label.{label_at}
 use Rattle.definition_inline.specs.Resource.{LinkResource, resource_at}
-use Rattle.definition_inline.specs.LabelEnd.{LinkTail, link_tail, is_label_text, by_text, by_label, by_resource, label_end_at, LinkOrCall, Leads, Calls, link_or_image}
+use Rattle.definition_inline.specs.LabelEnd.{LinkTail, link_tail, is_label_text, by_text, by_label, by_resource, label_end_at, LinkOrCall, Leads, Calls}
+use Rattle.definition_inline.specs.LabelEnd.{link_or_image}
 use Rattle.definition_inline.specs.GfmLabelStartFootnote.{called_label, call_or_link}
 use Rattle.definition_inline.specs.Attention.{Run, run_at}
 use Rattle.definition_inline.specs.Spans.{Token, Item, Delimiters, Span, IsEmphasis, IsStrong, IsStrikethrough, span_part, with_spans}
-use Rattle.definition_inline.specs.Scan.{InlineContext, leaf_here, LabelStart, LinkStart, ImageStart, label_start_at, start_bytes, start_tokens, may_form, formed_part, formed_at, Text, text, OpenLabel, Reading, reading, read_tokens, with_plain_start, with_link_or_call, Step, Next, data_step, ended_step, ended_by, label_end_step, last_step, label_step, run_step, leaf_step, step, and_then, scan, whole_text, spans_from, without_indent}
+use Rattle.definition_inline.specs.Scan.{InlineContext, leaf_here, LabelStart, LinkStart, ImageStart, label_start_at, start_bytes, start_tokens, may_form}
+use Rattle.definition_inline.specs.Scan.{formed_part, formed_at, Text, text, OpenLabel, Reading, reading, read_tokens, with_plain_start, with_link_or_call}
+use Rattle.definition_inline.specs.Scan.{Step, Next, data_step, ended_step, ended_by, label_end_step, last_step, label_step, run_step, leaf_step, step}
+use Rattle.definition_inline.specs.Scan.{and_then, scan, whole_text, spans_from, without_indent}
 use Rattle.laws_inline.specs.Occurs.{part_has, has}
 use Rattle.laws_inline.specs.References.{is_undefined, leads_nowhere, ReferencesAreDefined}
 use Rattle.laws_inline.proofs.Each.{WhereSome, Each, each-append, each_map}

@@ -1,5 +1,6 @@
 -- After a first line that isn't blank, a tree doesn't hold a blank line alone: so an item that holds it goes on over blank lines.
-use Rattle.std.proofs.Common.{◌≡◌, ℕ, zero, suc, List, [], ◌∷◌, ◌++◌, None, Some, Option, Bool, true, false, ◌&&◌, ◌||◌, ◌-◌, take, not, inl, inr, ◌⊎◌, ⊎_elim, refl, sym, ap, subst, length}
+use Rattle.std.proofs.Common.{◌≡◌, ℕ, zero, suc, List, [], ◌∷◌, ◌++◌, None, Some, Option, Bool, true, false, ◌&&◌, ◌||◌, ◌-◌, take, not, inl, inr, ◌⊎◌, ⊎_elim}
+use Rattle.std.proofs.Common.{refl, sym, ap, subst, length}
 use Rattle.std.proofs.lemmas.Bool.{cond_both, both_ways, true≢false}
 use Rattle.markdown_options.specs.declared.line_ending.LineEnding.{LineEnding}
 use Rattle.markdown_options.specs.declared.configuration.Constructs.{Constructs}
@@ -20,7 +21,11 @@ use Rattle.definition_block.specs.ThematicBreak.{is_break}
 use Rattle.definition_block.specs.declared.align_kind.AlignKind.{AlignKind}
 use Rattle.definition_block.specs.GfmTable.{delimiter_row, is_head}
 use Rattle.definition_block.specs.Definitions.{Cut, cut_into, cut_after, cut_most, cut}
-use Rattle.definition_block.specs.Tree.{BlockLine, own_lines, Break, Blank, Blocks, Nil, Cons, join, one, block_and_ending, OpenLeaf, Text, Indented, Fenced, OpenHtml, OpenTable, Opening, Leaf, Inside, Tree, tree, nothing, paragraph_of, with_paragraph, holds, close, has_text, has_table, is_some_line, table_of, table_if, makes_table, leaf_with_line, with_line, rest_line, html_with, takes, or_heading, or_fence, or_html, begins, after, break_or_text, text_line_of, text_here, heading_of, heading_if, turns, begun, tree_or, leaf_line, beside_in, start, new, is_nothing, is_one_blank, began_blank, goes_on, grow}
+use Rattle.definition_block.specs.Tree.{BlockLine, own_lines, Break, Blank, Blocks, Nil, Cons, join, one, block_and_ending, OpenLeaf, Text, Indented, Fenced}
+use Rattle.definition_block.specs.Tree.{OpenHtml, OpenTable, Opening, Leaf, Inside, Tree, tree, nothing, paragraph_of, with_paragraph, holds, close, has_text}
+use Rattle.definition_block.specs.Tree.{has_table, is_some_line, table_of, table_if, makes_table, leaf_with_line, with_line, rest_line, html_with, takes}
+use Rattle.definition_block.specs.Tree.{or_heading, or_fence, or_html, begins, after, break_or_text, text_line_of, text_here, heading_of, heading_if, turns}
+use Rattle.definition_block.specs.Tree.{begun, tree_or, leaf_line, beside_in, start, new, is_nothing, is_one_blank, began_blank, goes_on, grow}
 
 -- the first of these blocks is there, and is no blank line
 abbrev IsDark : Blocks → Type 0
@@ -206,7 +211,8 @@ module _ (on : Constructs) where
   break_begun : (away : Opening) (rest : Rest) (beside : Beside) → IsBegun (break_or_text on away rest beside)
   break_begun away rest beside =
       cond_both (is_break on rest) _ _ IsBegun (λ _. after_begun away (tree (block_and_ending Break beside.ending) nothing) (inl tt))
-      (λ _. taken_begun (makes_table on away rest beside) _ (table_begun (delimiter_row on rest) (text_here away) (rest_line rest beside)) (text_begun away rest beside))
+      (λ _. taken_begun (makes_table on away rest beside) _ (table_begun (delimiter_row on rest) (text_here away) (rest_line rest beside))
+      (text_begun away rest beside))
 
   underlined_begun : (o : Option ℕ) (ls : List BlockLine) (ending : Option LineEnding) → SomeBegun (heading_if on o ls ending)
   underlined_begun None ls ending = tt
@@ -228,7 +234,8 @@ module _ (on : Constructs) where
       (λ _. begun_begun (begins on (has_text away) rest beside) away _ (begins_begun (has_text away) rest beside)
       (taken_begun (turns on away rest beside.ending) _ (underlined_begun (underline on rest) (text_here away) beside.ending) (break_begun away rest beside)))
 
-  start_begun : (o : Option ContainerStart) (away : Opening) (other : Tree) (more : ContainerStart → Tree) → IsBegun other → IsBegun (start on o away other more)
+  start_begun : (o : Option ContainerStart) (away : Opening) (other : Tree) (more : ContainerStart → Tree) → IsBegun other
+      → IsBegun (start on o away other more)
   start_begun None away other more q = q
   start_begun (Some s) away other more q = after_begun away (tree Nil (Inside s.container (more s).done (more s).now)) (inr (refl, tt))
 

@@ -1,5 +1,6 @@
 -- A text with `+ ` before its first line and two spaces before every other is one item.
-use Rattle.std.proofs.Common.{◌≡◌, ℕ, suc, ◌+◌, List, [], ◌∷◌, None, Some, Option, Bool, true, false, true≢false, cond, ◌&&◌, ◌||◌, not, leb, refl, sym, ap, ◌∙◌, length, drop, arith, inr, map}
+use Rattle.std.proofs.Common.{◌≡◌, ℕ, suc, ◌+◌, List, [], ◌∷◌, None, Some, Option, Bool, true, false, true≢false, cond, ◌&&◌, ◌||◌, not, leb, refl, sym, ap}
+use Rattle.std.proofs.Common.{◌∙◌, length, drop, arith, inr, map}
 use Rattle.std.specs.List.{list_all, prefix_len}
 use Rattle.std.proofs.lemmas.Bool.{and_right, le-leb}
 use Rattle.markdown_options.specs.declared.configuration.Constructs.{Constructs}
@@ -15,7 +16,8 @@ use Rattle.definition_block.specs.ListItem.{item_after, item_start, item_continu
 use Rattle.definition_block.specs.ThematicBreak.{is_break, is_break_text}
 use Rattle.definition_block.specs.GfmFootnoteDefinition.{footnote_start}
 use Rattle.definition_block.specs.Containers.{quote_or, footnote_or, starts}
-use Rattle.definition_block.specs.Tree.{Block, Blocks, Nil, Cons, join, Inside, Tree, tree, nothing, empty_tree, all_endings, front, trailing, holds, beside_in, beside_line, leaf_line, start, new, began_blank, goes_on, grow, step, steps, blocks_at_end, children, blocks}
+use Rattle.definition_block.specs.Tree.{Block, Blocks, Nil, Cons, join, Inside, Tree, tree, nothing, empty_tree, all_endings, front, trailing, holds, beside_in}
+use Rattle.definition_block.specs.Tree.{beside_line, leaf_line, start, new, began_blank, goes_on, grow, step, steps, blocks_at_end, children, blocks}
 use Rattle.definition_block.specs.Definitions.{definitions}
 use Rattle.laws_quote.proofs.Tabs.{Tabless, Tabless-from_All, codes_from-Tabless, LinesTabless, lines_tabless}
 use Rattle.laws_quote.proofs.Starting.{new-suc}

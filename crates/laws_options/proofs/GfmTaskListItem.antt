@@ -13,7 +13,8 @@ use Rattle.definition_block.specs.Tree.{blocks}
 use Rattle.definition_block.specs.Lists.{group_items}
 use Rattle.definition_page.specs.Page as page
 use Rattle.definition_page.specs.Page.{cons_ending, cons_blank}
-use Rattle.definition_page.specs.Read.{Reading, Standing, on_page, in_container, in_item, next_standing, text_content, checked_paragraph, read_paragraph, without_ending, after_code, read_block, read_blocks}
+use Rattle.definition_page.specs.Read.{Reading, Standing, on_page, in_container, in_item, next_standing, text_content, checked_paragraph, read_paragraph}
+use Rattle.definition_page.specs.Read.{without_ending, after_code, read_block, read_blocks}
 use Rattle.laws_options.specs.GfmTaskListItem.{HasNoCheck, HaveNoChecks, TaskListItemOffLaw}
 
 unchecked_rest : (bs : page.Blocks) → HaveNoChecks bs → HaveNoChecks (without_ending bs)

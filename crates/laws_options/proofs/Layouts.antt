@@ -75,7 +75,8 @@ module _ (options : CompileOptions) (default : List ℕ) where
   no_section : (ps : List Piece) → AreUncalled ps → page_layout options default ps ≡ (fold (lay options default) (laid [] [] [] []) ps).text
   no_section ps are =
       let l = fold (lay options default) (laid [] [] [] []) ps in
-      ap (λ (called : List NoteCalls). fold (print default) l.text (section_pieces options (map (note_of l.notes) called))) (none_called (laid [] [] [] []) ps are)
+      ap (λ (called : List NoteCalls). fold (print default) l.text (section_pieces options (map (note_of l.notes) called)))
+      (none_called (laid [] [] [] []) ps are)
 
 -- such pages are laid out the same by any options
 pub uncalled_layout : (one another : CompileOptions) (default : List ℕ) (ps : List Piece) → AreUncalled ps

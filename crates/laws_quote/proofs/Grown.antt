@@ -13,7 +13,8 @@ use Rattle.definition_block.specs.ListItem.{item_start}
 use Rattle.definition_block.specs.GfmFootnoteDefinition.{footnote_start}
 use Rattle.definition_block.specs.Containers.{quote_or, footnote_or}
 use Rattle.definition_block.specs.Definitions.{cut_into, cut_most}
-use Rattle.definition_block.specs.Tree.{beside_in, beside_line, Nil, join, Inside, Tree, tree, nothing, empty_tree, with_paragraph, after, leaf_line, start, new, goes_on, grow, step, steps}
+use Rattle.definition_block.specs.Tree.{beside_in, beside_line, Nil, join, Inside, Tree, tree, nothing, empty_tree, with_paragraph, after, leaf_line, start}
+use Rattle.definition_block.specs.Tree.{new, goes_on, grow, step, steps}
 use Rattle.laws_quote.specs.Laws.{quoted_line}
 use Rattle.laws_quote.proofs.Tabs.{Tabless, codes_from-Tabless, LinesTabless}
 use Rattle.laws_quote.proofs.Starting.{new-suc}
@@ -69,7 +70,8 @@ module _ (on : Constructs) (quotes : on.block_quote ≡ true) where
   new-quoted before most codes line =
       let rest = 62 ∷ 32 ∷ codes in
       let beside = beside_line before line in
-      ap (λ o. start on (quote_or (footnote_or (item_start on false rest) (footnote_start on rest)) o) nothing (leaf_line on nothing rest beside) (λ s. new most on true nothing (beside_in s.container rest beside) s.rest))
+      ap (λ o. start on (quote_or (footnote_or (item_start on false rest) (footnote_start on rest)) o) nothing (leaf_line on nothing rest beside)
+      (λ s. new most on true nothing (beside_in s.container rest beside) s.rest))
       (quote_prefix-quoted on codes quotes)
       ∙ after-nothing on (in_quote (new most on true nothing (beside_line Whitespace line) codes))
 

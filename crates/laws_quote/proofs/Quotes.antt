@@ -52,7 +52,8 @@ module _ (on : Constructs) (quotes : on.block_quote ≡ true) (off : on.frontmat
 
   -- the same with `> ` n times
   text_quotes : (n b : ℕ) (bs : List ℕ) → Tabless (b ∷ bs)
-      → let kids = blocks on Whitespace (b ∷ bs) in blocks on Whitespace (iterate quote_lines n (b ∷ bs)) ≡ join (iterate quote_of n (without_last kids)) (last_of kids)
+      → let kids = blocks on Whitespace (b ∷ bs) in
+      blocks on Whitespace (iterate quote_lines n (b ∷ bs)) ≡ join (iterate quote_of n (without_last kids)) (last_of kids)
   text_quotes zero b bs no_tab = sym (join-without_last (blocks on Whitespace (b ∷ bs)))
   text_quotes (suc n) b bs no_tab =
       let kids = blocks on Whitespace (b ∷ bs) in
@@ -63,7 +64,8 @@ module _ (on : Constructs) (quotes : on.block_quote ≡ true) (off : on.frontmat
       ∙ ap (λ last. join (iterate quote_of n (quote_of (without_last kids))) last) (last_of-quote (without_last kids) kids)
 
   -- the definitions, also those of the empty text, which has none
-  text_definitions : (before : Kind) (text : List ℕ) → Tabless text → definitions (blocks on before (quote_lines text)) ≡ definitions (blocks on Whitespace text)
+  text_definitions : (before : Kind) (text : List ℕ) → Tabless text → definitions (blocks on before (quote_lines text))
+      ≡ definitions (blocks on Whitespace text)
   text_definitions before [] no_tab = refl
   text_definitions before (b ∷ bs) no_tab = ap definitions (text_quote before b bs no_tab) ∙ definitions-holds (blocks on Whitespace (b ∷ bs))
 

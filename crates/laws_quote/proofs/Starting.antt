@@ -1,5 +1,6 @@
 -- Containers that start on a line: a start makes the rest shorter, so as many as the rest has codes are enough.
-use Rattle.std.proofs.Common.{◌≡◌, ℕ, zero, suc, ◌+◌, ◌≤◌, ◌<◌, Bool, true, false, ◌&&◌, ◌||◌, not, eqb, leb, [], ◌∷◌, Option, None, Some, refl, ap, length, drop, take, arith}
+use Rattle.std.proofs.Common.{◌≡◌, ℕ, zero, suc, ◌+◌, ◌≤◌, ◌<◌, Bool, true, false, ◌&&◌, ◌||◌, not, eqb, leb, [], ◌∷◌, Option, None, Some, refl, ap, length}
+use Rattle.std.proofs.Common.{drop, take, arith}
 use Rattle.std.specs.Prelude.{IfSome, min}
 use Rattle.std.specs.List.{prefix_len}
 use Rattle.std.proofs.lemmas.Bool.{cond_both}
@@ -11,7 +12,8 @@ use Rattle.definition_text.specs.Indents.{small_indent}
 use Rattle.definition_block.specs.ContainerStart.{ContainerStart}
 use Rattle.definition_block.specs.ThematicBreak.{is_break}
 use Rattle.definition_block.specs.BlockQuote.{after_byte, after_mark, quote_prefix}
-use Rattle.definition_block.specs.ListItem.{Marker, marker_of, is_digit, number_of, bullet, delimiter, ordered_marker, marker, gap, is_item, item, item_after, item_start}
+use Rattle.definition_block.specs.ListItem.{Marker, marker_of, is_digit, number_of, bullet, delimiter, ordered_marker, marker, gap, is_item, item, item_after}
+use Rattle.definition_block.specs.ListItem.{item_start}
 use Rattle.definition_block.specs.GfmFootnoteDefinition.{footnote_start}
 use Rattle.definition_block.specs.Containers.{quote_or, footnote_or, starts}
 use Rattle.definition_block.proofs.GfmFootnoteDefinition.{FineAfter, footnote_fine, footnote_either}

@@ -58,7 +58,8 @@ lines_tabless (b ∷ bs) p =
     let q = lines_tabless bs p.1 in
     cond_both (eqb b 10) (text_line [] (Some LineFeed) ∷ ls) (cond (eqb b 13) (after_return bs ls) (in_first_line b ls)) LinesTabless
     (λ _. (tt, q))
-    (λ _. cond_both (eqb b 13) (after_return bs ls) (in_first_line b ls) LinesTabless (λ _. after_return_tabless bs ls q) (λ _. in_first_line_tabless b ls p.0 q))
+    (λ _. cond_both (eqb b 13) (after_return bs ls) (in_first_line b ls) LinesTabless (λ _. after_return_tabless bs ls q)
+    (λ _. in_first_line_tabless b ls p.0 q))
 
 -- ---- such a text with `> ` before every line has no tab either
 

@@ -160,7 +160,8 @@ html_unmarked tables text options unmarked off =
     (pieces tables options (read_after (if mark then Other else Whitespace) tables options.parse bytes)))
     unmarked
     ∙ ap (λ labels.
-    page_layout options.compile (ending_bytes default) (pieces tables options (page_with tables options.parse (targets (document_definitions kids) labels) kids)))
+    page_layout options.compile (ending_bytes default) (pieces tables options
+    (page_with tables options.parse (targets (document_definitions kids) labels) kids)))
     (no_labels kids none)
     ∙ laid_out tables options default (document_definitions kids) kids none
 

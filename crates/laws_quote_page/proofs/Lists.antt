@@ -3,7 +3,8 @@ use Rattle.std.proofs.Common.{◌≡◌, ℕ, Bool, true, false, cond, eqb, inl,
 use Rattle.std.specs.Prelude.{◌⊎◌}
 use Rattle.std.proofs.lemmas.Bool.{cond-true, cond-false, cases_Bool, ne_eqb, eqb-false, false≢true}
 use Rattle.definition_block.specs.Tree.{Block, Items, Ending, Blank, Blocks, Nil, Cons, join, one, is_ending}
-use Rattle.definition_block.specs.Lists.{endings_of, after_endings, item_marker, list_marker, list_items, rest_of, before_list, before, grouped_block, group_items}
+use Rattle.definition_block.specs.Lists.{endings_of, after_endings, item_marker, list_marker, list_items, rest_of, before_list, before, grouped_block}
+use Rattle.definition_block.specs.Lists.{group_items}
 
 -- ---- what children begin with
 

@@ -7,7 +7,8 @@ use Rattle.markdown_options.specs.declared.configuration.Constructs.{Constructs}
 use Rattle.markdown_options.specs.declared.line_ending.LineEnding.{LineEnding}
 use Rattle.definition_text.specs.BlockLines.{BlockLine}
 use Rattle.definition_text.specs.declared.beside.Kind.{Kind}
-use Rattle.definition_inline.specs.Inline.{Inline, Data, Escape, Character, Code, Math, Autolink, Literal, Html, EscapedBreak, TrailingBreak, LineEnd, Emphasis, Strong, Strikethrough, Link, Image, Call, Inlines, Nil, Cons}
+use Rattle.definition_inline.specs.Inline.{Inline, Data, Escape, Character, Code, Math, Autolink, Literal, Html, EscapedBreak, TrailingBreak, LineEnd, Emphasis}
+use Rattle.definition_inline.specs.Inline.{Strong, Strikethrough, Link, Image, Call, Inlines, Nil, Cons}
 use Rattle.definition_text.specs.InlineCode.{InlineCode, codes_of}
 use Rattle.definition_inline.specs.GfmTaskListItem.{check_at}
 use Rattle.definition_inline.specs.Scan.{without_indent}
@@ -16,16 +17,20 @@ use Rattle.definition_block.specs.Container.{Quote, Item, Footnote}
 use Rattle.definition_block.specs.Blocks as tree
 use Rattle.definition_block.specs.Tree.{is_ending, one, blocks}
 use Rattle.definition_block.specs.Definitions.{block_footnotes, footnotes}
-use Rattle.definition_block.specs.Lists.{endings_of, after_endings, list_items, list_marker, rest_of, item_marker, before_list, before, grouped_block, group_items}
+use Rattle.definition_block.specs.Lists.{endings_of, after_endings, list_items, list_marker, rest_of, item_marker, before_list, before, grouped_block}
+use Rattle.definition_block.specs.Lists.{group_items}
 use Rattle.definition_block.specs.declared.align_kind.AlignKind.{AlignKind}
 use Rattle.definition_page.specs.Tags.{Said, tag, bare_tag}
 use Rattle.definition_page.specs.Pieces.{Piece, Close, Eol, Fresh}
 use Rattle.definition_page.specs.InlinePieces.{Meaning, html_says, call_at, count_at, part_counts, inline_counts, element, part_pieces, inline_pieces}
-use Rattle.definition_page.specs.GfmTable.{Table, TableRow, cell_pieces, cells_pieces, row_pieces, ending_piece, body_row_pieces, head_pieces, body_pieces, table_pieces}
+use Rattle.definition_page.specs.GfmTable.{Table, TableRow, cell_pieces, cells_pieces, row_pieces, ending_piece, body_row_pieces, head_pieces, body_pieces}
+use Rattle.definition_page.specs.GfmTable.{table_pieces}
 use Rattle.definition_page.specs.Page as page
 use Rattle.definition_page.specs.Page.{Page, cons_ending, cons_blank}
-use Rattle.definition_page.specs.BlockPieces.{Place, at_top, inside, check_pieces, code_line, html_line, says, info_attributes, is_silent, last_visible, ends_plainly, fresh_unless, fenced_pieces, block_pieces, children_pieces}
-use Rattle.definition_page.specs.Read.{Reading, text_content, checked_paragraph, read_paragraph, Standing, on_page, in_container, in_item, next_standing, without_ending, read_block, read_blocks}
+use Rattle.definition_page.specs.BlockPieces.{Place, at_top, inside, check_pieces, code_line, html_line, says, info_attributes, is_silent, last_visible}
+use Rattle.definition_page.specs.BlockPieces.{ends_plainly, fresh_unless, fenced_pieces, block_pieces, children_pieces}
+use Rattle.definition_page.specs.Read.{Reading, text_content, checked_paragraph, read_paragraph, Standing, on_page, in_container, in_item, next_standing}
+use Rattle.definition_page.specs.Read.{without_ending, read_block, read_blocks}
 use Rattle.definition_page.proofs.PlainLayout.{ArePlain}
 use Rattle.laws_block.proofs.Occurs.{BlockMayStand, MayStand, may_stand}
 
@@ -340,7 +345,8 @@ module _ (m : Meaning) (none : m.footnotes ≡ []) where
         let end = fresh_unless (ends_plainly place.tight (last_visible None kids)) in (
           tt,
           plain-element _ (inner ++ end)
-              (plain-append inner end (children_plain (inside place.tight) None kids p) (plain-fresh_unless (ends_plainly place.tight (last_visible None kids)))),
+              (plain-append inner end (children_plain (inside place.tight) None kids p)
+              (plain-fresh_unless (ends_plainly place.tight (last_visible None kids)))),
         )
     block_plain place before (page.Footnote label kids) p = absurd p
     block_plain place before (page.Ending ending) p =
@@ -350,7 +356,8 @@ module _ (m : Meaning) (none : m.footnotes ≡ []) where
     children_plain : (place : Place) (before : Option page.Block) (bs : page.Blocks) → ReadNoNotes bs → ArePlain (children_pieces m place before bs)
     children_plain place before page.Nil p = tt
     children_plain place before (page.Cons b bs) p =
-        plain-append (block_pieces m place before b) (children_pieces m place (Some b) bs) (block_plain place before b p.0) (children_plain place (Some b) bs p.1)
+        plain-append (block_pieces m place before b) (children_pieces m place (Some b) bs) (block_plain place before b p.0)
+        (children_plain place (Some b) bs p.1)
 
   -- the page of such blocks has no piece that footnotes need
   pub document_plain : (r : Reading) (bs : tree.Blocks) (said : Bool) → HaveNoNotes bs

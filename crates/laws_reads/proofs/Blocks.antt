@@ -27,7 +27,13 @@ use Rattle.definition_block.specs.ThematicBreak.{is_break}
 use Rattle.definition_block.specs.declared.align_kind.AlignKind.{AlignKind}
 use Rattle.definition_block.specs.GfmTable.{delimiter_row, is_head}
 use Rattle.definition_block.specs.Definitions.{lines_before, Cut, cut_into, definition_lines, cut_after, cut_most, cut}
-use Rattle.definition_block.specs.Tree.{Block, Paragraph, Heading, Break, IndentedCode, FencedCode, Html, Table, Definition, Holds, Items, Ending, Blank, Blocks, Nil, Cons, join, one, block_and_ending, OpenLeaf, Text, Indented, Fenced, OpenHtml, OpenTable, Opening, Leaf, Inside, Tree as BlockTree, tree, nothing, empty_tree, blanks, paragraph_of, close_leaf, is_ending, all_endings, front, trailing, without_last, last_of, holds, close, leaf_text, has_text, has_table, is_some_line, table_of, table_if, makes_table, leaf_with_line, with_line, rest_line, html_with, takes, or_heading, or_fence, or_html, begins, after, break_or_text, text_line_of, text_here, heading_of, heading_if, turns, begun, tree_or, leaf_line, beside_in, start, new, began_blank, goes_on, grow, beside_line, step, steps, children, children_after, blocks}
+use Rattle.definition_block.specs.Tree.{Block, Paragraph, Heading, Break, IndentedCode, FencedCode, Html, Table, Definition, Holds, Items, Ending, Blank}
+use Rattle.definition_block.specs.Tree.{Blocks, Nil, Cons, join, one, block_and_ending, OpenLeaf, Text, Indented, Fenced, OpenHtml, OpenTable, Opening, Leaf}
+use Rattle.definition_block.specs.Tree.{Inside, Tree as BlockTree, tree, nothing, empty_tree, blanks, paragraph_of, close_leaf, is_ending, all_endings, front}
+use Rattle.definition_block.specs.Tree.{trailing, without_last, last_of, holds, close, leaf_text, has_text, has_table, is_some_line, table_of, table_if}
+use Rattle.definition_block.specs.Tree.{makes_table, leaf_with_line, with_line, rest_line, html_with, takes, or_heading, or_fence, or_html, begins, after}
+use Rattle.definition_block.specs.Tree.{break_or_text, text_line_of, text_here, heading_of, heading_if, turns, begun, tree_or, leaf_line, beside_in, start, new}
+use Rattle.definition_block.specs.Tree.{began_blank, goes_on, grow, beside_line, step, steps, children, children_after, blocks}
 use Rattle.std.specs.Prelude.{IfSome}
 use Rattle.definition_text.specs.BlockLines.{block_line}
 use Rattle.laws_each.proofs.Each.{Each, each-append, each-take, each-drop, WhereSome}
@@ -214,7 +220,8 @@ module _ (good : Property) where
     html_with_good kind ls rest beside p q f =
         let more = ls ++ rest_line rest beside ∷ [] in
         let h = more_good ls rest beside p q f in
-        cond_both (html_ends_here kind rest) (tree (block_and_ending (Html (own_lines more)) beside.ending) nothing) (tree Nil (Leaf (OpenHtml kind more))) TreeGood
+        cond_both (html_ends_here kind rest) (tree (block_and_ending (Html (own_lines more)) beside.ending) nothing)
+        (tree Nil (Leaf (OpenHtml kind more))) TreeGood
         (λ _. ((own_good reads.unended more h, (f, tt)), tt)) (λ _. (tt, h))
 
     or_heading_good : (ending : Option LineEnding) (o : Option Atx) → EndGood ending → AtxGood o → SomeGood (or_heading ending o)

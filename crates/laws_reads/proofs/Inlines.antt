@@ -1,14 +1,20 @@
 -- If each part that is read of a content is good, all its inline structure is.
-use Rattle.std.proofs.Common.{◌≡◌, ℕ, suc, zero, ◌+◌, ◌-◌, false, ◌==◌, List, [], ◌∷◌, ◌++◌, map, reverse, replicate, filter, fold, Option, None, Some, drop, refl}
+use Rattle.std.proofs.Common.{◌≡◌, ℕ, suc, zero, ◌+◌, ◌-◌, false, ◌==◌, List, [], ◌∷◌, ◌++◌, map, reverse, replicate, filter, fold, Option, None, Some, drop}
+use Rattle.std.proofs.Common.{refl}
 use Rattle.std.proofs.lemmas.Bool.{cond_both}
 use Rattle.definition_text.specs.Content.{before}
 use Rattle.definition_text.specs.InlineCode.{InlineCode, codes_of}
-use Rattle.definition_inline.specs.Inline.{Target, Inline, Data, Call, Emphasis, Strong, Strikethrough, Link, Image, Inlines, Nil, Cons, followed_by, Leaf, or_else}
+use Rattle.definition_inline.specs.Inline.{Target, Inline, Data, Call, Emphasis, Strong, Strikethrough, Link, Image, Inlines, Nil, Cons, followed_by, Leaf}
+use Rattle.definition_inline.specs.Inline.{or_else}
 use Rattle.definition_inline.specs.LabelEnd.{LinkOrCall, Leads, Calls}
 use Rattle.definition_inline.specs.Attention.{Run, run_at}
 use Rattle.definition_inline.specs.Pairing.{Pair, pairs}
-use Rattle.definition_inline.specs.Spans.{Token, Item, Delimiters, runs_of, Span, IsEmphasis, IsStrong, IsStrikethrough, span_of, SpanRow, Holds, Opens, Closes, bytes_taken, run_rows, rows_from, OpenSpan, Nest, nest, span_part, leave, nest_row, with_spans}
-use Rattle.definition_inline.specs.Scan.{InlineContext, leaf_here, LabelStart, LinkStart, ImageStart, label_start_at, start_tokens, may_form, label_part, formed_part, formed_at, Text, text, OpenLabel, Reading, reading, read_tokens, with_plain_start, with_link_or_call, Step, Next, data_step, ended_step, ended_by, label_end_step, last_step, label_step, run_step, leaf_step, step, and_then, scan, whole_text, spans_from}
+use Rattle.definition_inline.specs.Spans.{Token, Item, Delimiters, runs_of, Span, IsEmphasis, IsStrong, IsStrikethrough, span_of, SpanRow, Holds, Opens, Closes}
+use Rattle.definition_inline.specs.Spans.{bytes_taken, run_rows, rows_from, OpenSpan, Nest, nest, span_part, leave, nest_row, with_spans}
+use Rattle.definition_inline.specs.Scan.{InlineContext, leaf_here, LabelStart, LinkStart, ImageStart, label_start_at, start_tokens, may_form, label_part}
+use Rattle.definition_inline.specs.Scan.{formed_part, formed_at, Text, text, OpenLabel, Reading, reading, read_tokens, with_plain_start, with_link_or_call}
+use Rattle.definition_inline.specs.Scan.{Step, Next, data_step, ended_step, ended_by, label_end_step, last_step, label_step, run_step, leaf_step, step}
+use Rattle.definition_inline.specs.Scan.{and_then, scan, whole_text, spans_from}
 use Rattle.laws_each.proofs.Each.{Each, each-append, each_map, each_mapped, each_same, WhereSome}
 
 module _ (Good : Inline → Type 0) where
@@ -166,7 +172,8 @@ module _ (Good : Inline → Type 0) (AllGood : Inlines → Type 0) (Leading : Ta
         let start = start_tokens label.start in
         each-append TokenIs label.outer.tokens (start ++ inner.tokens) h (each-append TokenIs start inner.tokens (start_good label.start) p)
 
-    part_good : (start : LabelStart) (found : LinkOrCall) (tokens : List Token) → FormedIs Leading found → Each TokenIs tokens → Good (formed_part start found tokens)
+    part_good : (start : LabelStart) (found : LinkOrCall) (tokens : List Token) → FormedIs Leading found → Each TokenIs tokens
+        → Good (formed_part start found tokens)
     part_good start (Leads end) tokens h p = label_good start end.target (with_spans tokens) h (emphasized_good Good AllGood reads.nests tokens p)
     part_good start (Calls label) tokens h p = reads.call label
 

@@ -57,7 +57,8 @@ module _ (m : Meaning) (safe : AreSafe m.compile) where
   image_with url description title =
       tag (codes "img") (attribute (codes "src") (image_url m.compile url) ∷ record { name = codes "alt"; value = description } ∷ title)
 
-  image_titled : (url title : List ℕ) (description : List Said) → AreTextParts description → IsTag void_rows (image_with url description (title_attributes title))
+  image_titled : (url title : List ℕ) (description : List Said) → AreTextParts description
+      → IsTag void_rows (image_with url description (title_attributes title))
   unfolding void_rows
   image_titled url [] description h =
       ((words_text (image_url m.compile url), (value_spelled description h, tt)), ap (λ x. x && true) (image_permitted url))

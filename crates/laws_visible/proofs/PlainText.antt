@@ -1,5 +1,6 @@
 -- The text of lines where every construct is off: the lines without the spaces and tabs at their ends, encoded.
-use Rattle.std.proofs.Common.{◌≡◌, ℕ, ◌+◌, ◌-◌, ◌<◌, suc, zero, List, [], ◌∷◌, ◌++◌, Option, None, Some, Bool, true, false, cond, ◌&&◌, eqb, leb, inl, inr, refl, sym, ap, ◌∙◌, subst, append_assoc, arith, take, drop, length, map}
+use Rattle.std.proofs.Common.{◌≡◌, ℕ, ◌+◌, ◌-◌, ◌<◌, suc, zero, List, [], ◌∷◌, ◌++◌, Option, None, Some, Bool, true, false, cond, ◌&&◌, eqb, leb, inl, inr}
+use Rattle.std.proofs.Common.{refl, sym, ap, ◌∙◌, subst, append_assoc, arith, take, drop, length, map}
 use Rattle.std.specs.Prelude.{reverse}
 use Rattle.std.specs.List.{flat_map, fold, list_any, prefix_len, suffix_len}
 use Rattle.std.proofs.Math.Seq.{drop-append_seam}
@@ -24,7 +25,8 @@ use Rattle.definition_text.specs.InlineCode.{InlineCode, codes_of, next_kind, wi
 use Rattle.definition_inline.specs.Inline.{Inline, Data, LineEnd, Inlines, Leaf, leaf, or_else}
 use Rattle.definition_inline.specs.HardBreak.{ends_here, line_end_at, line_spaces_at}
 use Rattle.definition_inline.specs.Spans.{Item, with_spans}
-use Rattle.definition_inline.specs.Scan.{InlineContext, leaf_at, leaf_here, text, Reading, reading, read_tokens, Next, leaf_step, step, and_then, scan, whole_text, inlines}
+use Rattle.definition_inline.specs.Scan.{InlineContext, leaf_at, leaf_here, text, Reading, reading, read_tokens, Next, leaf_step, step, and_then, scan}
+use Rattle.definition_inline.specs.Scan.{whole_text, inlines}
 use Rattle.definition_inline.specs.Strings.{or_byte}
 use Rattle.html_bytes.specs.InlineHtml.{InlineMeaning, part_html, inline_html, inline_pieces}
 use Rattle.html_bytes.specs.Layout.{lay}
@@ -405,9 +407,11 @@ module _ (meaning : InlineMeaning) where
 
 -- ---- the codes of lines
 
-kinds_codes : (is_punctuation : ℕ → Bool) (previous : Option ℕ) (before after : Kind) (cs : List ℕ) → codes_of (with_kinds is_punctuation previous before after cs) ≡ cs
+kinds_codes : (is_punctuation : ℕ → Bool) (previous : Option ℕ) (before after : Kind) (cs : List ℕ)
+    → codes_of (with_kinds is_punctuation previous before after cs) ≡ cs
 kinds_codes is_punctuation previous before after [] = refl
-kinds_codes is_punctuation previous before after (c ∷ cs) = ap (λ x. c ∷ x) (kinds_codes is_punctuation (Some c) (next_kind is_punctuation before (c ∷ cs)) after cs)
+kinds_codes is_punctuation previous before after (c ∷ cs) =
+    ap (λ x. c ∷ x) (kinds_codes is_punctuation (Some c) (next_kind is_punctuation before (c ∷ cs)) after cs)
 
 same_bytes : (bs : List ℕ) → AreInLine bs → map code_byte bs ≡ bs
 same_bytes [] line = refl
@@ -427,7 +431,8 @@ same_codes line h =
     ∙ ap (λ x. x ++ map code_byte (ending_code line.ending)) (same_bytes line.codes h)
     ∙ ap (λ x. line.codes ++ x) (same_ending line.ending)
 
-pub content_codes : (is_punctuation : ℕ → Bool) (after : Kind) (ls : List BlockLine) → AreText ls → codes_of (inline_content is_punctuation after ls) ≡ content_of ls
+pub content_codes : (is_punctuation : ℕ → Bool) (after : Kind) (ls : List BlockLine) → AreText ls
+    → codes_of (inline_content is_punctuation after ls) ≡ content_of ls
 content_codes is_punctuation after [] h = refl
 content_codes is_punctuation after (line ∷ others) h =
     map-append (λ (c : InlineCode). c.code) (line_content is_punctuation after line) (inline_content is_punctuation after others)

@@ -1,5 +1,6 @@
 -- What a page shows outside of tags and line endings.
-use Rattle.std.proofs.Common.{◌≡◌, ℕ, ◌+◌, ◌-◌, ◌<◌, suc, zero, List, [], ◌∷◌, ◌++◌, Option, None, Some, Bool, true, false, cond, ◌||◌, not, eqb, inl, inr, refl, sym, ap, ◌∙◌, subst, append_assoc, take, drop, length, get_or, arith}
+use Rattle.std.proofs.Common.{◌≡◌, ℕ, ◌+◌, ◌-◌, ◌<◌, suc, zero, List, [], ◌∷◌, ◌++◌, Option, None, Some, Bool, true, false, cond, ◌||◌, not, eqb, inl, inr}
+use Rattle.std.proofs.Common.{refl, sym, ap, ◌∙◌, subst, append_assoc, take, drop, length, get_or, arith}
 use Rattle.std.specs.Prelude.{replicate, codes}
 use Rattle.std.specs.List.{All, fold, filter, flat_map, prefix_len, suffix_len}
 use Rattle.std.proofs.lemmas.Bool.{cases_Bool, cond-true, cond-false, cond_both, or_from, ne_eqb, eqb-true}
@@ -15,11 +16,14 @@ use Rattle.markdown_options.specs.Defaults.{no_constructs}
 use Rattle.definition_text.specs.declared.beside.Beside.{Beside}
 use Rattle.definition_text.specs.declared.beside.Kind.{Kind}
 use Rattle.definition_text.specs.declared.beside.Kind.TheVariants.{Whitespace}
-use Rattle.definition_text.specs.Lines.{TextLine, text_line, in_first_line, after_return, lines, ends_line, ending_text, has_mark, without_mark, kind_before_text}
-use Rattle.definition_text.specs.Columns.{Rest, codes_from, whole, is_white, is_blank, is_byte, is_tab_column, bytes_of, block_codes, trim, tab_column, columns_after_tab}
+use Rattle.definition_text.specs.Lines.{TextLine, text_line, in_first_line, after_return, lines, ends_line, ending_text, has_mark, without_mark}
+use Rattle.definition_text.specs.Lines.{kind_before_text}
+use Rattle.definition_text.specs.Columns.{Rest, codes_from, whole, is_white, is_blank, is_byte, is_tab_column, bytes_of, block_codes, trim, tab_column}
+use Rattle.definition_text.specs.Columns.{columns_after_tab}
 use Rattle.definition_text.specs.Encode.{replacement_character, encoded_byte, encode}
 use Rattle.definition_text.specs.BlockLines.{BlockLine, own_lines}
-use Rattle.definition_block.specs.Tree.{beside_line, Block, Paragraph, Ending, Blank, Blocks, Nil, Cons, join, one, Text, Opening, Leaf, Tree, tree, empty_tree, close_leaf, close, rest_line, grow, step, steps, blocks_at_end, children_after, blocks}
+use Rattle.definition_block.specs.Tree.{beside_line, Block, Paragraph, Ending, Blank, Blocks, Nil, Cons, join, one, Text, Opening, Leaf, Tree, tree, empty_tree}
+use Rattle.definition_block.specs.Tree.{close_leaf, close, rest_line, grow, step, steps, blocks_at_end, children_after, blocks}
 use Rattle.definition_block.specs.Frontmatter.{after_frontmatter}
 use Rattle.definition_block.specs.Lists.{before, grouped_block, group_items}
 use Rattle.definition_page.specs.Pieces.{is_fresh}
@@ -451,7 +455,8 @@ grow_says before e now line p q =
     let rest = whole line.content in
     let new = all_said_by (line ∷ []) in
     at_paragraph (Some e) (λ o. TreeSays line.ending (grow no_constructs (beside_line before line) o rest) (said_in_open o ++ new)) now p
-    (λ ls r. subst (λ t. TreeSays line.ending t (said_in_lines ls ++ new)) (sym (plain_grow ls rest (beside_line before line))) (plain_says before e ls line r q))
+    (λ ls r. subst (λ t. TreeSays line.ending t (said_in_lines ls ++ new)) (sym (plain_grow ls rest (beside_line before line)))
+    (plain_says before e ls line r q))
 
 step_says : (before : Kind) (e : LineEnding) (t : Tree) (said : List ℕ) (line : TextLine) → TreeSays (Some e) t said → AreInLine line.content
     → TreeSays line.ending (step no_constructs before t line) (said ++ all_said_by (line ∷ []))
@@ -487,7 +492,8 @@ steps_say before e (line ∷ next ∷ others) t said p q =
     let here : TreeSays (Some q.1.0) more (said ++ new) = subst (λ o. TreeSays o more (said ++ new)) q.1.1 (step_says before e t said line p q.0) in
     let all = steps_say Whitespace q.1.0 (next ∷ others) more (said ++ new) here q.2 in (
       all.0,
-      subst (TreeSays all.0 (steps no_constructs Whitespace more (next ∷ others))) (append_assoc said new (all_said_by (next ∷ others)) ∙ ap (λ s. said ++ s) (sym (said-cons line (next ∷ others)))) all.1,
+      subst (TreeSays all.0 (steps no_constructs Whitespace more (next ∷ others)))
+          (append_assoc said new (all_said_by (next ∷ others)) ∙ ap (λ s. said ++ s) (sym (said-cons line (next ∷ others)))) all.1,
     )
 
 -- ---- the page
@@ -528,7 +534,8 @@ document_shows d off options default bs nothing_shown p =
 shows_alone : (x t : List ℕ) → Shows x t → visible false x ≡ t
 shows_alone x t p = ap (visible false) (sym (append-nil x)) ∙ p [] ∙ append-nil t
 
-page_shows : (tables : TextTables) (options : Options) (before : Kind) (text : List ℕ) (ending : LineEnding) → options.parse.constructs ≡ no_constructs → AreTextLines (lines text)
+page_shows : (tables : TextTables) (options : Options) (before : Kind) (text : List ℕ) (ending : LineEnding) → options.parse.constructs ≡ no_constructs
+    → AreTextLines (lines text)
     → visible false (blocks_html tables options ending (blocks no_constructs before text)) ≡ all_said_by (lines text)
 page_shows tables options before text ending off p =
     let t = steps no_constructs before empty_tree (lines text) in
@@ -542,7 +549,8 @@ page_shows tables options before text ending off p =
     (document_shows d off options.compile (ending_bytes ending) bs (shows_ending ending) (text_at_end all.0 t said all.1))
     ∙ said_at_end all.0 t said all.1
 
-marked_page_shows : (tables : TextTables) (before : Kind) (text : List ℕ) (options : Options) → AreTextLines (lines text) → options.parse.constructs ≡ no_constructs
+marked_page_shows : (tables : TextTables) (before : Kind) (text : List ℕ) (options : Options) → AreTextLines (lines text)
+    → options.parse.constructs ≡ no_constructs
     → visible false (marked_html tables before text options) ≡ all_said_by (lines text)
 marked_page_shows tables before text options p off =
     let ending = default_ending options text in
@@ -560,4 +568,5 @@ unmarked_bytes text h = cond_both (has_mark text) (drop 3 text) text (All (λ by
 pub visible_law : VisibleLaw
 visible_law tables text options bytes off =
     ap (visible false) (html_is tables text options)
-    ∙ marked_page_shows tables (kind_before_text text) (without_mark text) options (lines_of_text (without_mark text) (λ k lt. unmarked_bytes text bytes k 0 lt)) off
+    ∙ marked_page_shows tables (kind_before_text text) (without_mark text) options
+    (lines_of_text (without_mark text) (λ k lt. unmarked_bytes text bytes k 0 lt)) off

@@ -1,5 +1,7 @@
 -- Links of child events lead to where those events stand.
-use Rattle.std.proofs.Common.{◌≡◌, ◌∙◌, ℕ, ◌+◌, ◌-◌, ◌*◌, ◌<◌, ◌≤◌, zero, suc, Bool, true, false, ◌==◌, nat_lt, if◌then◌else◌, List, [], ◌∷◌, ◌++◌, map, take, drop, length, slice_get, Option, Some, None, option_map, min, refl, sym, ap, subst, arith, append_assoc, append-nil, length-append, length-take, length-drop, inl, inr}
+use Rattle.std.proofs.Common.{◌≡◌, ◌∙◌, ℕ, ◌+◌, ◌-◌, ◌*◌, ◌<◌, ◌≤◌, zero, suc, Bool, true, false, ◌==◌, nat_lt, if◌then◌else◌, List, [], ◌∷◌, ◌++◌, map, take}
+use Rattle.std.proofs.Common.{drop, length, slice_get, Option, Some, None, option_map, min, refl, sym, ap, subst, arith, append_assoc, append-nil}
+use Rattle.std.proofs.Common.{length-append, length-take, length-drop, inl, inr}
 use Rattle.std.proofs.lemmas.Bool.{cases_lt}
 use Rattle.std.proofs.lemmas.Bool.Decides.{nat_tests}
 use Rattle.std.proofs.lemmas.List.{length-map}
@@ -51,7 +53,8 @@ length-rising first (suc n) = let h = length-rising (first + 1) n in omega arith
 rising_at : (first n j : ℕ) → j < n → slice_get (rising first n) j ≡ Some (Some (first + j))
 rising_at first zero j h = absurd (omega arith)
 rising_at first (suc n) zero h = let e : first ≡ first + zero = omega arith in ap (λ (z : ℕ). Some (Some z)) e
-rising_at first (suc n) (suc j) h = let e : first + 1 + j ≡ first + suc j = omega arith in rising_at (first + 1) n j (omega arith) ∙ ap (λ (z : ℕ). Some (Some z)) e
+rising_at first (suc n) (suc j) h = let e : first + 1 + j ≡ first + suc j = omega arith in
+    rising_at (first + 1) n j (omega arith) ∙ ap (λ (z : ℕ). Some (Some z)) e
 
 -- a part is no longer than the events that it is taken of
 size_fits : (exit : Option Event) (children : List Event) → size_to exit children ≤ length children
@@ -97,7 +100,8 @@ none_there at from (e ∷ es) end h l =
     let low = chunks_room (e.at + 2) es end h.2 in
     rw (later_place at e.at (omega arith)) (none_there at (e.at + 2) es end h.2 l)
 
-new_last : (at from : ℕ) (part : List Event) (edits : List Placed) (end : ℕ) → AreChunks from edits end → end ≤ at → with_new at 2 part edits ≡ edits ++ placed at 2 part ∷ []
+new_last : (at from : ℕ) (part : List Event) (edits : List Placed) (end : ℕ) → AreChunks from edits end → end ≤ at
+    → with_new at 2 part edits ≡ edits ++ placed at 2 part ∷ []
 new_last at from part [] end h l = refl
 new_last at from part (e ∷ es) end h l =
     let low = chunks_room (e.at + 2) es end h.2 in
@@ -105,11 +109,14 @@ new_last at from part (e ∷ es) end h l =
     ∙ ap (λ (z : List Placed). e ∷ z) (new_last at (e.at + 2) part es end h.2 l)
 
 -- an edit of a later chunk is put last
-edit_last : (at : ℕ) (part : List Event) (edits : List Placed) (end : ℕ) → AreChunks 0 edits end → end ≤ at → with_edit false at 2 part edits ≡ edits ++ placed at 2 part ∷ []
+edit_last : (at : ℕ) (part : List Event) (edits : List Placed) (end : ℕ) → AreChunks 0 edits end → end ≤ at
+    → with_edit false at 2 part edits ≡ edits ++ placed at 2 part ∷ []
 edit_last at part edits end h l =
-    if_else (has_place at edits) (with_merged false at 2 part edits) (with_new at 2 part edits) (none_there at 0 edits end h l) ∙ new_last at 0 part edits end h l
+    if_else (has_place at edits) (with_merged false at 2 part edits) (with_new at 2 part edits) (none_there at 0 edits end h l)
+    ∙ new_last at 0 part edits end h l
 
-one_chunk_more : (at from : ℕ) (part : List Event) (edits : List Placed) (end : ℕ) → AreChunks from edits end → end ≤ at → AreChunks from (edits ++ placed at 2 part ∷ []) (at + 2)
+one_chunk_more : (at from : ℕ) (part : List Event) (edits : List Placed) (end : ℕ) → AreChunks from edits end → end ≤ at
+    → AreChunks from (edits ++ placed at 2 part ∷ []) (at + 2)
 one_chunk_more at from part [] end h l = (omega (arith, h), refl, omega arith)
 one_chunk_more at from part (e ∷ es) end h l = (h.0, h.1, one_chunk_more at (e.at + 2) part es end h.2 l)
 
@@ -123,13 +130,15 @@ stands_there : (from : ℕ) (xs ys : List Placed) (e : Placed) (events : List Ev
 stands_there from [] ys e events p j h l i q =
     let kept = take (e.at - from) (drop from events) in
     let rest = replaced (e.at + e.remove) ys events in
-    let size : length kept ≡ min (e.at - from) (length events - from) = length-take (e.at - from) (drop from events) ∙ ap (min (e.at - from)) (length-drop from events) in
+    let size : length kept ≡ min (e.at - from) (length events - from) =
+    length-take (e.at - from) (drop from events) ∙ ap (min (e.at - from)) (length-drop from events) in
     let low : from ≤ e.at = h in
     get_after kept (e.add ++ rest) p j (omega arith) ∙ get_left e.add rest j i
 stands_there from (x ∷ xs) ys e events p j h l i q =
     let kept = take (x.at - from) (drop from events) in
     let rest = replaced (x.at + x.remove) (xs ++ e ∷ ys) events in
-    let size : length kept ≡ min (x.at - from) (length events - from) = length-take (x.at - from) (drop from events) ∙ ap (min (x.at - from)) (length-drop from events) in
+    let size : length kept ≡ min (x.at - from) (length events - from) =
+    length-take (x.at - from) (drop from events) ∙ ap (min (x.at - from)) (length-drop from events) in
     let low : from ≤ x.at = h.0 in
     let room : 2 * length xs + (x.at + 2) ≤ e.at = chunks_room (x.at + 2) xs e.at h.2 in
     let n = p - ((x.at - from) + length x.add) in
@@ -177,7 +186,8 @@ module _ (events children : List Event) (ps : Places) where
   after_edits [] more from removed came count edits h = h
   after_edits (k ∷ ks) more from removed came count edits h =
       let size = part_size events k (drop from children) in
-      after_edits ks more (from + size) (removed + 2) (came + size) count (with_edit false k 2 (part_of k from) edits) (after_edit k (ks ++ more) from removed came count edits h)
+      after_edits ks more (from + size) (removed + 2) (came + size) count (with_edit false k 2 (part_of k from) edits)
+      (after_edit k (ks ++ more) from removed came count edits h)
 
   -- the edits of the chunks of a chain
   abbrev pub chunk_edits : List ℕ → ℕ → List Placed
@@ -185,7 +195,8 @@ module _ (events children : List Event) (ps : Places) where
   chunk_edits (k ∷ ks) from = placed k 2 (part_of k from) ∷ chunk_edits ks (from + part_size events k (drop from children))
 
   -- they are put after those made before
-  pub edits_made : (ks more : List ℕ) (from removed came count : ℕ) (edits : List Placed) → Made edits removed came (ks ++ more) count → divided_at events ks children ps from edits ≡ edits ++ chunk_edits ks from
+  pub edits_made : (ks more : List ℕ) (from removed came count : ℕ) (edits : List Placed) → Made edits removed came (ks ++ more) count
+      → divided_at events ks children ps from edits ≡ edits ++ chunk_edits ks from
   edits_made [] more from removed came count edits h = sym (append-nil edits)
   edits_made (k ∷ ks) more from removed came count edits h =
       let size = part_size events k (drop from children) in
@@ -206,7 +217,8 @@ module _ (events children : List Event) (ps : Places) (all : List Placed) (list 
   abbrev IsAt : ℕ → ℕ → Type 0
   IsAt j p = (e : Event) × (slice_get children j ≡ Some e) × (slice_get (replaced 0 all list) p ≡ Some (with_new_links ps e))
 
-  child_stands : (k from end j p : ℕ) (edits rest : List Placed) → AreChunks 0 edits end → end ≤ k → k ≤ length list → all ≡ edits ++ placed k 2 (part_of events children ps k from) ∷ rest
+  child_stands : (k from end j p : ℕ) (edits rest : List Placed) → AreChunks 0 edits end → end ≤ k → k ≤ length list
+      → all ≡ edits ++ placed k 2 (part_of events children ps k from) ∷ rest
       → j < part_size events k (drop from children) → p + 2 * length edits ≡ k + added edits + j → IsAt (from + j) p
   child_stands k from end j p edits rest h l f s i q =
       let size = part_size events k (drop from children) in
@@ -215,12 +227,16 @@ module _ (events children : List Event) (ps : Places) (all : List Placed) (list 
       let long = part_length events children ps k from in
       let e = placed k 2 (part_of events children ps k from) in
       let child = some_at children (from + j) (omega arith) in
-      let there : slice_get (replaced 0 (edits ++ e ∷ rest) list) p ≡ slice_get e.add j = stands_there 0 edits rest e list p j (chunks_up 0 edits end k h l) f (omega arith) (omega arith) in
-      let part : slice_get e.add j ≡ Some (with_new_links ps child.0) = slice_get-map (with_new_links ps) (take size (drop from children)) j ∙ ap (option_map (with_new_links ps)) (get_front size (drop from children) j i ∙ (get_later from children j ∙ child.1)) in
+      let there : slice_get (replaced 0 (edits ++ e ∷ rest) list) p ≡ slice_get e.add j =
+      stands_there 0 edits rest e list p j (chunks_up 0 edits end k h l) f (omega arith) (omega arith) in
+      let part : slice_get e.add j ≡ Some (with_new_links ps child.0) =
+      slice_get-map (with_new_links ps) (take size (drop from children)) j
+      ∙ ap (option_map (with_new_links ps)) (get_front size (drop from children) j i ∙ (get_later from children j ∙ child.1)) in
       (child.0, child.1, ap (λ (z : List Placed). slice_get (replaced 0 z list) p) s ∙ (there ∙ part))
 
   -- child events from one on stand where the places from there on say
-  parts_stand : (ks more : List ℕ) (from removed came : ℕ) (edits rest : List Placed) → Made edits removed came (ks ++ more) (length list) → all ≡ divided_at events ks children ps from edits ++ rest
+  parts_stand : (ks more : List ℕ) (from removed came : ℕ) (edits rest : List Placed) → Made edits removed came (ks ++ more) (length list)
+      → all ≡ divided_at events ks children ps from edits ++ rest
       → (j p : ℕ) → slice_get (places_of events ks children from removed came) j ≡ Some (Some p) → IsAt (from + j) p
   parts_stand [] more from removed came edits rest h s j p q = absurd (none_some (Some p) q)
   parts_stand (k ∷ ks) more from removed came edits rest h s j p q =
@@ -239,8 +255,10 @@ module _ (events children : List Event) (ps : Places) (all : List Placed) (list 
             let new = chunk_edits events children ps ks (from + size) in
             let follow = edits_made events children ps ks more (from + size) (removed + 2) (came + size) (length list) next after in
             let last : next ≡ edits ++ edit ∷ [] = edit_last k part edits h.end h.chunks h.apart.0 in
-            let joined : all ≡ (edits ++ edit ∷ []) ++ new ++ rest = s ∙ (ap (λ (z : List Placed). z ++ rest) follow ∙ ap (λ (z : List Placed). z ++ new ++ rest) last) in
-            let whole : all ≡ edits ++ edit ∷ (new ++ rest) = joined ∙ (append_assoc (edits ++ edit ∷ []) new rest ∙ append_assoc edits (edit ∷ []) (new ++ rest)) in
+            let joined : all ≡ (edits ++ edit ∷ []) ++ new ++ rest =
+            s ∙ (ap (λ (z : List Placed). z ++ rest) follow ∙ ap (λ (z : List Placed). z ++ new ++ rest) last) in
+            let whole : all ≡ edits ++ edit ∷ (new ++ rest) =
+            joined ∙ (append_assoc (edits ++ edit ∷ []) new rest ∙ append_assoc edits (edit ∷ []) (new ++ rest)) in
             let room = chunks_room 0 edits h.end h.chunks in
             let goes = h.goes in
             let comes = h.comes in
@@ -256,7 +274,8 @@ module _ (events children : List Event) (ps : Places) (all : List Placed) (list 
 
 module _ {M : Type 0} (step : Steps M) (resolve : Resolves M) (bytes : List ℕ) (machine : M) (old : List Event) where
   -- all edits begin with those made before
-  divides_follow : (cs : List Chain) (acc : ℕ × ℕ) (edits all : List Placed) (found total : Found) (count : ℕ) → Divides step resolve bytes machine old cs acc edits all found total → Made edits acc.0 acc.1 (chunks_of old cs) count
+  divides_follow : (cs : List Chain) (acc : ℕ × ℕ) (edits all : List Placed) (found total : Found) (count : ℕ)
+      → Divides step resolve bytes machine old cs acc edits all found total → Made edits acc.0 acc.1 (chunks_of old cs) count
       → (new : List Placed) × (all ≡ edits ++ new)
   divides_follow [] acc edits all found total count d h = ([], sym d.0 ∙ sym (append-nil edits))
   divides_follow (c ∷ cs) acc edits all found total count d h =
@@ -267,10 +286,12 @@ module _ {M : Type 0} (step : Steps M) (resolve : Resolves M) (bytes : List ℕ)
       let new = chunk_edits old children ps ks 0 in
       let here = edits_made old children ps ks more 0 acc.0 acc.1 count edits h in
       let after = after_edits old children ps ks more 0 acc.0 acc.1 count edits h in
-      let rest = divides_follow cs (counts old ks children 0 acc.0 acc.1) (divided old c.0 children acc edits) all (found_both found d.1) total count d.3 after in
+      let rest = divides_follow cs (counts old ks children 0 acc.0 acc.1) (divided old c.0 children acc edits) all
+      (found_both found d.1) total count d.3 after in
       (new ++ rest.0, rest.1 ∙ (ap (λ (z : List Placed). z ++ rest.0) here ∙ append_assoc edits new rest.0))
 
-  chains_stand : (cs : List Chain) (acc : ℕ × ℕ) (edits all : List Placed) (found total : Found) (list : List Event) (d : Divides step resolve bytes machine old cs acc edits all found total) → Made edits acc.0 acc.1 (chunks_of old cs) (length list)
+  chains_stand : (cs : List Chain) (acc : ℕ × ℕ) (edits all : List Placed) (found total : Found) (list : List Event)
+      (d : Divides step resolve bytes machine old cs acc edits all found total) → Made edits acc.0 acc.1 (chunks_of old cs) (length list)
       → EachStands step resolve bytes machine old (replaced 0 all list) cs acc edits all found total d
   chains_stand [] acc edits all found total list d h = tt
   chains_stand (c ∷ cs) acc edits all found total list d h =
@@ -282,7 +303,8 @@ module _ {M : Type 0} (step : Steps M) (resolve : Resolves M) (bytes : List ℕ)
       let made = divided old c.0 children acc edits in
       let after = after_edits old children ps ks more 0 acc.0 acc.1 (length list) edits h in
       let rest = divides_follow cs next made all (found_both found d.1) total (length list) d.3 after in (
-        λ j p q. let e : 0 + j ≡ j = omega arith in subst (λ (z : ℕ). IsAt old children ps all list z p) e (parts_stand old children ps all list ks more 0 acc.0 acc.1 edits rest.0 h rest.1 j p q),
+        λ j p q. let e : 0 + j ≡ j = omega arith in
+            subst (λ (z : ℕ). IsAt old children ps all list z p) e (parts_stand old children ps all list ks more 0 acc.0 acc.1 edits rest.0 h rest.1 j p q),
         chains_stand cs next made all (found_both found d.1) total list d.3 after,
       )
 
@@ -301,8 +323,10 @@ chunks_ordered from [] end h = h
 chunks_ordered from (e ∷ es) end h = (h.0, subst (λ (z : ℕ). IsOrdered (e.at + z) es end) (sym h.1) (chunks_ordered (e.at + 2) es end h.2))
 
 module _ {M : Type 0} (step : Steps M) (resolve : Resolves M) (bytes : List ℕ) (machine : M) (old : List Event) where
-  ordered_from : (cs : List Chain) (acc : ℕ × ℕ) (edits all : List Placed) (found total : Found) (count : ℕ) → Divides step resolve bytes machine old cs acc edits all found total → Made edits acc.0 acc.1 (chunks_of old cs) count → IsOrdered 0 all count
-  ordered_from [] acc edits all found total count d h = subst (λ (z : List Placed). IsOrdered 0 z count) d.0 (chunks_ordered 0 edits count (chunks_up 0 edits h.end count h.chunks h.apart))
+  ordered_from : (cs : List Chain) (acc : ℕ × ℕ) (edits all : List Placed) (found total : Found) (count : ℕ)
+      → Divides step resolve bytes machine old cs acc edits all found total → Made edits acc.0 acc.1 (chunks_of old cs) count → IsOrdered 0 all count
+  ordered_from [] acc edits all found total count d h =
+      subst (λ (z : List Placed). IsOrdered 0 z count) d.0 (chunks_ordered 0 edits count (chunks_up 0 edits h.end count h.chunks h.apart))
   ordered_from (c ∷ cs) acc edits all found total count d h =
       let ks = chunks old c.0 in
       let children = d.0 in
@@ -311,15 +335,18 @@ module _ {M : Type 0} (step : Steps M) (resolve : Resolves M) (bytes : List ℕ)
       ordered_from cs (counts old ks children 0 acc.0 acc.1) (divided old c.0 children acc edits) all (found_both found d.1) total count d.3 after
 
   -- the edits of chains that stand apart are in order
-  pub divides_ordered : (cs : List Chain) (all : List Placed) (total : Found) (count : ℕ) → Divides step resolve bytes machine old cs (0, 0) [] all nothing_found total → AreApart 0 (chunks_of old cs) count → IsOrdered 0 all count
+  pub divides_ordered : (cs : List Chain) (all : List Placed) (total : Found) (count : ℕ)
+      → Divides step resolve bytes machine old cs (0, 0) [] all nothing_found total → AreApart 0 (chunks_of old cs) count → IsOrdered 0 all count
   divides_ordered cs all total count d a = ordered_from cs (0, 0) [] all nothing_found total count d (none_made count (chunks_of old cs) a)
 
 -- where chunks stand apart, links of child events lead to where those events stand
-pub links_lead : {M : Type 0} (step : Steps M) (resolve : Resolves M) (bytes : List ℕ) (machine : M) (filter : Option Content) (old new : List Event) (found : Found) → AreApart 0 (chunks_of old (chains filter old)) (length old) → LinksLead step resolve bytes machine filter old new found
+pub links_lead : {M : Type 0} (step : Steps M) (resolve : Resolves M) (bytes : List ℕ) (machine : M) (filter : Option Content) (old new : List Event)
+    (found : Found) → AreApart 0 (chunks_of old (chains filter old)) (length old) → LinksLead step resolve bytes machine filter old new found
 links_lead {M} step resolve bytes machine filter old new found a read =
     let list = map (with_new_links (places read.edits (length old))) old in
     let cs = chains filter old in
     let none = none_made (length old) (chunks_of old cs) a in
     let size : length list ≡ length old = length-map old (with_new_links (places read.edits (length old))) in
-    let stand = chains_stand step resolve bytes machine old cs (0, 0) [] read.edits nothing_found found list read.divides (subst (λ (z : ℕ). Made [] 0 0 (chunks_of old cs) z) (sym size) none) in
+    let stand = chains_stand step resolve bytes machine old cs (0, 0) [] read.edits nothing_found found list read.divides
+    (subst (λ (z : ℕ). Made [] 0 0 (chunks_of old cs) z) (sym size) none) in
     subst (λ (z : List Event). EachStands step resolve bytes machine old z cs (0, 0) [] read.edits nothing_found found read.divides) (sym read.edited) stand

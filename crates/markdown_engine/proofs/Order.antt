@@ -8,11 +8,14 @@ use Rattle.markdown_engine.specs.Machine.{Ended, Refused, view_config}
 use Rattle.markdown_engine.specs.Order.{AreWhole}
 use Rattle.markdown_engine.specs.Reading.{Steps, end_state}
 
-module _ {M V T A : Type 0} (view : M → V) (size : ℕ) (valid : HoldsAt V) (step : Steps V) (rank : RanksAt V) (lawful : LawfulAt size valid step rank) (t : Tokenizer M T A) where
-  whole_at : (s : State) (well : Bool) → t.attempts.items ≡ [] → s ≡ end_state well → valid (view_config view t) t.attempts.items s → AreWhole t.events.items t.point
+module _ {M V T A : Type 0} (view : M → V) (size : ℕ) (valid : HoldsAt V) (step : Steps V) (rank : RanksAt V) (lawful : LawfulAt size valid step rank)
+    (t : Tokenizer M T A) where
+  whole_at : (s : State) (well : Bool) → t.attempts.items ≡ [] → s ≡ end_state well → valid (view_config view t) t.attempts.items s
+      → AreWhole t.events.items t.point
   whole_at s well e f v =
       let tidy = lawful.tidies (view_config view t) t.attempts.items s v in
-      let last = subst (λ (z : List Attempt). valid (view_config view t) z (end_state well)) e (subst (λ (z : State). valid (view_config view t) t.attempts.items z) f v) in
+      let last = subst (λ (z : List Attempt). valid (view_config view t) z (end_state well)) e
+      (subst (λ (z : State). valid (view_config view t) t.attempts.items z) f v) in
       ((tidy.nested, lawful.closes (view_config view t) well last), tidy.order)
 
   ended_whole : (s : State) → Ended t s → valid (view_config view t) t.attempts.items s → AreWhole t.events.items t.point

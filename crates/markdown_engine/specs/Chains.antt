@@ -1,5 +1,6 @@
 -- Chains of chunks, each read as one text.
-use Rattle.std.specs.Prelude.{◌≡◌, ℕ, ◌+◌, ◌≤◌, ◌<◌, zero, suc, Bool, true, false, ◌==◌, ◌&&◌, ◌||◌, nat_lt, if◌then◌else◌, List, [], ◌∷◌, ◌++◌, length, Option, None, Some, is_some, not}
+use Rattle.std.specs.Prelude.{◌≡◌, ℕ, ◌+◌, ◌≤◌, ◌<◌, zero, suc, Bool, true, false, ◌==◌, ◌&&◌, ◌||◌, nat_lt, if◌then◌else◌, List, [], ◌∷◌, ◌++◌, length, Option}
+use Rattle.std.specs.Prelude.{None, Some, is_some, not}
 use denote.Enum.Bare.{sameb}
 use Rattle.engine_events.specs.contracts.event.Content.{the_type}
 use Rattle.engine_events.specs.declared.event.Content.{Content}
@@ -130,7 +131,8 @@ module _ {M : Type 0} (step : Steps M) (resolve : Resolves M) (bytes : List ℕ)
       × Divides cs (counts events (chunks events c.0) children 0 acc.0 acc.1) (divided events c.0 children acc edits) all (found_both found more) total
 
 -- each chain that is asked for is read, and what was read of it stands in its place
-pub record Subtokenized {M : Type 0} (step : Steps M) (resolve : Resolves M) (bytes : List ℕ) (machine : M) (filter : Option Content) (old new : List Event) (found : Found) : Type 0 where
+pub record Subtokenized {M : Type 0} (step : Steps M) (resolve : Resolves M) (bytes : List ℕ) (machine : M) (filter : Option Content) (old new : List Event)
+    (found : Found) : Type 0 where
   pub edits : List Placed
   pub divides : Divides step resolve bytes machine old (chains filter old) (0, 0) [] edits nothing_found found
   pub edited : new ≡ events_after edits old

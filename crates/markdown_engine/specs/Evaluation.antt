@@ -60,7 +60,8 @@ module _ {M V T A : Type 0} (view : M → V) (step : Context T → Steps V) (ran
   -- however a text goes on after a range, it is what it was
   abbrev pub StaysReading : ℕ × ℕ → State → Tokenizer M T A → Tokenizer M T A → State → Type 0
   StaysReading to given old new s =
-      (more : Source) (limit : ℕ × ℕ) → IsCut more.bytes limit → GoesOn (source old) to false more limit → reading_from (text_to more limit) new s ≡ reading_from (text_to more limit) old given
+      (more : Source) (limit : ℕ × ℕ) → IsCut more.bytes limit → GoesOn (source old) to false more limit
+      → reading_from (text_to more limit) new s ≡ reading_from (text_to more limit) old given
 
   -- the same of a range that is read from its start
   abbrev pub StaysReadingFrom : ℕ × ℕ → ℕ × ℕ → State → Tokenizer M T A → Tokenizer M T A → State → Type 0
@@ -86,9 +87,12 @@ module _ {M : Type 0} (step : Steps M) (rank : RanksAt M) (resolve : Resolves M)
   abbrev pub chain_edits : List Chain → ℕ × ℕ → List Placed → Found → Option (List Placed × Found)
   chain_edits [] acc edits found = Some (edits, found)
   chain_edits (c ∷ cs) acc edits found =
-      after_chain (λ r. chain_edits cs (counts events (chunks events c.0) r.config.events 0 acc.0 acc.1) (divided events c.0 r.config.events acc edits) (found_both found r.found)) (chain_reading c)
+      after_chain (λ r. chain_edits cs (counts events (chunks events c.0) r.config.events 0 acc.0 acc.1) (divided events c.0 r.config.events acc edits)
+      (found_both found r.found)) (chain_reading c)
 
 -- these are the events with each chain that is asked for read, and what is found
-abbrev pub AreReadingOf : {T M : Type 0} → (Context T → Steps M) → Ranks T M → (Context T → Resolves M) → Context T → M → Option Content → List Event → List Event → Found → Type 0
+abbrev pub AreReadingOf : {T M : Type 0} → (Context T → Steps M) → Ranks T M → (Context T → Resolves M) → Context T → M → Option Content → List Event
+    → List Event → Found → Type 0
 AreReadingOf step rank resolve x machine filter old new found =
-    (edits : List Placed) × (chain_edits (step x) (rank x) (resolve x) x.bytes machine old (chains filter old) (0, 0) [] nothing_found ≡ Some (edits, found)) × (new ≡ events_after edits old)
+    (edits : List Placed) × (chain_edits (step x) (rank x) (resolve x) x.bytes machine old (chains filter old) (0, 0) [] nothing_found ≡ Some (edits, found))
+    × (new ≡ events_after edits old)

@@ -25,7 +25,23 @@ use Rattle.markdown_engine.specs.Order.{Reaches}
 
 module _ {M T A : Type 0} where
   abbrev pub config : Tokenizer M T A → Config M
-  config t = record { events = t.events.items; point = t.point; next = t.next; line_start = t.line_start; previous = t.previous; current = t.current; tokenize_state = kept t.tokenize_state; map = edits_of t.map; resolvers = t.resolvers.items; interrupt = t.interrupt; lazy = t.lazy; concrete = t.concrete; pierce = t.pierce; machine = t.machine }
+  config t = record {
+    events = t.events.items;
+    point = t.point;
+    next = t.next;
+    line_start = t.line_start;
+    previous = t.previous;
+    current = t.current;
+    tokenize_state = kept t.tokenize_state;
+    map = edits_of t.map;
+    resolvers = t.resolvers.items;
+    interrupt = t.interrupt;
+    lazy = t.lazy;
+    concrete =
+        t.concrete;
+    pierce = t.pierce;
+    machine = t.machine;
+  }
 
   -- the same, with what is seen of the machine
   abbrev pub view_config : {V : Type 0} → (M → V) → Tokenizer M T A → Config V
@@ -70,7 +86,8 @@ AreCuts from (c ∷ cs) size = IsAfter from c × (c.0 < size) × AreCuts c cs si
 abbrev pub Begins : Source → ℕ × ℕ → Point → Point → Type 0
 Begins s from p q = let place = place_in s.skips p in ((is_before from place ≡ false) × (q ≡ p)) ⊎ ((is_before from place ≡ true) × Walks s.bytes from place q)
 
--- a text goes on after the end of a range: it has the same bytes, ends there or later, and up to there nothing else is skipped; with the end handed in it ends right there
+-- a text goes on after the end of a range: it has the same bytes, ends there or later, and up to there nothing else is skipped; with the end handed in it ends
+-- right there
 pub record GoesOn (s : Source) (to : ℕ × ℕ) (end : Bool) (more : Source) (limit : ℕ × ℕ) : Type 0 where
   pub bytes : more.bytes ≡ s.bytes
   pub after : IsAfter to limit
@@ -135,7 +152,8 @@ module _ {M V T A : Type 0} (view : M → V) where
 
   -- what `push` leaves: reading a text from what is left is reading it from what was there
   pub record Goes (text : Text) (step : Steps V) (state : State) (old new : Tokenizer M T A) (s : State) : Type 0 where
-    pub back : (d : Config V) (w : Bool) → Outcome text step new.attempts.items (view_config view new) [] s d w → Outcome text step old.attempts.items (view_config view old) [] state d w
+    pub back : (d : Config V) (w : Bool) → Outcome text step new.attempts.items (view_config view new) [] s d w
+        → Outcome text step old.attempts.items (view_config view old) [] state d w
 
   -- however the text goes on after the range
   abbrev pub GoesAll : Steps V → Source → ℕ × ℕ → Bool → State → Tokenizer M T A → Tokenizer M T A → State → Type 0
@@ -155,7 +173,8 @@ module _ {M V T A : Type 0} (view : M → V) where
     pub outcome : Outcome text step old.attempts.items (view_config view old) [] given (view_config view new) well
 
   -- the same, and reading went well; then resolvers ran if that was asked for, and found this
-  pub record Completed (text : Text) (step : Steps V) (resolve : Resolves V) (all : Bool) (given : State) (old new : Tokenizer M T A) (found : Found) : Type 0 where
+  pub record Completed (text : Text) (step : Steps V) (resolve : Resolves V) (all : Bool) (given : State) (old new : Tokenizer M T A)
+      (found : Found) : Type 0 where
     pub read : Config V
     pub outcome : Outcome text step old.attempts.items (view_config view old) [] given read true
     pub config : view_config view new ≡ (resolution resolve all read).config
@@ -163,7 +182,8 @@ module _ {M V T A : Type 0} (view : M → V) where
 
   -- the same, with what the tokenizer reads with
   abbrev pub Completes : (Context T → Steps V) → (Context T → Resolves V) → ℕ × ℕ → Bool → State → Tokenizer M T A → Tokenizer M T A → Found → Type 0
-  Completes step resolve to all given old new found = Completed (text_to (source old) to) (step (read_with old)) (resolve (read_with old)) all given old new found
+  Completes step resolve to all given old new found =
+      Completed (text_to (source old) to) (step (read_with old)) (resolve (read_with old)) all given old new found
 
   -- resolvers left this, and found this
   pub record IsResolved (r : Resolved V) (new : Tokenizer M T A) (given : Subresult A) : Type 0 where
@@ -177,7 +197,8 @@ module _ {M V T A : Type 0} (view : M → V) where
     pub runs : Runs (text_to from (length from.bytes, 0)) step (view_config view old) [] given (view_config view new) well
 
   -- what the loop of `push` keeps
-  pub record Turn (valid : HoldsAt V) (step : Steps V) (to : ℕ × ℕ) (end : Bool) (first : Tokenizer M T A) (given : State) (t : Tokenizer M T A) (s : State) : Type 0 where
+  pub record Turn (valid : HoldsAt V) (step : Steps V) (to : ℕ × ℕ) (end : Bool) (first : Tokenizer M T A) (given : State) (t : Tokenizer M T A)
+      (s : State) : Type 0 where
     pub same : Around first t
     pub holds : Refused s ⊎ valid (view_config view t) t.attempts.items s
     pub reads : Refused s ⊎ GoesAll step (source first) to end given first t s
@@ -197,7 +218,22 @@ weight states.Nok r = r + 1
 module _ {M : Type 0} where
   -- nothing was read
   abbrev pub fresh : Point → M → Config M
-  fresh p machine = record { events = []; point = p; next = p; line_start = p; previous = None; current = None; tokenize_state = nothing_kept; map = []; resolvers = []; interrupt = false; lazy = false; concrete = false; pierce = false; machine = machine }
+  fresh p machine = record {
+    events = [];
+    point = p;
+    next = p;
+    line_start = p;
+    previous = None;
+    current = None;
+    tokenize_state = nothing_kept;
+    map = [];
+    resolvers = [];
+    interrupt = false;
+    lazy = false;
+    concrete = false;
+    pierce = false;
+    machine = machine;
+  }
 
   abbrev pub with_enter : Name → Option Link → Config M → Config M
   with_enter name link c = record c { events = c.events ++ event Enter name c.point link ∷ [] }

@@ -17,7 +17,8 @@ use Rattle.markdown_engine.specs.Resolving.{IsUnresolved, Leaves, ResolvesAt, Un
 module _ (ps : Places) where
   -- where links are moved, kinds, names and places stay
   abbrev NestsAlike : Event → Event → Type 0
-  NestsAlike e f = (names : List EventName) → (MayStand e.kind e.name names → MayStand f.kind f.name names) × (opened_by f.kind f.name names ≡ opened_by e.kind e.name names)
+  NestsAlike e f = (names : List EventName) → (MayStand e.kind e.name names → MayStand f.kind f.name names)
+      × (opened_by f.kind f.name names ≡ opened_by e.kind e.name names)
 
   nests_alike : (e : Event) (l : Option Link) → NestsAlike e (relinked_as ps e l)
   nests_alike e None names = (λ h. h, refl)
@@ -36,13 +37,16 @@ module _ (ps : Places) where
   pub still_opened : (names : List EventName) (es : List Event) → open_after names (map (with_new_links ps) es) ≡ open_after names es
   still_opened names [] = refl
   still_opened names (e ∷ es) =
-      ap (λ (z : List EventName). open_after z (map (with_new_links ps) es)) (nests_alike e (link_of e) names).1 ∙ still_opened (opened_by e.kind e.name names) es
+      ap (λ (z : List EventName). open_after z (map (with_new_links ps) es)) (nests_alike e (link_of e) names).1
+      ∙ still_opened (opened_by e.kind e.name names) es
 
   still_in_order : (from to : Point) (es : List Event) → InOrder from es to → InOrder from (map (with_new_links ps) es) to
   still_in_order from to [] h = h
   still_in_order from to (e ∷ es) h =
-      let k = same_point e (link_of e) in
-      (subst (λ (z : Point). Reaches from z) (sym k) h.0, subst (λ (z : Point). InOrder z (map (with_new_links ps) es) to) (sym k) (still_in_order (point_of e) to es h.1))
+      let k = same_point e (link_of e) in (
+        subst (λ (z : Point). Reaches from z) (sym k) h.0,
+        subst (λ (z : Point). InOrder z (map (with_new_links ps) es) to) (sym k) (still_in_order (point_of e) to es h.1),
+      )
 
   pub still_whole : (es : List Event) (to : Point) → AreWhole es to → AreWhole (map (with_new_links ps) es) to
   still_whole es to h = ((still_nested [] es h.0.0, still_opened [] es ∙ h.0.1), still_in_order text_start to es h.1)
@@ -88,7 +92,8 @@ module _ {M : Type 0} (size : ℕ) (valid : HoldsAt M) (step : Steps M) where
     closes = λ c well h. lawful.closes c well h.0;
   }
 
-  pub resolves_unresolved : (rank : RanksAt M) → LawfulAt size valid step rank → ((c : Config M) → valid c [] states.Nok → ⊥) → ResolvesAt (Unresolved valid) resolves_nothing settles_whole
+  pub resolves_unresolved : (rank : RanksAt M) → LawfulAt size valid step rank → ((c : Config M) → valid c [] states.Nok → ⊥)
+      → ResolvesAt (Unresolved valid) resolves_nothing settles_whole
   resolves_unresolved rank lawful well = record {
     well = λ c h. well c h.0;
     begins = λ c h. let t = lawful.tidies c [] states.Ok h.0 in (h.1.0, ((t.nested, lawful.closes c true h.0), t.order));

@@ -32,14 +32,16 @@ placed_to events (k ∷ ks) children from = placed_to events ks children (from +
 
 module _ {M : Type 0} (step : Steps M) (resolve : Resolves M) (bytes : List ℕ) (machine : M) (old : List Event) where
   -- no child event is past the end of its chain
-  abbrev pub EachPlaced : (cs : List Chain) (acc : ℕ × ℕ) (edits all : List Placed) (found total : Found) → Divides step resolve bytes machine old cs acc edits all found total → Type 0
+  abbrev pub EachPlaced : (cs : List Chain) (acc : ℕ × ℕ) (edits all : List Placed) (found total : Found)
+      → Divides step resolve bytes machine old cs acc edits all found total → Type 0
   EachPlaced [] acc edits all found total d = Unit {0}
   EachPlaced (c ∷ cs) acc edits all found total d =
       (placed_to old (chunks old c.0) d.0 0 ≡ length d.0)
       × EachPlaced cs (counts old (chunks old c.0) d.0 0 acc.0 acc.1) (divided old c.0 d.0 acc edits) all (found_both found d.1) total d.3
 
 -- where so, events that were balanced are, whatever was read
-abbrev pub StaysBalanced : {T M : Type 0} → (Context T → Steps M) → (Context T → Resolves M) → Context T → M → Option Content → List Event → List Event → Found → Type 0
+abbrev pub StaysBalanced : {T M : Type 0} → (Context T → Steps M) → (Context T → Resolves M) → Context T → M → Option Content → List Event → List Event → Found
+    → Type 0
 StaysBalanced step resolve x machine filter old new found =
     IsBalanced old → EachTogether old (chains filter old) → (read : Subtokenized (step x) (resolve x) x.bytes machine filter old new found)
     → EachPlaced (step x) (resolve x) x.bytes machine old (chains filter old) (0, 0) [] read.edits nothing_found found read.divides → IsBalanced new

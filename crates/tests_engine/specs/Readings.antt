@@ -25,7 +25,8 @@ pub record IsReading {M : Type 0} (step : Steps M) (first : Name) (bytes : List 
   pub read : events ≡ config.events
 
 -- the chains that are asked for were read where they can be; otherwise the events are left
-abbrev pub ReadsChains : {T M A : Type 0} → (Context T → Steps M) → (Context T → Resolves M) → Context T → M → Option Content → List Event → List Event → Option (Subresult A) → Type 0
+abbrev pub ReadsChains : {T M A : Type 0} → (Context T → Steps M) → (Context T → Resolves M) → Context T → M → Option Content → List Event → List Event
+    → Option (Subresult A) → Type 0
 ReadsChains step resolve x machine filter old new found = MatchOption found
     ((AreReadable x.bytes filter old → ⊥) × (new ≡ old))
     (λ result. AreReadable x.bytes filter old × SubtokenizedIn step resolve x machine filter old new (found_in result))

@@ -23,7 +23,9 @@ loop-line-preserved g c =
     let read = map view_line yielded in
     let left = drop (length yielded) all in
     let bytes : (k : ℕ) → get_or c.args.text.now k 0 < 256 = λ k. omega (arith, c.type_inv.text k) in
-    let so_far = YieldsList-so_far (YieldsList-from_first view_line rest_lines all (ap rest_lines c.into_iter-line-iterator.ensures.into_iter_gives ∙ c.new-line-items.ensures)) yielded c.loop-line.line-iterator c.loop-line.yielded_by in
+    let so_far =
+    YieldsList-so_far (YieldsList-from_first view_line rest_lines all (ap rest_lines c.into_iter-line-iterator.ensures.into_iter_gives
+    ∙ c.new-line-items.ensures)) yielded c.loop-line.line-iterator c.loop-line.yielded_by in
     let clean = open_lines on before c.args.text.now bytes read left (ap (λ x. x ++ left) so_far ∙ take-append-drop (length yielded) all) in
     let line = view_line c.in-Some.line in
     let t = steps on before empty_tree read in
@@ -46,7 +48,9 @@ returns-clause-rows g c =
     let pool = piece_lines q.pieces.items in
     let bytes : (k : ℕ) → get_or text k 0 < 256 = λ k. omega (arith, c.type_inv.text k) in
     let all_lines : read ≡ lines text =
-    (YieldsList-end (YieldsList-from_first view_line rest_lines (lines text) (ap rest_lines c.into_iter-line-iterator.ensures.into_iter_gives ∙ c.new-line-items.ensures)) c.loop-line.yielded c.loop-line.line-iterator c.loop-line.yielded_by c.next.result c.next.new.self c.in-None.is c.next.ensures.steps).0 in
+    (YieldsList-end (YieldsList-from_first view_line rest_lines (lines text)
+    (ap rest_lines c.into_iter-line-iterator.ensures.into_iter_gives ∙ c.new-line-items.ensures)) c.loop-line.yielded c.loop-line.line-iterator
+    c.loop-line.yielded_by c.next.result c.next.new.self c.in-None.is c.next.ensures.steps).0 in
     let clean = open_lines on before text bytes read [] (append-nil read ∙ all_lines) in
     let h = c.in_ok-close_to.ensures.read [] t.done t.now refl clean c.loop-line.invariant.0 in
     ap (λ (rs : List Row). rows_value rs pool) (c.in_ok-finish.ensures.rows)

@@ -6,4 +6,5 @@ use Rattle.engine_chunks.proofs.divide.add_parts.Given as goal
 abbrev pub invariant-loop-chunk : goal.invariant-loop-chunk
 invariant-loop-chunk g l =
     (l.from ≤ length l.children)
-    × (divided_at l.events (drop l.chunk-index l.chain) l.children l.places l.from (edits_of l.map) ≡ divided_at l.events l.chain l.children l.places 0 (edits_of l.fn.map))
+    × (divided_at l.events (drop l.chunk-index l.chain) l.children l.places l.from (edits_of l.map)
+    ≡ divided_at l.events l.chain l.children l.places 0 (edits_of l.fn.map))

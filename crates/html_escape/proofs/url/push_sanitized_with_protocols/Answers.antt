@@ -17,6 +17,7 @@ truncate-requires g c within =
     let front : take (length before) now ≡ before = ap (take (length before)) printed ∙ take-append_seam before added in
     let longer : length now ≡ length before + length added = ap length printed ∙ length-append before added in
     let boundary : IsCharBoundary now (length before) =
-    IsCharBoundary-from_take now (length before) (IsUtf8-string_bytes c.push_sanitized.new.out) (omega arith) (subst IsUtf8 (sym front) (IsUtf8-string_bytes c.args.out.now)) in
+    IsCharBoundary-from_take now (length before) (IsUtf8-string_bytes c.push_sanitized.new.out) (omega arith)
+    (subst IsUtf8 (sym front) (IsUtf8-string_bytes c.args.out.now)) in
     let cut = subst (IsCharBoundary now) (sym start) boundary in
     (cut.0, λ positive. cut.1)

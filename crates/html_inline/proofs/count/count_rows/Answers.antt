@@ -18,7 +18,8 @@ loop-row-preserved g c = λ definition footnotes default held.
     let p = c.args.printing.now in
     let meaning = inline_meaning p.on.now p.compile.now (g.T.Tables.reference_of p.tables.now) definition footnotes in
     let at = place_target p.definitions.now in
-    counts_more meaning at default c.args.rows.now c.loop-row.row-index _ (output_view c.args.out.now) (output_view c.loop-row.out) (output_view c.count_row.new.out) c.loop-row-test.true
+    counts_more meaning at default c.args.rows.now c.loop-row.row-index _ (output_view c.args.out.now) (output_view c.loop-row.out)
+    (output_view c.count_row.new.out) c.loop-row-test.true
     (c.loop-row.invariant definition footnotes default held) (c.in_ok-count_row.ensures meaning at default held)
 
 pub returns : goal.returns

@@ -21,7 +21,8 @@ returns-in-None-clause-laid g c = λ definition footnotes rows held.
     let label = content_codes c.args.label.now in
     let normalized : c.as_str-label.result.now ≡ normal_label label =
     c.as_str-label.ensures.value ∙ c.in_ok-normalize_label.ensures ∙ ap (λ (s : List ℕ). normal_label (content_codes s)) c.as_bytes.ensures.value in
-    let found : first_match label footnotes ≡ c.find_normal.result = ap (λ (n : List ℕ). place_of n (map normal_label footnotes)) (sym normalized) ∙ sym (c.find_normal.ensures footnotes held) in
+    let found : first_match label footnotes ≡ c.find_normal.result =
+    ap (λ (n : List ℕ). place_of n (map normal_label footnotes)) (sym normalized) ∙ sym (c.find_normal.ensures footnotes held) in
     uncalled meaning (is_described (map view (reverse c.args.scratch.now.stack.items))) label (output_view c.args.out.now) (found ∙ c.in-None.is)
 
 pub returns-then-is_described-clause-laid : goal.returns-then-is_described-clause-laid
@@ -35,7 +36,8 @@ returns-then-is_described-clause-laid g c = λ definition footnotes rows held.
     let out = output_view c.args.out.now in
     let normalized : normal ≡ normal_label label =
     c.as_str-label.ensures.value ∙ c.in_ok-normalize_label.ensures ∙ ap (λ (s : List ℕ). normal_label (content_codes s)) c.as_bytes.ensures.value in
-    let found : first_match label footnotes ≡ c.find_normal.result = ap (λ (n : List ℕ). place_of n (map normal_label footnotes)) (sym normalized) ∙ sym (c.find_normal.ensures footnotes held) in
+    let found : first_match label footnotes ≡ c.find_normal.result =
+    ap (λ (n : List ℕ). place_of n (map normal_label footnotes)) (sym normalized) ∙ sym (c.find_normal.ensures footnotes held) in
     let h : described ≡ true =
     ap (λ (s : List OpenPart). is_described (map view (reverse s))) (sym c.as_slice.ensures.value)
     ∙ sym (c.is_described.ensures meaning (place_target p.definitions.now) rows)
@@ -55,7 +57,8 @@ returns-else-is_described-clause-laid g c = λ definition footnotes rows held.
     let out = output_view c.args.out.now in
     let normalized : normal ≡ normal_label label =
     c.as_str-label.ensures.value ∙ c.in_ok-normalize_label.ensures ∙ ap (λ (s : List ℕ). normal_label (content_codes s)) c.as_bytes.ensures.value in
-    let found : first_match label footnotes ≡ c.find_normal.result = ap (λ (n : List ℕ). place_of n (map normal_label footnotes)) (sym normalized) ∙ sym (c.find_normal.ensures footnotes held) in
+    let found : first_match label footnotes ≡ c.find_normal.result =
+    ap (λ (n : List ℕ). place_of n (map normal_label footnotes)) (sym normalized) ∙ sym (c.find_normal.ensures footnotes held) in
     let h : described ≡ false =
     ap (λ (s : List OpenPart). is_described (map view (reverse s))) (sym c.as_slice.ensures.value)
     ∙ sym (c.is_described.ensures meaning (place_target p.definitions.now) rows)

@@ -19,8 +19,10 @@ returns-then-is_described g c = λ definition footnotes rows is.
     let view = opened_view meaning at rows in
     let items = c.args.scratch.now.stack.items in
     let h : is_described (map view (reverse items)) ≡ true =
-    ap (λ (s : List OpenPart). is_described (map view (reverse s))) (sym c.as_slice.ensures.value) ∙ sym (c.is_described.ensures meaning at rows) ∙ c.if-is_described.true in
-    entered_silent view (image_start meaning linked) (new_part true (image_end meaning linked)) (output_view c.args.out.now) items c.push.new.self.items refl c.in_ok-push.ensures.items h
+    ap (λ (s : List OpenPart). is_described (map view (reverse s))) (sym c.as_slice.ensures.value) ∙ sym (c.is_described.ensures meaning at rows)
+    ∙ c.if-is_described.true in
+    entered_silent view (image_start meaning linked) (new_part true (image_end meaning linked))
+    (output_view c.args.out.now) items c.push.new.self.items refl c.in_ok-push.ensures.items h
 
 pub returns : goal.returns
 returns g c = λ definition footnotes rows is.
@@ -32,6 +34,9 @@ returns g c = λ definition footnotes rows is.
     let items = c.args.scratch.now.stack.items in
     let out = output_view c.args.out.now in
     let h : is_described (map view (reverse items)) ≡ false =
-    ap (λ (s : List OpenPart). is_described (map view (reverse s))) (sym c.as_slice.ensures.value) ∙ sym (c.is_described.ensures meaning at rows) ∙ c.if-is_described.false in
-    entered view (image_start meaning linked) (new_part true (image_end meaning linked)) out (string_bytes c.push_image_start.new.out) items c.push-2.new.self.items
-    (open_part.Image c.args.place) (ap (λ l. new_part true (image_end meaning l)) is) c.in_ok-push-2.ensures.items h (c.in_ok-push_image_start.ensures definition footnotes ∙ ap (λ linked. out.text ++ image_start meaning linked) c.linked_at-linked.ensures)
+    ap (λ (s : List OpenPart). is_described (map view (reverse s))) (sym c.as_slice.ensures.value) ∙ sym (c.is_described.ensures meaning at rows)
+    ∙ c.if-is_described.false in
+    entered view (image_start meaning linked) (new_part true (image_end meaning linked)) out
+    (string_bytes c.push_image_start.new.out) items c.push-2.new.self.items
+    (open_part.Image c.args.place) (ap (λ l. new_part true (image_end meaning l)) is) c.in_ok-push-2.ensures.items h
+    (c.in_ok-push_image_start.ensures definition footnotes ∙ ap (λ linked. out.text ++ image_start meaning linked) c.linked_at-linked.ensures)

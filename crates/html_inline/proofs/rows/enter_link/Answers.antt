@@ -20,8 +20,10 @@ returns-then-is_described g c = λ definition footnotes rows.
     let view = opened_view meaning at rows in
     let items = c.args.scratch.now.stack.items in
     let h : is_described (map view (reverse items)) ≡ true =
-    ap (λ (s : List OpenPart). is_described (map view (reverse s))) (sym c.as_slice.ensures.value) ∙ sym (c.is_described.ensures meaning at rows) ∙ c.if-is_described.true in
-    entered_silent view (link_tag meaning linked) (new_part false (codes "</a>")) (output_view c.args.out.now) items c.push.new.self.items refl c.in_ok-push.ensures.items h
+    ap (λ (s : List OpenPart). is_described (map view (reverse s))) (sym c.as_slice.ensures.value) ∙ sym (c.is_described.ensures meaning at rows)
+    ∙ c.if-is_described.true in
+    entered_silent view (link_tag meaning linked) (new_part false (codes "</a>"))
+    (output_view c.args.out.now) items c.push.new.self.items refl c.in_ok-push.ensures.items h
 
 pub returns : goal.returns
 returns g c = λ definition footnotes rows.
@@ -33,6 +35,8 @@ returns g c = λ definition footnotes rows.
     let items = c.args.scratch.now.stack.items in
     let out = output_view c.args.out.now in
     let h : is_described (map view (reverse items)) ≡ false =
-    ap (λ (s : List OpenPart). is_described (map view (reverse s))) (sym c.as_slice.ensures.value) ∙ sym (c.is_described.ensures meaning at rows) ∙ c.if-is_described.false in
+    ap (λ (s : List OpenPart). is_described (map view (reverse s))) (sym c.as_slice.ensures.value) ∙ sym (c.is_described.ensures meaning at rows)
+    ∙ c.if-is_described.false in
     entered view (link_tag meaning linked) (new_part false (codes "</a>")) out (string_bytes c.push_link_start.new.out) items c.push-2.new.self.items
-    (open_part.Link) refl c.in_ok-push-2.ensures.items h (c.in_ok-push_link_start.ensures definition footnotes ∙ ap (λ linked. out.text ++ link_tag meaning linked) c.linked_at-linked.ensures)
+    (open_part.Link) refl c.in_ok-push-2.ensures.items h (c.in_ok-push_link_start.ensures definition footnotes
+    ∙ ap (λ linked. out.text ++ link_tag meaning linked) c.linked_at-linked.ensures)

@@ -15,8 +15,10 @@ returns-then-is_described-clause-printed g c = λ definition footnotes rows.
     let at = place_target p.definitions.now in
     let view = opened_view meaning at rows in
     let h : is_described (map view (reverse c.args.scratch.now.stack.items)) ≡ true =
-    ap (λ (s : List OpenPart). is_described (map view (reverse s))) (sym c.as_slice.ensures.value) ∙ sym (c.is_described.ensures meaning at rows) ∙ c.if-is_described.true in
-    subst (λ (t : Bool). OnOk c.push_description.result (string_bytes c.push_description.new.out ≡ string_bytes c.args.out.now ++ parts_html meaning t (map (inline_in_cell p.cell) (parts_of c.args.part))))
+    ap (λ (s : List OpenPart). is_described (map view (reverse s))) (sym c.as_slice.ensures.value) ∙ sym (c.is_described.ensures meaning at rows)
+    ∙ c.if-is_described.true in
+    subst (λ (t : Bool). OnOk c.push_description.result (string_bytes c.push_description.new.out
+    ≡ string_bytes c.args.out.now ++ parts_html meaning t (map (inline_in_cell p.cell) (parts_of c.args.part))))
     (sym h) c.push_description.ensures
 
 pub returns-else-is_described-clause-printed : goal.returns-else-is_described-clause-printed
@@ -26,6 +28,8 @@ returns-else-is_described-clause-printed g c = λ definition footnotes rows.
     let at = place_target p.definitions.now in
     let view = opened_view meaning at rows in
     let h : is_described (map view (reverse c.args.scratch.now.stack.items)) ≡ false =
-    ap (λ (s : List OpenPart). is_described (map view (reverse s))) (sym c.as_slice.ensures.value) ∙ sym (c.is_described.ensures meaning at rows) ∙ c.if-is_described.false in
-    subst (λ (t : Bool). OnOk c.push_leaf.result (string_bytes c.push_leaf.new.out ≡ string_bytes c.args.out.now ++ parts_html meaning t (map (inline_in_cell p.cell) (parts_of c.args.part))))
+    ap (λ (s : List OpenPart). is_described (map view (reverse s))) (sym c.as_slice.ensures.value) ∙ sym (c.is_described.ensures meaning at rows)
+    ∙ c.if-is_described.false in
+    subst (λ (t : Bool). OnOk c.push_leaf.result (string_bytes c.push_leaf.new.out
+    ≡ string_bytes c.args.out.now ++ parts_html meaning t (map (inline_in_cell p.cell) (parts_of c.args.part))))
     (sym h) (c.push_leaf.ensures definition footnotes)

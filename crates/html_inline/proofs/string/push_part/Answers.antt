@@ -16,5 +16,6 @@ returns-in-Escape g c =
 pub returns-in-Unclosed : goal.returns-in-Unclosed
 returns-in-Unclosed g c =
     let text = c.in-Unclosed.text.now in
-    subst (λ (s : List ℕ). OnOk c.push_formed-in-Unclosed.result (string_bytes c.push_formed-in-Unclosed.new.out ≡ string_bytes c.args.out.now ++ form_bytes c.args.form s))
+    subst (λ (s : List ℕ). OnOk c.push_formed-in-Unclosed.result (string_bytes c.push_formed-in-Unclosed.new.out
+    ≡ string_bytes c.args.out.now ++ form_bytes c.args.form s))
     (sym (ap (λ p. flat_map strings.string_bytes (parts_of p)) c.in-Unclosed.is ∙ data_texts text)) c.push_formed-in-Unclosed.ensures

@@ -11,5 +11,6 @@ returns-else-compile-2 g c =
     let options = c.args.compile.now in
     let refused : options.allow_any_img_src || options.allow_dangerous_protocol ≡ false = search rules in
     let is = cond-false (options.allow_any_img_src || options.allow_dangerous_protocol) (sanitize url) (sanitized_with src_protocols url) refused in
-    subst (λ (s : List ℕ). OnOk c.push_sanitized_with_protocols.result (string_bytes c.push_sanitized_with_protocols.new.out ≡ string_bytes c.args.out.now ++ s))
+    subst (λ (s : List ℕ). OnOk c.push_sanitized_with_protocols.result (string_bytes c.push_sanitized_with_protocols.new.out
+    ≡ string_bytes c.args.out.now ++ s))
     (sym is) c.push_sanitized_with_protocols.ensures

@@ -50,7 +50,8 @@ loop-row-preserved g c =
     record {
       same_default = c.in_ok-row.ensures.default ∙ k.same_default;
       printed = λ ds has.
-          let d = document c.args.texts.now.options.now (text_tables (g.T.Tables.reference_of c.args.texts.now.tables.now) (g.T.Tables.punctuation_of c.args.texts.now.tables.now)) ds in
+          let d = document c.args.texts.now.options.now (text_tables (g.T.Tables.reference_of c.args.texts.now.tables.now)
+          (g.T.Tables.punctuation_of c.args.texts.now.tables.now)) ds in
           c.in_ok-row.ensures.printed ds has
           ∙ ap (λ (e : LineEnding). print_row d (ending_bytes e) (printer_view c.loop-row.printer) (row_value row rest)) k.same_default
           ∙ ap (λ (ls : List BlockLine). print_row d default (printer_view c.loop-row.printer) (row_value row ls)) at
@@ -66,7 +67,8 @@ loop-row-preserved g c =
 
 pub returns : goal.returns
 returns g c = λ ds has bs rows_are can.
-    let d = document c.args.texts.now.options.now (text_tables (g.T.Tables.reference_of c.args.texts.now.tables.now) (g.T.Tables.punctuation_of c.args.texts.now.tables.now)) ds in
+    let d = document c.args.texts.now.options.now (text_tables (g.T.Tables.reference_of c.args.texts.now.tables.now)
+    (g.T.Tables.punctuation_of c.args.texts.now.tables.now)) ds in
     let o = d.options.compile in
     let rows = c.args.rows.now in
     let all = piece_lines c.args.pieces.now in

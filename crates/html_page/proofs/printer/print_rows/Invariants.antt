@@ -13,7 +13,10 @@ abbrev pub invariant-loop-row : goal.invariant-loop-row
 invariant-loop-row g l = record {
   same_default : l.printer.page.default_ending ≡ l.fn.default_ending;
   printed : (ds : Targets) → KnowsTargets l.texts ds →
-      printer_view l.printer ≡ print_all (document l.texts.options.now (text_tables (g.T.Tables.reference_of l.texts.tables.now) (g.T.Tables.punctuation_of l.texts.tables.now)) ds) (ending_bytes l.fn.default_ending) (blank_page (rows_value l.rows (piece_lines l.pieces)).rows) (rows_value (take l.row-index l.rows) (piece_lines l.pieces)).rows;
+      printer_view l.printer ≡ print_all
+      (document l.texts.options.now (text_tables (g.T.Tables.reference_of l.texts.tables.now) (g.T.Tables.punctuation_of l.texts.tables.now)) ds)
+      (ending_bytes l.fn.default_ending) (blank_page (rows_value l.rows (piece_lines l.pieces)).rows)
+      (rows_value (take l.row-index l.rows) (piece_lines l.pieces)).rows;
   left : (rows_value (take l.row-index l.rows) (piece_lines l.pieces)).left ≡ piece_lines (drop l.at l.pieces);
   enough : l.at + rows_size (drop l.row-index l.rows) ≤ length l.pieces;
 }

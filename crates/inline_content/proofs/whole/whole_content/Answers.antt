@@ -6,4 +6,5 @@ use Rattle.inline_content.proofs.FirstLines.{whole_view}
 use Rattle.inline_content.proofs.whole.whole_content.Goals as goal
 
 pub returns : goal.returns
-returns c = λ p. ap (codes_with_marks p Whitespace []) c.whole_text.ensures ∙ whole_view p Whitespace c.args.count c.args.text.now (utf8_bytes c.args.text.now c.utf8.text)
+returns c = λ p. ap (codes_with_marks p Whitespace []) c.whole_text.ensures
+    ∙ whole_view p Whitespace c.args.count c.args.text.now (utf8_bytes c.args.text.now c.utf8.text)

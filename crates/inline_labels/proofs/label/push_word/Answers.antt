@@ -14,7 +14,8 @@ loop-chunk-preserved g c =
     let text = utf8_chunk_valid c.in-Some.chunk in
     let no_text = utf8_chunk_invalid c.in-Some.chunk in
     let left = utf8_chunks_rest c.next.new.self in
-    let chunk = folded_chunk (utf8_chunks_rest c.loop-chunk.chunk-iterator) text no_text left (subst IsUtf8 c.valid.ensures c.valid.utf8) step.0 step.3.0 step.3.1 step.2 in
+    let chunk = folded_chunk (utf8_chunks_rest c.loop-chunk.chunk-iterator) text no_text left
+    (subst IsUtf8 c.valid.ensures c.valid.utf8) step.0 step.3.0 step.3.1 step.2 in
     ap (λ t. t ++ fold_word left) (c.in_ok-push_chunk.ensures ∙ ap₂ (λ t n. so_far ++ (case_fold t ++ replacement_of n)) c.valid.ensures c.invalid.ensures)
     ∙ append_assoc so_far (case_fold text ++ replacement_of no_text) (fold_word left)
     ∙ ap (λ t. so_far ++ t) (sym chunk)

@@ -7,7 +7,8 @@ use Rattle.inline_references.proofs.parse.push_decoded.Given as goal
 abbrev pub invariant-loop-before : goal.invariant-loop-before
 invariant-loop-before g l = record {
   utf8 : IsUtf8 l.rest;
-  printed : string_bytes l.out ++ decode (g.T.Tables.reference_of l.tables) l.rest ≡ string_bytes l.initial.out ++ decode (g.T.Tables.reference_of l.tables) l.value;
+  printed : string_bytes l.out ++ decode (g.T.Tables.reference_of l.tables) l.rest
+      ≡ string_bytes l.initial.out ++ decode (g.T.Tables.reference_of l.tables) l.value;
 }
 
 abbrev pub decreases-loop-before : goal.decreases-loop-before

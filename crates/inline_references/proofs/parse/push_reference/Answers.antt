@@ -16,7 +16,8 @@ returns-then-branch-clause-printed g c =
     let rest = c.in-Some.reference.rest.now in
     ap (λ printed. printed ++ decode names rest) c.in_ok-push_value.ensures.printed
     ∙ append_assoc before text (decode names rest)
-    ∙ ap (λ all. before ++ all) (sym (decoded_reference names (38 ∷ c.args.after.now) r c.in-Some.ensures.read (sym c.in_ok-push_value.ensures.known ∙ c.if-branch.true)))
+    ∙ ap (λ all. before ++ all) (sym (decoded_reference names (38 ∷ c.args.after.now) r c.in-Some.ensures.read
+    (sym c.in_ok-push_value.ensures.known ∙ c.if-branch.true)))
 
 pub returns-clause-printed : goal.returns-clause-printed
 returns-clause-printed g c =
@@ -26,6 +27,7 @@ returns-clause-printed g c =
     let after = c.args.after.now in
     let unknown : is_some (reference_text names r.name) ≡ false = sym c.in_ok-push_value.ensures.known ∙ c.if-branch.false in
     ap (λ printed. printed ++ decode names after)
-    (c.in_ok-push_str-2.ensures.bytes ∙ ap (λ printed. printed ++ 38 ∷ []) (c.in_ok-push_value.ensures.printed ∙ ap (λ text. before ++ text) (none_of (reference_text names r.name) unknown) ∙ append-nil before))
+    (c.in_ok-push_str-2.ensures.bytes ∙ ap (λ printed. printed ++ 38 ∷ []) (c.in_ok-push_value.ensures.printed
+    ∙ ap (λ text. before ++ text) (none_of (reference_text names r.name) unknown) ∙ append-nil before))
     ∙ append_assoc before (38 ∷ []) (decode names after)
     ∙ ap (λ all. before ++ all) (sym (decoded_unknown names 38 after r c.in-Some.ensures.read unknown))

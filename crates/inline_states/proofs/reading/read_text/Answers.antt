@@ -23,5 +23,10 @@ returns-in_default-clause-reads g c =
     let new = c.in_ok-tokenizer.ensures in
     elim c.whole.ensures.reads [
       | inl r ↦ absurd (not_refused c.whole.result c.in_default.not-Error r)
-      | inr h ↦ record { config = view_config (λ m. m) c.whole.new.self; well = h.well; runs = rw (new.parse_state, new.skips, ap (seen_as (λ m. m)) new.config) at h.runs; read = refl }
+      | inr h ↦ record {
+        config = view_config (λ m. m) c.whole.new.self;
+        well = h.well;
+        runs = rw (new.parse_state, new.skips, ap (seen_as (λ m. m)) new.config) at h.runs;
+        read = refl;
+      }
     ]

@@ -16,8 +16,10 @@ loop-found-preserved g c =
     let kind = kind_view found.kind in
     let before = linking_view c.loop-found.linking (take found.start text) in
     let held : linking_view c.hold.new.self [] ≡ with_data before = rw (c.part.ensures) at c.in_ok-hold.ensures.held in
-    let here : linking_view c.link.new.self [] ≡ with_address kind (take (found.end - found.start) (drop found.start text)) (linking_view c.hold.new.self []) = rw (c.part-in-Some.ensures) at c.in_ok-link.ensures.linked in
-    rw (c.from-rest.ensures) (ap (λ (l : Linking). linked l (drop found.end text)) (here ∙ ap (with_address kind (take (found.end - found.start) (drop found.start text))) held)
+    let here : linking_view c.link.new.self [] ≡ with_address kind (take (found.end - found.start) (drop found.start text)) (linking_view c.hold.new.self []) =
+    rw (c.part-in-Some.ensures) at c.in_ok-link.ensures.linked in
+    rw (c.from-rest.ensures) (ap (λ (l : Linking). linked l (drop found.end text))
+    (here ∙ ap (with_address kind (take (found.end - found.start) (drop found.start text))) held)
     ∙ sym (found_linked (linking_view c.loop-found.linking []) text found c.in-Some.ensures.parts)
     ∙ c.loop-found.invariant)
 

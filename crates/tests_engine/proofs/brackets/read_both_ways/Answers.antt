@@ -10,4 +10,5 @@ same_events : (bytes : List ℕ) (machine : Brackets) (a b : List Event) → Bra
 same_events bytes machine a b h k = h.read ∙ (ap (λ (z : Config Brackets). z.events) (one_outcome h.runs k.runs).0 ∙ sym k.read)
 
 pub returns-clause-same : goal.returns-clause-same
-returns-clause-same g c = same_events c.args.parse_state.now.bytes.now c.args.machine c.in_ok-whole.whole.items c.in_ok-parts.parts.items c.in_ok-whole.ensures.reads c.in_ok-parts.ensures.reads
+returns-clause-same g c = same_events c.args.parse_state.now.bytes.now c.args.machine c.in_ok-whole.whole.items c.in_ok-parts.parts.items
+    c.in_ok-whole.ensures.reads c.in_ok-parts.ensures.reads

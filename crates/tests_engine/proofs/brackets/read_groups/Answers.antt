@@ -13,4 +13,8 @@ may_begin size machine events [] = tt
 may_begin size machine events (c ∷ cs) = (begins_with size machine (place_at events c.0) c.1, may_begin size machine events cs)
 
 pub read_chains-requires : goal.read_chains-requires
-read_chains-requires g c = record { begins = may_begin (length c.args.parse_state.now.bytes.now) c.args.machine c.args.events.now.items (chains (option_copied c.args.filter) c.args.events.now.items) }
+read_chains-requires g c =
+    record {
+      begins = may_begin (length c.args.parse_state.now.bytes.now) c.args.machine c.args.events.now.items
+          (chains (option_copied c.args.filter) c.args.events.now.items);
+    }

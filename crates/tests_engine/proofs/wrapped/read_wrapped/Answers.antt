@@ -44,17 +44,21 @@ module _ {T A : Type 0} (bytes : List ℕ) (machine : Wrapped) (old start new la
       let there : o.point ≡ text_start = begins_there (source old) old.point o.point o.begins ∙ ap (λ (z : Config Wrapped). z.point) e in
       o.config ∙ (ap (at_point o.point) e ∙ ap (λ (z : Point). at_point z (fresh text_start machine)) there)
 
-  read_all : config old ≡ fresh text_start machine → old.attempts.items ≡ [] → source old ≡ unskipped bytes → new.end ≡ (length bytes, 0) → Opened (0, 0) old start → Around start new → GoesAll (λ m. m) wrapped_step (source start) (length bytes, 0) false wrapped_start start new s
+  read_all : config old ≡ fresh text_start machine → old.attempts.items ≡ [] → source old ≡ unskipped bytes → new.end ≡ (length bytes, 0)
+      → Opened (0, 0) old start → Around start new → GoesAll (λ m. m) wrapped_step (source start) (length bytes, 0) false wrapped_start start new s
       → Completed (λ m. m) (text_to (source new) new.end) wrapped_step wraps_all true s new last found → IsWrapped bytes machine last.events.items found
   read_all e none from end o a g h =
       let to : ℕ × ℕ = (length bytes, 0) in
       let same : source start ≡ unskipped bytes = around old start o.same ∙ from in
       let after : IsAfter to to = record { index = omega arith; column = λ k. omega arith } in
       let text = text_to (source start) to in
-      let left : Outcome (text_to (source start) new.end) wrapped_step new.attempts.items (config new) [] s h.read true = subst (λ (z : Source). Outcome (text_to z new.end) wrapped_step new.attempts.items (config new) [] s h.read true) (around start new a) h.outcome in
-      let here : Outcome text wrapped_step new.attempts.items (config new) [] s h.read true = subst (λ (z : ℕ × ℕ). Outcome (text_to (source start) z) wrapped_step new.attempts.items (config new) [] s h.read true) end left in
+      let left : Outcome (text_to (source start) new.end) wrapped_step new.attempts.items (config new) [] s h.read true =
+      subst (λ (z : Source). Outcome (text_to z new.end) wrapped_step new.attempts.items (config new) [] s h.read true) (around start new a) h.outcome in
+      let here : Outcome text wrapped_step new.attempts.items (config new) [] s h.read true =
+      subst (λ (z : ℕ × ℕ). Outcome (text_to (source start) z) wrapped_step new.attempts.items (config new) [] s h.read true) end left in
       let whole = (g (source start) to (same_goes_on (source start) (source start) to to refl after)).back h.read true here in
-      let one = at_outcome text wrapped_step start.attempts.items [] (config start) (fresh text_start machine) wrapped_start wrapped_start h.read true (o.attempts ∙ none) (opened_fresh e o) refl whole in
+      let one = at_outcome text wrapped_step start.attempts.items [] (config start) (fresh text_start machine) wrapped_start wrapped_start h.read true
+      (o.attempts ∙ none) (opened_fresh e o) refl whole in
       let runs = whole_run text wrapped_step (fresh text_start machine) wrapped_start h.read true one in
       record {
         read = h.read;
@@ -78,7 +82,8 @@ kept_once true f c h = h
 kept_once false f c h = h
 
 module _ (text : Text) where
-  runs_once : {c : Config Wrapped} {fs : List (Frame Wrapped)} {s : State} {d : Config Wrapped} {v : Bool} → Runs text wrapped_step c fs s d v → c.resolvers ≡ only_text → d.resolvers ≡ only_text
+  runs_once : {c : Config Wrapped} {fs : List (Frame Wrapped)} {s : State} {d : Config Wrapped} {v : Bool} → Runs text wrapped_step c fs s d v
+      → c.resolvers ≡ only_text → d.resolvers ≡ only_text
   runs_once ends-ok h = h
   runs_once ends-nok h = h
   runs_once (next {c = c} {n = n} r) h = runs_once r (called_once (feed text c) n (inr h))
@@ -86,12 +91,15 @@ module _ (text : Text) where
   runs_once (first {d = d} {f = f} r q) h = runs_once q (kept_once f.check f d (runs_once r h))
   runs_once (second r q) h = runs_once q (runs_once r h)
 
-  read_once : {c : Config Wrapped} {n : Name} {d : Config Wrapped} {v : Bool} → Runs text wrapped_step c [] (states.Next n) d v → MayRun c.resolvers → d.resolvers ≡ only_text
+  read_once : {c : Config Wrapped} {n : Name} {d : Config Wrapped} {v : Bool} → Runs text wrapped_step c [] (states.Next n) d v → MayRun c.resolvers
+      → d.resolvers ≡ only_text
   read_once (next {c = c} {n = n} r) h = runs_once r (called_once (feed text c) n h)
 
 found_one : (bytes : List ℕ) (machine : Wrapped) (events : List Event) (found : Found) → IsWrapped bytes machine events found → found ≡ one_found
 unfolding wraps_all
-found_one bytes machine events found h = h.labels ∙ ap (λ (names : List Resolver). (resolve_each wraps_all names (record h.read { resolvers = [] }) nothing_found).found) (read_once (text_of bytes) h.runs (inl refl))
+found_one bytes machine events found h =
+    h.labels ∙ ap (λ (names : List Resolver). (resolve_each wraps_all names (record h.read { resolvers = [] }) nothing_found).found)
+    (read_once (text_of bytes) h.runs (inl refl))
 
 pub returns-clause-reads : goal.returns-clause-reads
 returns-clause-reads g c =
@@ -105,10 +113,16 @@ returns-clause-reads g c =
       | inl f ↦ absurd (let e : false ≡ true = c.in_ok-found.ensures.failed f in cc)
       | inr p ↦ elim c.push-state.ensures.valid [
         | inl f ↦ absurd (let e : false ≡ true = c.in_ok-found.ensures.failed f in cc)
-        | inr v ↦ read_all bytes c.args.machine old p.0 new last c.push-state.result (found_in c.in_ok-found.found) made.config made.attempts from c.push-state.ensures.end p.1 p.2.0
-            (unless_refused {P = GoesAll (λ m. m) wrapped_step (source p.0) (length bytes, 0) false wrapped_start p.0 new c.push-state.result} c.push-state.result (not_wanted (config new) new.attempts.items c.push-state.result v) p.2.1) c.in_ok-found.ensures.completed
+        | inr v ↦ read_all bytes c.args.machine old p.0 new last c.push-state.result
+            (found_in c.in_ok-found.found) made.config made.attempts from c.push-state.ensures.end p.1 p.2.0
+            (unless_refused {P = GoesAll (λ m. m) wrapped_step (source p.0) (
+              length bytes,
+              0,
+            ) false wrapped_start p.0 new c.push-state.result} c.push-state.result
+            (not_wanted (config new) new.attempts.items c.push-state.result v) p.2.1) c.in_ok-found.ensures.completed
       ]
     ]
 
 pub returns-clause-found : goal.returns-clause-found
-returns-clause-found g c = found_one c.args.parse_state.now.bytes.now c.args.machine c.flush.new.self.events.items (found_in c.in_ok-found.found) (returns-clause-reads g c)
+returns-clause-found g c = found_one c.args.parse_state.now.bytes.now c.args.machine c.flush.new.self.events.items (found_in c.in_ok-found.found)
+    (returns-clause-reads g c)

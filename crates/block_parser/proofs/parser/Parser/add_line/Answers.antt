@@ -11,5 +11,6 @@ returns g c = λ around kids ls h.
     let p = c.args.self.now in
     let pool = piece_lines p.pieces.items in
     let l = piece_line c.args.line in
-    leaves.shows_line p.rows.rows.items p.rows.waiting.items p.rows.bare (container_views p.open.items) pool (piece_lines c.push.new.self.items) (leaf_state p.leaf) (leaf_state p.leaf) around kids (Text ls) (Text (ls ++ l ∷ [])) l
+    leaves.shows_line p.rows.rows.items p.rows.waiting.items p.rows.bare (container_views p.open.items) pool (piece_lines c.push.new.self.items)
+    (leaf_state p.leaf) (leaf_state p.leaf) around kids (Text ls) (Text (ls ++ l ∷ [])) l
     (leaves.enough_lines p) (leaves.piece_pushed p.pieces.items c.args.line c.push.new.self.items l c.in_ok-push.ensures.items refl) refl h.same_state h

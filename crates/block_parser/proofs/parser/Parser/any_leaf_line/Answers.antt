@@ -3,7 +3,8 @@ use Rattle.std.proofs.lemmas.Result.{on_ok_weaker}
 use Rattle.definition_text.specs.Indents.{outdent}
 use Rattle.definition_block.specs.CodeIndented.{starts_code_indented}
 use Rattle.definition_text.specs.BlockLines.{spaced_line}
-use Rattle.definition_block.specs.Tree.{Heading, Break, Blank, Nil, Tree, tree, nothing, one, block_and_ending, join, Text, Indented, Fenced, OpenTable, Leaf, rest_line, close, html_with, text_here}
+use Rattle.definition_block.specs.Tree.{Heading, Break, Blank, Nil, Tree, tree, nothing, one, block_and_ending, join, Text, Indented, Fenced, OpenTable, Leaf}
+use Rattle.definition_block.specs.Tree.{rest_line, close, html_with, text_here}
 use Rattle.block_starts.specs.View.{rest_of}
 use Rattle.block_starts.specs.CodeFenced.{fence_view, fence_if}
 use Rattle.block_starts.specs.HeadingAtx.{atx_if}
@@ -27,7 +28,8 @@ returns-then-is_blank g c =
     let e = c.args.beside in
     let more = tree (one (Blank e.ending)) nothing in
     let k = c.in_ok-close_to.ensures.read around kids away deep clean h in
-    subst (λ (x : Tree). HasRead c.blank_line.new.self (spine_after around kids x)) (sym (steps.blank_leaf on away r e (sym c.is_blank.ensures ∙ c.if-is_blank.true)))
+    subst (λ (x : Tree). HasRead c.blank_line.new.self (spine_after around kids x))
+    (sym (steps.blank_leaf on away r e (sym c.is_blank.ensures ∙ c.if-is_blank.true)))
     (closing.after_added on (HasRead c.blank_line.new.self) around kids away more (adds around (join kids (close on away)) k)))
     c.blank_line.ensures
 
@@ -41,7 +43,8 @@ returns-then-begins_code g c =
     let not_code = ap (λ b. starts_code_indented on r && not b) (sym text_is) ∙ sym c.begins_code.ensures in
     let more = tree Nil (Leaf (Indented (rest_line (outdent 4 r) e ∷ []) [])) in
     let k = c.in_ok-close_to-2.ensures.read around kids away deep clean h in
-    subst (λ (x : Tree). HasRead c.start_indented.new.self (spine_after around kids x)) (sym (steps.indented_leaf on away r e (sym c.is_blank.ensures ∙ c.if-is_blank.false) (not_code ∙ c.if-begins_code.true)))
+    subst (λ (x : Tree). HasRead c.start_indented.new.self (spine_after around kids x))
+    (sym (steps.indented_leaf on away r e (sym c.is_blank.ensures ∙ c.if-is_blank.false) (not_code ∙ c.if-begins_code.true)))
     (closing.after_added on (HasRead c.start_indented.new.self) around kids away more (adds around (join kids (close on away)) k)))
     c.start_indented.ensures
 
@@ -55,7 +58,9 @@ returns-in-Some g c =
     let not_code = ap (λ b. starts_code_indented on r && not b) (sym text_is) ∙ sym c.begins_code.ensures in
     let more = tree Nil (Leaf (Fenced (fence_view c.in-Some.fence) e.ending [])) in
     let k = c.in_ok-close_to-3.ensures.read around kids away deep clean h in
-    subst (λ (x : Tree). HasRead c.start_fenced.new.self (spine_after around kids x)) (sym (steps.fenced_leaf on away r e (sym c.is_blank.ensures ∙ c.if-is_blank.false) (not_code ∙ c.if-begins_code.false) (fence_view c.in-Some.fence) (sym c.opening_fence.ensures ∙ ap fence_if c.in-Some.is)))
+    subst (λ (x : Tree). HasRead c.start_fenced.new.self (spine_after around kids x))
+    (sym (steps.fenced_leaf on away r e (sym c.is_blank.ensures ∙ c.if-is_blank.false) (not_code ∙ c.if-begins_code.false) (fence_view c.in-Some.fence)
+    (sym c.opening_fence.ensures ∙ ap fence_if c.in-Some.is)))
     (closing.after_added on (HasRead c.start_fenced.new.self) around kids away more (adds around (join kids (close on away)) k)))
     c.start_fenced.ensures
 
@@ -70,8 +75,11 @@ returns-in-Some-html_start g c =
     let html_is = ap (λ b. html_start on b r) (sym text_is) ∙ sym c.html_start.ensures in
     let kind = number_of c.in-Some-html_start.kind in
     let k = c.in_ok-close_to-4.ensures.read around kids away deep clean h in
-    subst (λ (x : Tree). HasRead c.html_with.new.self (spine_after around kids x)) (sym (steps.html_leaf on away r e (sym c.is_blank.ensures ∙ c.if-is_blank.false) (not_code ∙ c.if-begins_code.false) (sym c.opening_fence.ensures ∙ ap fence_if c.in_default.is) kind (html_is ∙ ap kind_number c.in-Some-html_start.is)))
-    (closing.after_added on (HasRead c.html_with.new.self) around kids away (html_with kind [] r e) (adds (Text []) [] refl around (join kids (close on away)) k)))
+    subst (λ (x : Tree). HasRead c.html_with.new.self (spine_after around kids x))
+    (sym (steps.html_leaf on away r e (sym c.is_blank.ensures ∙ c.if-is_blank.false) (not_code ∙ c.if-begins_code.false)
+    (sym c.opening_fence.ensures ∙ ap fence_if c.in_default.is) kind (html_is ∙ ap kind_number c.in-Some-html_start.is)))
+    (closing.after_added on (HasRead c.html_with.new.self) around kids away (html_with kind [] r e)
+    (adds (Text []) [] refl around (join kids (close on away)) k)))
     c.html_with.ensures
 
 pub returns-in-Some-heading_atx : goal.returns-in-Some-heading_atx
@@ -83,9 +91,13 @@ returns-in-Some-heading_atx g c =
     let text_is = c.has_text-paragraph.ensures (spine_at around kids away) h ∙ steps.has_text_at around kids away in
     let not_code = ap (λ b. starts_code_indented on r && not b) (sym text_is) ∙ sym c.begins_code.ensures in
     let html_is = ap (λ b. html_start on b r) (sym text_is) ∙ sym c.html_start.ensures in
-    let more = tree (block_and_ending (Heading c.in-Some-heading_atx.atx.rank (spaced_line c.in-Some-heading_atx.atx.content.now None ∷ [])) e.ending) nothing in
+    let more = tree (block_and_ending (Heading c.in-Some-heading_atx.atx.rank (spaced_line c.in-Some-heading_atx.atx.content.now None ∷ [])) e.ending)
+    nothing in
     let k = c.in_ok-close_to-5.ensures.read around kids away deep clean h in
-    subst (λ (x : Tree). HasRead c.heading.new.self (spine_after around kids x)) (sym (steps.heading_leaf on away r e (sym c.is_blank.ensures ∙ c.if-is_blank.false) (not_code ∙ c.if-begins_code.false) (sym c.opening_fence.ensures ∙ ap fence_if c.in_default.is) (html_is ∙ ap kind_number c.in_default-html_start.is) (Atx_of c.in-Some-heading_atx.atx.rank c.in-Some-heading_atx.atx.content.now) (sym c.heading_atx.ensures ∙ ap atx_if c.in-Some-heading_atx.is)))
+    subst (λ (x : Tree). HasRead c.heading.new.self (spine_after around kids x))
+    (sym (steps.heading_leaf on away r e (sym c.is_blank.ensures ∙ c.if-is_blank.false) (not_code ∙ c.if-begins_code.false)
+    (sym c.opening_fence.ensures ∙ ap fence_if c.in_default.is) (html_is ∙ ap kind_number c.in_default-html_start.is)
+    (Atx_of c.in-Some-heading_atx.atx.rank c.in-Some-heading_atx.atx.content.now) (sym c.heading_atx.ensures ∙ ap atx_if c.in-Some-heading_atx.is)))
     (closing.after_added on (HasRead c.heading.new.self) around kids away more (adds around (join kids (close on away)) k)))
     c.heading.ensures
 
@@ -100,8 +112,13 @@ returns-in-Some-2 g c =
     let not_code = ap (λ b. starts_code_indented on r && not b) (sym text_is) ∙ sym c.begins_code.ensures in
     let html_is = ap (λ b. html_start on b r) (sym text_is) ∙ sym c.html_start.ensures in
     let turned = c.in_ok-rank.ensures.turned around kids away e.ending deep clean h ∙ ap (λ o. heading_tree on o away e.ending) c.in-Some-2.is in
-    subst (λ (x : Tree). HasRead c.setext_heading.new.self (spine_after around kids x)) (sym (steps.turned_leaf on away r e (sym c.is_blank.ensures ∙ c.if-is_blank.false) (not_code ∙ c.if-begins_code.false) (sym c.opening_fence.ensures ∙ ap fence_if c.in_default.is) (html_is ∙ ap kind_number c.in_default-html_start.is) (sym c.heading_atx.ensures ∙ ap atx_if c.in_default-heading_atx.is) (tree (heading_blocks on rank (text_here away) e.ending) nothing) turned))
-    (steps.turned_here on (HasRead c.turns.new.self) (HasRead c.setext_heading.new.self) rank e.ending (λ around kids ls clean. reads ls clean around kids) around kids away (c.in_ok-rank.ensures.here rank around kids away deep h c.in-Some-2.is) clean (c.turns.ensures.kept (spine_at around kids away) h)))
+    subst (λ (x : Tree). HasRead c.setext_heading.new.self (spine_after around kids x))
+    (sym (steps.turned_leaf on away r e (sym c.is_blank.ensures ∙ c.if-is_blank.false) (not_code ∙ c.if-begins_code.false)
+    (sym c.opening_fence.ensures ∙ ap fence_if c.in_default.is) (html_is ∙ ap kind_number c.in_default-html_start.is)
+    (sym c.heading_atx.ensures ∙ ap atx_if c.in_default-heading_atx.is) (tree (heading_blocks on rank (text_here away) e.ending) nothing) turned))
+    (steps.turned_here on (HasRead c.turns.new.self) (HasRead c.setext_heading.new.self) rank e.ending
+    (λ around kids ls clean. reads ls clean around kids) around kids away (c.in_ok-rank.ensures.here rank around kids away deep h c.in-Some-2.is) clean
+    (c.turns.ensures.kept (spine_at around kids away) h)))
     c.setext_heading.ensures
 
 pub returns-then-is_break : goal.returns-then-is_break
@@ -115,7 +132,11 @@ returns-then-is_break g c =
     let html_is = ap (λ b. html_start on b r) (sym text_is) ∙ sym c.html_start.ensures in
     let more = tree (block_and_ending Break e.ending) nothing in
     let k = c.in_ok-close_to-6.ensures.read around kids away deep clean (c.turns.ensures.kept (spine_at around kids away) h) in
-    subst (λ (x : Tree). HasRead c.thematic_break.new.self (spine_after around kids x)) (sym (steps.break_leaf on away r e (sym c.is_blank.ensures ∙ c.if-is_blank.false) (not_code ∙ c.if-begins_code.false) (sym c.opening_fence.ensures ∙ ap fence_if c.in_default.is) (html_is ∙ ap kind_number c.in_default-html_start.is) (sym c.heading_atx.ensures ∙ ap atx_if c.in_default-heading_atx.is) (c.in_ok-rank.ensures.turned around kids away e.ending deep clean h ∙ ap (λ o. heading_tree on o away e.ending) c.in_default-2.is) (sym c.is_break.ensures ∙ c.if-is_break.true)))
+    subst (λ (x : Tree). HasRead c.thematic_break.new.self (spine_after around kids x))
+    (sym (steps.break_leaf on away r e (sym c.is_blank.ensures ∙ c.if-is_blank.false) (not_code ∙ c.if-begins_code.false)
+    (sym c.opening_fence.ensures ∙ ap fence_if c.in_default.is) (html_is ∙ ap kind_number c.in_default-html_start.is)
+    (sym c.heading_atx.ensures ∙ ap atx_if c.in_default-heading_atx.is) (c.in_ok-rank.ensures.turned around kids away e.ending deep clean h
+    ∙ ap (λ o. heading_tree on o away e.ending) c.in_default-2.is) (sym c.is_break.ensures ∙ c.if-is_break.true)))
     (closing.after_added on (HasRead c.thematic_break.new.self) around kids away more (adds around (join kids (close on away)) k)))
     c.thematic_break.ensures
 
@@ -132,8 +153,15 @@ returns-then-branch g c =
     let h2 = c.makes_table.ensures.kept (spine_at around kids away) h1 in
     let made = c.in_ok-makes_table.ensures.made around kids away (rest_line r e) deep clean h1 in
     let is = made ∙ ap (λ b. table_tree on b away (rest_line r e)) c.if-branch.true in
-    subst (λ (x : Tree). HasRead c.start_table.new.self (spine_after around kids x)) (sym (steps.table_leaf on away r e (sym c.is_blank.ensures ∙ c.if-is_blank.false) (not_code ∙ c.if-begins_code.false) (sym c.opening_fence.ensures ∙ ap fence_if c.in_default.is) (html_is ∙ ap kind_number c.in_default-html_start.is) (sym c.heading_atx.ensures ∙ ap atx_if c.in_default-heading_atx.is) (c.in_ok-rank.ensures.turned around kids away e.ending deep clean h ∙ ap (λ o. heading_tree on o away e.ending) c.in_default-2.is) (sym c.is_break.ensures ∙ c.if-is_break.false) (table_from_cut (cut on (text_here away)) (rest_line r e)) is))
-    (steps.tabled_here on (HasRead c.makes_table.new.self) (HasRead c.start_table.new.self) (rest_line r e) (λ around kids ls clean. reads ls clean around kids) around kids away (c.in_ok-makes_table.ensures.here around kids away deep h1 c.if-branch.true) clean h2))
+    subst (λ (x : Tree). HasRead c.start_table.new.self (spine_after around kids x))
+    (sym (steps.table_leaf on away r e (sym c.is_blank.ensures ∙ c.if-is_blank.false) (not_code ∙ c.if-begins_code.false)
+    (sym c.opening_fence.ensures ∙ ap fence_if c.in_default.is) (html_is ∙ ap kind_number c.in_default-html_start.is)
+    (sym c.heading_atx.ensures ∙ ap atx_if c.in_default-heading_atx.is) (c.in_ok-rank.ensures.turned around kids away e.ending deep clean h
+    ∙ ap (λ o. heading_tree on o away e.ending) c.in_default-2.is) (sym c.is_break.ensures ∙ c.if-is_break.false)
+    (table_from_cut (cut on (text_here away)) (rest_line r e)) is))
+    (steps.tabled_here on (HasRead c.makes_table.new.self) (HasRead c.start_table.new.self) (rest_line r e)
+    (λ around kids ls clean. reads ls clean around kids) around kids away
+    (c.in_ok-makes_table.ensures.here around kids away deep h1 c.if-branch.true) clean h2))
     c.start_table.ensures
 
 pub returns : goal.returns
@@ -149,6 +177,10 @@ returns g c =
     let h2 = c.makes_table.ensures.kept (spine_at around kids away) h1 in
     let made = c.in_ok-makes_table.ensures.made around kids away (rest_line r e) deep clean h1 in
     let unmade = made ∙ ap (λ b. table_tree on b away (rest_line r e)) c.if-branch.false in
-    subst (λ (x : Tree). HasRead c.more_text.new.self (spine_after around kids x)) (sym (steps.text_leaf on away r e (sym c.is_blank.ensures ∙ c.if-is_blank.false) (not_code ∙ c.if-begins_code.false) (sym c.opening_fence.ensures ∙ ap fence_if c.in_default.is) (html_is ∙ ap kind_number c.in_default-html_start.is) (sym c.heading_atx.ensures ∙ ap atx_if c.in_default-heading_atx.is) (c.in_ok-rank.ensures.turned around kids away e.ending deep clean h ∙ ap (λ o. heading_tree on o away e.ending) c.in_default-2.is) (sym c.is_break.ensures ∙ c.if-is_break.false) unmade))
+    subst (λ (x : Tree). HasRead c.more_text.new.self (spine_after around kids x))
+    (sym (steps.text_leaf on away r e (sym c.is_blank.ensures ∙ c.if-is_blank.false) (not_code ∙ c.if-begins_code.false)
+    (sym c.opening_fence.ensures ∙ ap fence_if c.in_default.is) (html_is ∙ ap kind_number c.in_default-html_start.is)
+    (sym c.heading_atx.ensures ∙ ap atx_if c.in_default-heading_atx.is) (c.in_ok-rank.ensures.turned around kids away e.ending deep clean h
+    ∙ ap (λ o. heading_tree on o away e.ending) c.in_default-2.is) (sym c.is_break.ensures ∙ c.if-is_break.false) unmade))
     (grows around kids away deep clean h2))
     c.more_text.ensures

@@ -28,7 +28,8 @@ returns-then-depth-len g c =
     let e = c.descend-depth.result.2 in
     let whole_line = ap (λ (x : Rest). spine_after [] t.done (grow on b t.now x)) c.new.ensures in
     let here = subst (HasRead p) (sym d.same) h in
-    let clean_here = subst AreLines (ap (λ (s : Spine). leaf_text s.leaf) (sym d.same) ∙ text_at d.around d.kids d.now) (subst AreLines (sym (text_at [] t.done t.now)) clean) in
+    let clean_here = subst AreLines (ap (λ (s : Spine). leaf_text s.leaf) (sym d.same) ∙ text_at d.around d.kids d.now)
+    (subst AreLines (sym (text_at [] t.done t.now)) clean) in
     let outer : (depth == vec_len p.open) ≡ false = ne_eqb depth (vec_len p.open) (λ same. omega (arith, same, c.if-depth-len.true, c.len.ensures)) in
     subst (HasRead c.start_line.new.self)
     (ap (λ all. spine_after d.around d.kids (new (length r) on all d.now e r)) outer
@@ -49,11 +50,15 @@ returns-in-Text g c =
     let e = c.descend-depth.result.2 in
     let whole_line = ap (λ (x : Rest). spine_after [] t.done (grow on b t.now x)) c.new.ensures in
     let here = subst (HasRead p) (sym d.same) h in
-    let clean_here = subst AreLines (ap (λ (s : Spine). leaf_text s.leaf) (sym d.same) ∙ text_at d.around d.kids d.now) (subst AreLines (sym (text_at [] t.done t.now)) clean) in
-    let none = descending.no_deeper (container_views p.open.items) d.around d.kids d.now here.opened (omega (arith, d.deep, c.if-depth-len.false, c.len.ensures, c.descend-depth.ensures.within, p.open.ok.0, closing.views_length p.open.items)) in
+    let clean_here = subst AreLines (ap (λ (s : Spine). leaf_text s.leaf) (sym d.same) ∙ text_at d.around d.kids d.now)
+    (subst AreLines (sym (text_at [] t.done t.now)) clean) in
+    let none = descending.no_deeper (container_views p.open.items) d.around d.kids d.now here.opened
+    (omega (arith, d.deep, c.if-depth-len.false, c.len.ensures, c.descend-depth.ensures.within, p.open.ok.0, closing.views_length p.open.items)) in
     subst (HasRead c.start_line-in-Text.new.self) (sym d.grows ∙ whole_line)
-    (descending.text_grows (HasRead p) (HasRead c.start_line-in-Text.new.self) on e r d.around d.kids d.now none (sym (ap leaf_state c.in-Text.is) ∙ here.same_state)
-    (subst (λ all. HasRead c.start_line-in-Text.new.self (spine_after d.around d.kids (new (length r) on all d.now e r))) (eq-eqb depth (vec_len p.open) (omega (arith, c.if-depth-len.false, c.len.ensures, c.descend-depth.ensures.within)))
+    (descending.text_grows (HasRead p) (HasRead c.start_line-in-Text.new.self) on e r d.around d.kids d.now none
+    (sym (ap leaf_state c.in-Text.is) ∙ here.same_state)
+    (subst (λ all. HasRead c.start_line-in-Text.new.self (spine_after d.around d.kids (new (length r) on all d.now e r)))
+    (eq-eqb depth (vec_len p.open) (omega (arith, c.if-depth-len.false, c.len.ensures, c.descend-depth.ensures.within)))
     (grows d.around d.kids d.now d.deep clean_here here))))
     c.start_line-in-Text.ensures
 
@@ -69,9 +74,12 @@ returns-in-Indented g c =
     let e = c.descend-depth.result.2 in
     let whole_line = ap (λ (x : Rest). spine_after [] t.done (grow on b t.now x)) c.new.ensures in
     let here = subst (HasRead p) (sym d.same) h in
-    let none = descending.no_deeper (container_views p.open.items) d.around d.kids d.now here.opened (omega (arith, d.deep, c.if-depth-len.false, c.len.ensures, c.descend-depth.ensures.within, p.open.ok.0, closing.views_length p.open.items)) in
+    let none = descending.no_deeper (container_views p.open.items) d.around d.kids d.now here.opened
+    (omega (arith, d.deep, c.if-depth-len.false, c.len.ensures, c.descend-depth.ensures.within, p.open.ok.0, closing.views_length p.open.items)) in
     subst (HasRead c.indented_line.new.self) (sym d.grows ∙ whole_line)
-    (descending.indented_grows (HasRead p) (HasRead c.indented_line.new.self) on e r (λ around kids ls pending. grows ls pending around kids) c.in-Indented.count c.in-Indented.ending d.around d.kids d.now none (sym (ap leaf_state c.in-Indented.is) ∙ here.same_state) here))
+    (descending.indented_grows (HasRead p) (HasRead c.indented_line.new.self) on e r
+    (λ around kids ls pending. grows ls pending around kids) c.in-Indented.count c.in-Indented.ending d.around d.kids d.now none
+    (sym (ap leaf_state c.in-Indented.is) ∙ here.same_state) here))
     c.indented_line.ensures
 
 pub returns-in-Fenced : goal.returns-in-Fenced
@@ -86,9 +94,12 @@ returns-in-Fenced g c =
     let e = c.descend-depth.result.2 in
     let whole_line = ap (λ (x : Rest). spine_after [] t.done (grow on b t.now x)) c.new.ensures in
     let here = subst (HasRead p) (sym d.same) h in
-    let none = descending.no_deeper (container_views p.open.items) d.around d.kids d.now here.opened (omega (arith, d.deep, c.if-depth-len.false, c.len.ensures, c.descend-depth.ensures.within, p.open.ok.0, closing.views_length p.open.items)) in
+    let none = descending.no_deeper (container_views p.open.items) d.around d.kids d.now here.opened
+    (omega (arith, d.deep, c.if-depth-len.false, c.len.ensures, c.descend-depth.ensures.within, p.open.ok.0, closing.views_length p.open.items)) in
     subst (HasRead c.fenced_line.new.self) (sym d.grows ∙ whole_line)
-    (descending.fenced_grows (HasRead p) (HasRead c.fenced_line.new.self) on e r (fence_view c.in-Fenced.fence) (λ around kids opening ls. grows opening ls around kids) c.in-Fenced.ending d.around d.kids d.now none (sym (ap leaf_state c.in-Fenced.is) ∙ here.same_state) here))
+    (descending.fenced_grows (HasRead p) (HasRead c.fenced_line.new.self) on e r (fence_view c.in-Fenced.fence)
+    (λ around kids opening ls. grows opening ls around kids) c.in-Fenced.ending d.around d.kids d.now none
+    (sym (ap leaf_state c.in-Fenced.is) ∙ here.same_state) here))
     c.fenced_line.ensures
 
 pub returns-in-Html : goal.returns-in-Html
@@ -103,9 +114,11 @@ returns-in-Html g c =
     let e = c.descend-depth.result.2 in
     let whole_line = ap (λ (x : Rest). spine_after [] t.done (grow on b t.now x)) c.new.ensures in
     let here = subst (HasRead p) (sym d.same) h in
-    let none = descending.no_deeper (container_views p.open.items) d.around d.kids d.now here.opened (omega (arith, d.deep, c.if-depth-len.false, c.len.ensures, c.descend-depth.ensures.within, p.open.ok.0, closing.views_length p.open.items)) in
+    let none = descending.no_deeper (container_views p.open.items) d.around d.kids d.now here.opened
+    (omega (arith, d.deep, c.if-depth-len.false, c.len.ensures, c.descend-depth.ensures.within, p.open.ok.0, closing.views_length p.open.items)) in
     subst (HasRead c.html_line.new.self) (sym d.grows ∙ whole_line)
-    (descending.html_grows (HasRead p) (HasRead c.html_line.new.self) on e r (number_of c.in-Html.kind) (λ around kids ls. grows ls around kids) c.in-Html.ending d.around d.kids d.now none (sym (ap leaf_state c.in-Html.is) ∙ here.same_state) here))
+    (descending.html_grows (HasRead p) (HasRead c.html_line.new.self) on e r (number_of c.in-Html.kind)
+    (λ around kids ls. grows ls around kids) c.in-Html.ending d.around d.kids d.now none (sym (ap leaf_state c.in-Html.is) ∙ here.same_state) here))
     c.html_line.ensures
 
 pub returns-in-Table : goal.returns-in-Table
@@ -120,10 +133,14 @@ returns-in-Table g c =
     let e = c.descend-depth.result.2 in
     let whole_line = ap (λ (x : Rest). spine_after [] t.done (grow on b t.now x)) c.new.ensures in
     let here = subst (HasRead p) (sym d.same) h in
-    let clean_here = subst AreLines (ap (λ (s : Spine). leaf_text s.leaf) (sym d.same) ∙ text_at d.around d.kids d.now) (subst AreLines (sym (text_at [] t.done t.now)) clean) in
-    let none = descending.no_deeper (container_views p.open.items) d.around d.kids d.now here.opened (omega (arith, d.deep, c.if-depth-len.false, c.len.ensures, c.descend-depth.ensures.within, p.open.ok.0, closing.views_length p.open.items)) in
+    let clean_here = subst AreLines (ap (λ (s : Spine). leaf_text s.leaf) (sym d.same) ∙ text_at d.around d.kids d.now)
+    (subst AreLines (sym (text_at [] t.done t.now)) clean) in
+    let none = descending.no_deeper (container_views p.open.items) d.around d.kids d.now here.opened
+    (omega (arith, d.deep, c.if-depth-len.false, c.len.ensures, c.descend-depth.ensures.within, p.open.ok.0, closing.views_length p.open.items)) in
     subst (HasRead c.start_line-in-Table.new.self) (sym d.grows ∙ whole_line)
-    (descending.table_grows (HasRead p) (HasRead c.start_line-in-Table.new.self) on e r c.in-Table.ending d.around d.kids d.now none (sym (ap leaf_state c.in-Table.is) ∙ here.same_state)
-    (subst (λ all. HasRead c.start_line-in-Table.new.self (spine_after d.around d.kids (new (length r) on all d.now e r))) (eq-eqb depth (vec_len p.open) (omega (arith, c.if-depth-len.false, c.len.ensures, c.descend-depth.ensures.within)))
+    (descending.table_grows (HasRead p) (HasRead c.start_line-in-Table.new.self) on e r c.in-Table.ending d.around d.kids d.now none
+    (sym (ap leaf_state c.in-Table.is) ∙ here.same_state)
+    (subst (λ all. HasRead c.start_line-in-Table.new.self (spine_after d.around d.kids (new (length r) on all d.now e r)))
+    (eq-eqb depth (vec_len p.open) (omega (arith, c.if-depth-len.false, c.len.ensures, c.descend-depth.ensures.within)))
     (grows d.around d.kids d.now d.deep clean_here here))))
     c.start_line-in-Table.ensures

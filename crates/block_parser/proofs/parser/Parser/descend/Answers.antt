@@ -16,9 +16,13 @@ returns-in-None-clause-descent g c = λ t h.
     let lt : c.loop-depth.depth < length p.open.items = omega (arith, c.loop-depth-test.true, c.len-depth-end.ensures, p.open.ok.0) in
     let cs = container_views p.open.items in
     let here = beside_at cs c.loop-depth.depth (rest_of c.loop-depth.outer) c.args.beside in
-    subst (λ (b : Beside). Descent c.args.on.now c.args.beside (rest_of c.args.line) t (vec_len p.open) c.loop-depth.depth (rest_of c.loop-depth.rest) b) (sym c.beside_at-in-None.ensures)
-    (subst (λ n. Descent c.args.on.now c.args.beside (rest_of c.args.line) t n c.loop-depth.depth (rest_of c.loop-depth.rest) here) (closing.views_length p.open.items ∙ sym p.open.ok.0)
-    (descending.stays_outside c.args.on.now c.args.beside (rest_of c.args.line) t c.loop-depth.depth (rest_of c.loop-depth.rest) here cs h.opened (omega (arith, lt, closing.views_length p.open.items)) (container_view d) (closing.view_at p.open.items c.loop-depth.depth d lt c.index.ensures) c.began_blank.result
+    subst (λ (b : Beside). Descent c.args.on.now c.args.beside (rest_of c.args.line) t (vec_len p.open) c.loop-depth.depth (rest_of c.loop-depth.rest) b)
+    (sym c.beside_at-in-None.ensures)
+    (subst (λ n. Descent c.args.on.now c.args.beside (rest_of c.args.line) t n c.loop-depth.depth (rest_of c.loop-depth.rest) here)
+    (closing.views_length p.open.items ∙ sym p.open.ok.0)
+    (descending.stays_outside c.args.on.now c.args.beside (rest_of c.args.line) t c.loop-depth.depth (rest_of c.loop-depth.rest) here cs h.opened
+    (omega (arith, lt, closing.views_length p.open.items)) (container_view d)
+    (closing.view_at p.open.items c.loop-depth.depth d lt c.index.ensures) c.began_blank.result
     (λ around kids inner_kids cc inner deep same. c.began_blank.ensures around kids inner_kids cc inner deep (subst (HasRead p) (sym same) h))
     (sym c.continues.ensures ∙ ap rest_if c.in-None.is) k))
 
@@ -33,7 +37,9 @@ loop-depth-preserved g c = λ t h.
     subst (λ (b : Beside). Descent c.args.on.now c.args.beside (rest_of c.args.line) t 0 (c.loop-depth.depth + 1) (rest_of c.in-Some.after) b)
     (closing.beside_more cs c.loop-depth.depth (container_view d) (rest_of c.loop-depth.outer) (rest_of c.loop-depth.rest) c.args.beside
     (closing.view_at_or p.open.items c.loop-depth.depth d lt c.index.ensures))
-    (descending.goes_inside c.args.on.now c.args.beside (rest_of c.args.line) t c.loop-depth.depth (rest_of c.loop-depth.rest) here cs h.opened (omega (arith, lt, closing.views_length p.open.items)) (container_view d) (closing.view_at p.open.items c.loop-depth.depth d lt c.index.ensures) c.began_blank.result
+    (descending.goes_inside c.args.on.now c.args.beside (rest_of c.args.line) t c.loop-depth.depth (rest_of c.loop-depth.rest) here cs h.opened
+    (omega (arith, lt, closing.views_length p.open.items)) (container_view d)
+    (closing.view_at p.open.items c.loop-depth.depth d lt c.index.ensures) c.began_blank.result
     (λ around kids inner_kids cc inner deep same. c.began_blank.ensures around kids inner_kids cc inner deep (subst (HasRead p) (sym same) h))
     (rest_of c.in-Some.after) (sym c.continues.ensures ∙ ap rest_if c.in-Some.is) k)
 
@@ -52,8 +58,10 @@ returns-then-all_go_on-clause-descent g c = λ t h.
     let yes = c.if-all_go_on.true in
     let empty = c.all_go_on.ensures.empty yes in
     let lt : depth < length cs = omega (arith, c.loop-depth-test.true, c.len-depth-end.ensures, p.open.ok.0, closing.views_length p.open.items) in
-    let k = subst (λ (r : Rest). Descent on beside line t 0 depth r (beside_at cs depth (rest_of c.loop-depth.outer) beside)) empty (c.loop-depth.invariant t h) in
-    let all = quotes.all_go_on on beside line t cs h.opened (c.all_go_on.ensures.began yes t h) depth (rest_of c.loop-depth.outer) lt (c.all_go_on.ensures.none yes) k in
+    let k = subst (λ (r : Rest). Descent on beside line t 0 depth r (beside_at cs depth (rest_of c.loop-depth.outer) beside)) empty
+    (c.loop-depth.invariant t h) in
+    let all = quotes.all_go_on on beside line t cs h.opened (c.all_go_on.ensures.began yes t h) depth (rest_of c.loop-depth.outer) lt
+    (c.all_go_on.ensures.none yes) k in
     let count : length cs ≡ vec_len p.open = closing.views_length p.open.items ∙ sym p.open.ok.0 in
     let here : length cs ≡ c.len-all.result = count ∙ sym c.len-all.ensures in
     subst (λ (b : Beside). Descent on beside line t (vec_len p.open) c.len-all.result (rest_of c.loop-depth.rest) b) (sym c.beside_at.ensures)

@@ -17,7 +17,8 @@ returns-then-is_empty g c =
     let on = c.args.on.now in
     let b = beside_line c.args.before (text_line c.args.line.content.now c.args.line.ending) in
     let alone = c.is_alone.ensures c.if-not-is_alone.false t h in
-    let none : c.args.line.content.now ≡ [] = nil_from_length c.args.line.content.now (eqb-true (length c.args.line.content.now) 0 (sym c.is_empty.ensures ∙ c.if-is_empty.true)) in
+    let none : c.args.line.content.now ≡ [] =
+    nil_from_length c.args.line.content.now (eqb-true (length c.args.line.content.now) 0 (sym c.is_empty.ensures ∙ c.if-is_empty.true)) in
     subst (λ (bs : List ℕ). HasRead c.empty_line.new.self (spine_after [] t.done (grow on b t.now (whole bs)))) (sym none)
     (empty_grows on (HasRead c.args.self.now) (HasRead c.empty_line.new.self) b t.done t.now alone (grows [] t.done t.now refl clean h)))
     c.empty_line.ensures
@@ -28,7 +29,9 @@ returns g c =
     let on = c.args.on.now in
     let b = beside_line c.args.before (text_line c.args.line.content.now c.args.line.ending) in
     let alone = c.is_alone.ensures c.if-not-is_alone.false t h in
-    plain_grows on (HasRead c.args.self.now) (HasRead c.add_line.new.self) b (whole c.args.line.content.now) (sym c.is_plain_line.ensures ∙ c.if-not-is_plain_line.false)
-    (λ around kids ls reads. subst (λ (l : BlockLine). HasRead c.add_line.new.self (spine around kids (Text (ls ++ l ∷ [])))) c.whole_piece.ensures (more around kids ls reads))
+    plain_grows on (HasRead c.args.self.now) (HasRead c.add_line.new.self) b (whole c.args.line.content.now)
+    (sym c.is_plain_line.ensures ∙ c.if-not-is_plain_line.false)
+    (λ around kids ls reads. subst (λ (l : BlockLine). HasRead c.add_line.new.self (spine around kids (Text (ls ++ l ∷ [])))) c.whole_piece.ensures
+    (more around kids ls reads))
     t.done t.now alone h)
     c.add_line.ensures

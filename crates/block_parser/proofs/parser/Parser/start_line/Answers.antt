@@ -18,7 +18,8 @@ returns-in_default g c =
     let on = c.args.on.now in
     let r = rest_of c.args.rest in
     let none = ap (λ b. starts on b r) (sym (c.interrupts.ensures around kids away deep h)) ∙ sym c.starts.ensures ∙ ap started_if c.in_default.is in
-    subst (λ (x : Tree). HasRead c.leaf_line.new.self (spine_after around kids x)) (sym (starting.new_none on c.args.beside (length r) (c.args.depth == vec_len c.args.self.now.open) away r none)) (grows around kids away deep clean h))
+    subst (λ (x : Tree). HasRead c.leaf_line.new.self (spine_after around kids x))
+    (sym (starting.new_none on c.args.beside (length r) (c.args.depth == vec_len c.args.self.now.open) away r none)) (grows around kids away deep clean h))
     c.leaf_line.ensures
 
 pub returns : goal.returns
@@ -37,10 +38,19 @@ returns g c =
     let start_row = c.in_ok-enter.ensures around kids2 (c.in_ok-close_to.ensures.read around kids away deep clean h) in
     let inside = c.in_ok-inside.ensures (level s.container kids2 ∷ around) Nil start_row in
     let q = c.enter_all.new.self in
-    let deeper : c.len-depth.result ≡ length inside.inner = omega (arith, c.len-depth.ensures, q.open.ok.0, closing.views_length q.open.items, ap length inside.reads.opened, closing.length-containers inside.inner) in
+    let deeper : c.len-depth.result ≡ length inside.inner =
+    omega (
+      arith,
+      c.len-depth.ensures,
+      q.open.ok.0,
+      closing.views_length q.open.items,
+      ap length inside.reads.opened,
+      closing.length-containers inside.inner,
+    ) in
     subst (λ (x : Tree). HasRead c.leaf_line-2.new.self (spine_after around kids x)) (sym (starting.new_some on e all away r s some))
     (closing.after_added on (HasRead c.leaf_line-2.new.self) around kids away holder
     (subst (HasRead c.leaf_line-2.new.self) (sym (starting.grown-inside on e around kids2 s.container t
-    ∙ ap (λ (x : Kind). spine_after (level s.container kids2 ∷ around) Nil (new_inside on record { before = x; ending = e.ending } s.rest)) (sym c.kind_after.ensures) ∙ inside.grows))
+    ∙ ap (λ (x : Kind). spine_after (level s.container kids2 ∷ around) Nil (new_inside on record { before = x; ending = e.ending } s.rest))
+    (sym c.kind_after.ensures) ∙ inside.grows))
     (grows inside.inner inside.inner_kids nothing deeper tt inside.reads))))
     c.leaf_line-2.ensures

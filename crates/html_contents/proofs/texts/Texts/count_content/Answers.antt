@@ -16,7 +16,8 @@ returns g c = λ ds known default.
     let texts = c.args.self.now in
     let is_punctuation = g.T.Tables.punctuation_of texts.tables.now in
     let d = document texts.options.now (text_tables (g.T.Tables.reference_of texts.tables.now) is_punctuation) ds in
-    c.count_rows.ensures (linked_by ds.definitions) ds.footnotes default (inlines (context_of d) (content_view is_punctuation c.args.content)) known.has_labels.noted
+    c.count_rows.ensures (linked_by ds.definitions) ds.footnotes default (inlines (context_of d) (content_view is_punctuation c.args.content))
+    known.has_labels.noted
     (ap (rows_view (place_target texts.links.now)) c.as_slice.ensures.value
     ∙ same_rows (place_target texts.links.now) (linked_at ds.definitions) (same_place texts.links.now ds.definitions known.leads) c.in_ok-rows.rows.items
     ∙ c.in_ok-rows.ensures ds known.has_labels

@@ -15,7 +15,8 @@ returns g c = λ ds known default.
     let texts = c.args.self.now in
     let is_punctuation = g.T.Tables.punctuation_of texts.tables.now in
     let d = document texts.options.now (text_tables (g.T.Tables.reference_of texts.tables.now) is_punctuation) ds in
-    c.push_rows.ensures (linked_by ds.definitions) ds.footnotes default (inlines_from (context_of d) (view_at is_punctuation c.args.content c.args.start.now)) known.has_labels.noted
+    c.push_rows.ensures (linked_by ds.definitions) ds.footnotes default (inlines_from (context_of d) (view_at is_punctuation c.args.content c.args.start.now))
+    known.has_labels.noted
     (ap (rows_view (place_target texts.links.now)) c.as_slice.ensures.value
     ∙ same_rows (place_target texts.links.now) (linked_at ds.definitions) (same_place texts.links.now ds.definitions known.leads) c.in_ok-rows.rows.items
     ∙ c.in_ok-rows.ensures ds known.has_labels)

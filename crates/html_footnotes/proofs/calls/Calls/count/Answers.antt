@@ -12,21 +12,25 @@ raise-requires g c =
     let number = c.index-number.result.now in
     let numbers = c.make_room.new.numbers.items in
     let are : AreNumbers numbers called = λ k. c.make_room.ensures.same k ∙ c.self.invariant k in
-    let is : number ≡ number_of c.args.place called = number_read numbers called c.args.place number are c.index-number.ensures (omega (arith, c.in_ok-make_room.ensures.room)) in
+    let is : number ≡ number_of c.args.place called =
+    number_read numbers called c.args.place number are c.index-number.ensures (omega (arith, c.in_ok-make_room.ensures.room)) in
     let stands : number_of c.args.place called ≡ 1 + (number - 1) = omega (arith, is, c.if-number-gt0.true) in
     let below : number - 1 < length called = found c.args.place 1 (number - 1) called (omega arith) stands in
     omega (arith, below, length-map c.self.inside.called.items called_view)
 
 -- one more call of a footnote that is called
 again : (g : Over) (c : goal.In_ok-raise g)
-    → Counted c.make_room.new.numbers.items (map called_view c.raise.new.called.items) c.args.place c.args.label.now (map called_view c.self.inside.called.items)
+    → Counted c.make_room.new.numbers.items (map called_view c.raise.new.called.items) c.args.place c.args.label.now
+    (map called_view c.self.inside.called.items)
 again g c =
     let called : List NoteCalls = map called_view c.self.inside.called.items in
     let number = c.index-number.result.now in
     let numbers = c.make_room.new.numbers.items in
     let are : AreNumbers numbers called = λ k. c.make_room.ensures.same k ∙ c.self.invariant k in
-    let is : number ≡ number_of c.args.place called = number_read numbers called c.args.place number are c.index-number.ensures (omega (arith, c.in_ok-make_room.ensures.room)) in
-    counted_again numbers called (map called_view c.raise.new.called.items) c.args.place number c.args.label.now are is c.if-number-gt0.true c.in_ok-raise.ensures.raised
+    let is : number ≡ number_of c.args.place called =
+    number_read numbers called c.args.place number are c.index-number.ensures (omega (arith, c.in_ok-make_room.ensures.room)) in
+    counted_again numbers called (map called_view c.raise.new.called.items) c.args.place number c.args.label.now are is c.if-number-gt0.true
+    c.in_ok-raise.ensures.raised
 
 pub invariant_of-self-then-number-gt0 : goal.invariant_of-self-then-number-gt0
 invariant_of-self-then-number-gt0 g c = (again g c).table
@@ -48,7 +52,8 @@ first g c =
     let within : c.args.place < length numbers = omega (arith, c.in_ok-make_room.ensures.room) in
     let is : number ≡ number_of c.args.place called = number_read numbers called c.args.place number are c.index-number.ensures within in
     let whole : vec_len c.self.inside.called ≡ length called = omega (arith, length-map c.self.inside.called.items called_view) in
-    counted_first numbers c.add.new.numbers.items called (map called_view c.add.new.called.items) c.args.place number (vec_len c.self.inside.called) c.args.label.now are within is c.if-number-gt0.false whole c.in_ok-add.ensures.called c.in_ok-add.ensures.numbers
+    counted_first numbers c.add.new.numbers.items called (map called_view c.add.new.called.items) c.args.place number
+    (vec_len c.self.inside.called) c.args.label.now are within is c.if-number-gt0.false whole c.in_ok-add.ensures.called c.in_ok-add.ensures.numbers
 
 pub invariant_of-self-2 : goal.invariant_of-self-2
 invariant_of-self-2 g c = (first g c).table

@@ -24,14 +24,16 @@ loop-line-preserved g c =
     let k = c.loop-line.invariant in
     let more : piece_lines (take (i + 1) lines) ≡ before ++ line ∷ [] = map_more piece_line lines i _ c.loop-line-test.true in
     let ended : string_bytes c.push_ending.new.content ≡ content_text before ++ ending_text (last_ending before) =
-    c.in_ok-push_ending.ensures ∙ ap (λ x. x ++ ending_text c.loop-line.waiting) k.so_far ∙ ap (λ (e : Option LineEnding). content_text before ++ ending_text e) k.waits in
+    c.in_ok-push_ending.ensures ∙ ap (λ x. x ++ ending_text c.loop-line.waiting) k.so_far
+    ∙ ap (λ (e : Option LineEnding). content_text before ++ ending_text e) k.waits in
     let place : c.len.result ≡ 0 + length (flat_map line_text before) =
     let e = c.len.ensures in let f = ap length ended in let h = ap length (with_last_ending (map code_byte) before) in omega (arith, e, f, h) in
     let grown = ap length c.in_ok-push_line.ensures in
     let sizes = length-append (string_bytes c.push_ending.new.content) (map code_byte line.codes) in
     let long = c.len.ensures in
     record {
-      so_far = c.in_ok-push_line.ensures ∙ ap (λ x. x ++ map code_byte line.codes) ended ∙ sym (lines_more (map code_byte) before line) ∙ ap content_text (sym more);
+      so_far = c.in_ok-push_line.ensures ∙ ap (λ x. x ++ map code_byte line.codes) ended ∙ sym (lines_more (map code_byte) before line)
+          ∙ ap content_text (sym more);
       marks =
           c.in_ok-push_mark.ensures.marked
           ∙ ap (λ ms. ms ++ mark_of c.len.result line.before) k.marks

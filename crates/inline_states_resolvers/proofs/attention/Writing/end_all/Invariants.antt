@@ -7,4 +7,5 @@ use Rattle.inline_states_resolvers.proofs.attention.Writing.end_all.Given as goa
 
 -- the pairs that are left do to what was written what all do to the first
 abbrev pub invariant-loop-index : goal.invariant-loop-index
-invariant-loop-index g l = fold (with_end_of l.marker) (written_view l.self) (pairs_view (drop l.index l.closed)) ≡ fold (with_end_of l.marker) (written_view l.fn.self) (pairs_view l.closed)
+invariant-loop-index g l = fold (with_end_of l.marker) (written_view l.self) (pairs_view (drop l.index l.closed))
+    ≡ fold (with_end_of l.marker) (written_view l.fn.self) (pairs_view l.closed)

@@ -7,4 +7,5 @@ use Rattle.inline_states_resolvers.proofs.attention.Writing.start_all.Given as g
 
 -- the pairs that are left do to what was written what all do to the first
 abbrev pub invariant-loop-index : goal.invariant-loop-index
-invariant-loop-index g l = fold (with_start_of l.marker) (written_view l.self) (pairs_view (drop l.index l.opened)) ≡ fold (with_start_of l.marker) (written_view l.fn.self) (pairs_view l.opened)
+invariant-loop-index g l = fold (with_start_of l.marker) (written_view l.self) (pairs_view (drop l.index l.opened))
+    ≡ fold (with_start_of l.marker) (written_view l.fn.self) (pairs_view l.opened)

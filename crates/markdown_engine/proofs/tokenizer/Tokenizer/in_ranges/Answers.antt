@@ -14,9 +14,12 @@ loop-cut-preserved g c =
     let cuts = c.args.cuts.now in
     let x = read_with old in
     let at : read_with t ≡ x = same_read old t c.loop-cut.invariant.around.parse_state in
-    let read = pushed_as g.M.Machine.seen g.M.Machine.step (read_with t) x _ false c.loop-cut.next t u u c.read-next.result at refl refl (record { parse_state = refl; skips = refl }) c.read-next.ensures.reads in
-    let valid = valid_or_refused g.M.Machine.valid (read_with t) x (view_config g.M.Machine.seen u) u.attempts.items c.read-next.result at c.read-next.ensures.valid in
-    range_read g.M.Machine.seen (g.M.Machine.valid x) (g.M.Machine.step x) old t u c.args.state c.loop-cut.next c.read-next.result (drop i cuts) (drop (i + 1) cuts) _ (drop_more cuts i _ c.loop-cut-test.true) (not_refused c.read-next.result c.in_default.not-Error) c.loop-cut.invariant read valid
+    let read = pushed_as g.M.Machine.seen g.M.Machine.step (read_with t) x _ false c.loop-cut.next t u u c.read-next.result at refl refl
+    (record { parse_state = refl; skips = refl }) c.read-next.ensures.reads in
+    let valid = valid_or_refused g.M.Machine.valid (read_with t) x (view_config g.M.Machine.seen u) u.attempts.items c.read-next.result at
+    c.read-next.ensures.valid in
+    range_read g.M.Machine.seen (g.M.Machine.valid x) (g.M.Machine.step x) old t u c.args.state c.loop-cut.next c.read-next.result (drop i cuts)
+    (drop (i + 1) cuts) _ (drop_more cuts i _ c.loop-cut-test.true) (not_refused c.read-next.result c.in_default.not-Error) c.loop-cut.invariant read valid
 
 pub returns-clause-reads : goal.returns-clause-reads
 returns-clause-reads g c =
@@ -27,7 +30,10 @@ returns-clause-reads g c =
     let x = read_with old in
     let at : read_with mid ≡ x = same_read old mid kept.around.parse_state in
     let end : ℕ × ℕ = (length mid.parse_state.now.bytes.now, 0) in
-    let outcome = flushed_at g.M.Machine.seen g.M.Machine.step (read_with mid) x (text_to (source mid) end) c.loop-cut.next mid c.finish.new.self c.finish.result at c.finish.ensures.reads in
-    let f = joined_ranges g.M.Machine.seen (g.M.Machine.valid x) (g.M.Machine.step x) old mid c.finish.new.self c.args.state c.loop-cut.next c.finish.result _ kept outcome in
+    let outcome = flushed_at g.M.Machine.seen g.M.Machine.step (read_with mid) x
+    (text_to (source mid) end) c.loop-cut.next mid c.finish.new.self c.finish.result at c.finish.ensures.reads in
+    let f = joined_ranges g.M.Machine.seen (g.M.Machine.valid x) (g.M.Machine.step x) old mid c.finish.new.self c.args.state c.loop-cut.next c.finish.result _
+    kept outcome in
     at_once g.M.Machine.seen (g.M.Machine.step x) old c.finish.new.self c.args.state c.finish.result c.requires.fresh
-    (subst (λ (z : Source). Refused c.finish.result ⊎ Flushed g.M.Machine.seen (text_to z (length z.bytes, 0)) (g.M.Machine.step x) c.args.state old c.finish.new.self c.finish.result) same f)
+    (subst (λ (z : Source). Refused c.finish.result
+    ⊎ Flushed g.M.Machine.seen (text_to z (length z.bytes, 0)) (g.M.Machine.step x) c.args.state old c.finish.new.self c.finish.result) same f)

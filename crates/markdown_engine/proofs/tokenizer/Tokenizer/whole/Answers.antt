@@ -6,7 +6,8 @@ use Rattle.markdown_engine.proofs.Total.{feeds_to, has_run}
 use Rattle.markdown_engine.proofs.tokenizer.Tokenizer.whole.Goals as goal
 
 pub returns-clause-reads : goal.returns-clause-reads
-returns-clause-reads g c = at_once g.M.Machine.seen (g.M.Machine.step (read_with c.args.self.now)) c.args.self.now c.finish.new.self c.args.state c.finish.result c.requires.fresh c.finish.ensures.reads
+returns-clause-reads g c = at_once g.M.Machine.seen (g.M.Machine.step (read_with c.args.self.now)) c.args.self.now c.finish.new.self c.args.state
+    c.finish.result c.requires.fresh c.finish.ensures.reads
 
 pub returns-clause-total : goal.returns-clause-total
 returns-clause-total g c =
@@ -14,4 +15,5 @@ returns-clause-total g c =
     let x = read_with old in
     let size = length old.parse_state.now.bytes.now in
     has_run size (g.M.Machine.valid x) (g.M.Machine.step x) (g.M.Machine.rank x) (g.met.M.Machine.lawful x)
-    (text_to (source old) (size, 0)) (feeds_to (source old) (size, 0) (omega arith) (λ e. refl)) (view_config g.M.Machine.seen old) c.args.state c.requires.valid
+    (text_to (source old) (size, 0)) (feeds_to (source old) (size, 0) (omega arith) (λ e. refl))
+    (view_config g.M.Machine.seen old) c.args.state c.requires.valid
